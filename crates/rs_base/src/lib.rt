@@ -1,0 +1,23 @@
+//! What every part of the database speaks of: sites, names, values, replies, and the streams that bytes come from
+//! and go to.
+#![tactic(auto)]
+
+mod bytes;
+mod fault;
+mod ident;
+mod name;
+mod reply;
+mod site_no;
+mod txn;
+mod txt;
+mod value;
+
+pub use bytes::Bytes;
+pub use fault::{Failed, Fault, NoMemory, ReadFault};
+pub use ident::Ident;
+pub use name::{NameText, Swn};
+pub use reply::{Answer, Answers, Denial, Reply};
+pub use site_no::SiteNo;
+pub use txn::{Origin, Txn};
+pub use txt::{Txt, TxtFault};
+pub use value::{Kind, Row, Rows, Value, copy_row};
