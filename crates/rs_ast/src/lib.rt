@@ -1,13 +1,6 @@
-// A library with one function.
+//! Statements, as a text's tokens spell them.
 #![tactic(auto)]
 
-ghost use Rattle.std.specs.Prelude.{◌≡◌};
-ghost use Rattle.rs_ast.specs.Echo.{echo_of};
+mod stmt;
 
-// The `ensures` clause is the contract: what `echo` returns is `echo_of` of its argument, a definition
-// in `specs/Echo.antt`, which a caller's clause can cite too.
-pub fn echo(x: usize) -> usize
-    ensures { result ≡ echo_of x }
-{
-    x
-}
+pub use stmt::{ColDef, ColDefs, Dml, Select, Stmt};

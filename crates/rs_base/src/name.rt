@@ -1,6 +1,6 @@
 //! Names of tables: as a text writes them, and whole.
 
-ghost use Rattle.std.specs.Prelude.{◌≡◌, ◌↔◌, IsTrue};
+ghost use Rattle.std.specs.Prelude.{◌≡◌};
 ghost use Rattle.rs_base.specs.Name as spec;
 
 use crate::ident::Ident;
@@ -35,6 +35,22 @@ impl NameText {
             creator_site: None,
             object,
             birth: None,
+        }
+    }
+
+    /// The system-wide name that this stands for where `user` asks at `site` and has no synonym of that name.
+    pub fn resolve(&self, user: Ident, site: SiteNo) -> Swn
+        ensures { result ≡ spec.resolve self.now user site }
+    {
+        let (creator, creator_site) = match self.creator {
+            None => (user, site),
+            Some(creator) => (creator, self.creator_site.unwrap_or(site)),
+        };
+        Swn {
+            creator,
+            creator_site,
+            object: self.object,
+            birth: self.birth.unwrap_or(site),
         }
     }
 }

@@ -1,0 +1,96 @@
+-- How a text is split into tokens: from the left, the longest token first, and blanks part them.
+use Rattle.std.specs.Prelude.{ℕ, zero, suc, ◌+◌, ◌-◌, ◌*◌, Bool, ◌&&◌, ◌||◌, ◌==◌, nat_le, List, [], ◌∷◌, map, fold, length, take, drop, Option, Some, None, if◌then◌else◌}
+use Rattle.std.specs.List.{prefix_len}
+use Rattle.std.specs.Char.{to_ascii_lowercase}
+use Rattle.rs_base.specs.Ident.{is_ident}
+use Rattle.rs_base.specs.Txt.{is_txt}
+use Rattle.rs_base.specs.Reading.{◌>>=◌, push_first}
+use Rattle.rs_parse.specs.declared.token.Mark.{Mark}
+use Rattle.rs_parse.specs.declared.token.Mark.TheVariants as marks
+use Rattle.rs_parse.specs.declared.token.Token.{Token}
+use Rattle.rs_parse.specs.declared.token.Token.TheVariants as tokens
+
+-- space, tab, line feed and carriage return
+abbrev pub is_blank : ℕ → Bool
+is_blank b = b == 32 || b == 9 || b == 10 || b == 13
+
+-- an ASCII letter of either case
+abbrev pub is_letter : ℕ → Bool
+is_letter b = nat_le 97 b && nat_le b 122 || nat_le 65 b && nat_le b 90
+
+abbrev pub is_digit : ℕ → Bool
+is_digit b = nat_le 48 b && nat_le b 57
+
+abbrev pub is_word_byte : ℕ → Bool
+is_word_byte b = is_letter b || is_digit b || b == 95
+
+-- A word: a letter, then letters, digits or `_`, at most 24 bytes. It is taken in lower case.
+unfoldable pub word_at : List ℕ → Option (Token × List ℕ)
+word_at bytes =
+    let n = prefix_len is_word_byte bytes in
+    let word = map to_ascii_lowercase (take n bytes) in
+    if is_ident word then Some (tokens.Word word, drop n bytes) else None
+
+-- the number that decimal digits stand for
+abbrev pub digits_value : List ℕ → ℕ
+digits_value digits = fold (λ n digit. 10 * n + (digit - 48)) 0 digits
+
+-- A number: at most 19 digits, and at most the largest integer of 64 bits.
+unfoldable pub number_at : List ℕ → Option (Token × List ℕ)
+number_at bytes =
+    let n = prefix_len is_digit bytes in
+    let value = digits_value (take n bytes) in
+    if nat_le n 19 && nat_le value 9223372036854775807 then Some (tokens.Number value, drop n bytes) else None
+
+-- What stands up to the closing quote, each doubled quote taken as one, and what follows the closing quote.
+abbrev pub quoted_at : List ℕ → Option (List ℕ × List ℕ)
+quoted_at [] = None
+quoted_at (b ∷ []) = if b == 39 then Some ([], []) else None
+quoted_at (b ∷ c ∷ bytes) =
+    if b == 39 then (if c == 39 then push_first 39 (quoted_at bytes) else Some ([], c ∷ bytes)) else push_first b (quoted_at (c ∷ bytes))
+
+-- a text, behind its opening quote
+unfoldable pub text_at : List ℕ → Option (Token × List ℕ)
+text_at bytes = quoted_at bytes >>= λ quoted. if is_txt quoted.0 then Some (tokens.Text quoted.0, quoted.1) else None
+
+abbrev pub begins_with : ℕ → List ℕ → Bool
+begins_with c [] = Bool.false
+begins_with c (b ∷ bytes) = b == c
+
+-- a mark that begins with this byte, and may end with the next one: the longer mark first
+unfoldable pub mark_at : ℕ → List ℕ → Option (Mark × List ℕ)
+mark_at b bytes =
+    if b == 40 then Some (marks.Open, bytes)
+    else if b == 41 then Some (marks.Close, bytes)
+    else if b == 44 then Some (marks.Comma, bytes)
+    else if b == 46 then Some (marks.Dot, bytes)
+    else if b == 59 then Some (marks.Semicolon, bytes)
+    else if b == 64 then Some (marks.At, bytes)
+    else if b == 42 then Some (marks.Star, bytes)
+    else if b == 58 then Some (marks.Colon, bytes)
+    else if b == 43 then Some (marks.Plus, bytes)
+    else if b == 45 then Some (marks.Minus, bytes)
+    else if b == 61 then Some (marks.Equal, bytes)
+    else if b == 60 then (if begins_with 62 bytes then Some (marks.NotEqual, drop 1 bytes) else if begins_with 61 bytes then Some (marks.LessOrEqual, drop 1 bytes) else Some (marks.Less, bytes))
+    else if b == 62 then (if begins_with 61 bytes then Some (marks.GreaterOrEqual, drop 1 bytes) else Some (marks.Greater, bytes))
+    else None
+
+-- the token that begins with this byte, and the bytes after it
+unfoldable pub token_at : ℕ → List ℕ → Option (Token × List ℕ)
+token_at b bytes =
+    if is_letter b then word_at (b ∷ bytes)
+    else if is_digit b then number_at (b ∷ bytes)
+    else if b == 39 then text_at bytes
+    else mark_at b bytes >>= λ mark. Some (tokens.Mark mark.0, mark.1)
+
+-- the tokens of bytes of which the first `inside` belong to a token that was taken before
+abbrev pub tokens_behind : ℕ → List ℕ → Option (List Token)
+tokens_behind inside [] = Some []
+tokens_behind (suc inside) (b ∷ bytes) = tokens_behind inside bytes
+tokens_behind zero (b ∷ bytes) =
+    if is_blank b then tokens_behind zero bytes
+    else token_at b bytes >>= λ token. tokens_behind (length bytes - length token.1) bytes >>= λ others. Some (token.0 ∷ others)
+
+-- The tokens of a text. There are none where no token begins at some byte that is reached.
+abbrev pub tokens_of : List ℕ → Option (List Token)
+tokens_of text = tokens_behind 0 text
