@@ -4,4 +4,5 @@ pub mod Name
 pub mod Txt
 pub mod Value
 pub mod Faults
+pub mod Printing
 pub mod Reading

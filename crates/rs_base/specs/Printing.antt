@@ -1,0 +1,85 @@
+-- The printed text of values, names, answers and replies.
+use Rattle.std.specs.Prelude.{ℕ, List, [], ◌∷◌, ◌++◌, map, flat_map, length, decimal, codes, ◌==◌, if◌then◌else◌}
+use Rattle.std.specs.List.{join_with_byte}
+use Rattle.std.specs.Fmt.{signed_decimal}
+use Rattle.rs_base.specs.declared.value.Value.{Value}
+use Rattle.rs_base.specs.declared.value.Value.TheVariants as values
+use Rattle.rs_base.specs.declared.name.Swn.{Swn}
+use Rattle.rs_base.specs.declared.txn.Txn.{Txn}
+use Rattle.rs_base.specs.declared.txn.Origin.{Origin}
+use Rattle.rs_base.specs.declared.reply.Denial.{Denial}
+use Rattle.rs_base.specs.declared.reply.Denial.TheVariants as denials
+use Rattle.rs_base.specs.declared.reply.Answer.{Answer}
+use Rattle.rs_base.specs.declared.reply.Answer.TheVariants as answers
+use Rattle.rs_base.specs.declared.reply.Reply.{Reply}
+use Rattle.rs_base.specs.declared.reply.Reply.TheVariants as replies
+
+-- ---- values and rows
+
+-- a quote stands twice
+abbrev pub quoted_byte : ℕ → List ℕ
+quoted_byte b = if b == 39 then 39 ∷ 39 ∷ [] else b ∷ []
+
+abbrev pub printed_text : List ℕ → List ℕ
+printed_text text = codes "'" ++ flat_map quoted_byte text ++ codes "'"
+
+-- an integer in decimal, a text in quotes
+abbrev pub printed_value : Value → List ℕ
+printed_value (values.Int n) = signed_decimal n
+printed_value (values.Text text) = printed_text text
+
+-- a line of values, parted by commas
+abbrev pub printed_row : List Value → List ℕ
+printed_row row = join_with_byte 44 (map printed_value row) ++ codes "\n"
+
+-- ---- names
+
+-- site.epoch.number
+abbrev pub printed_txn : Txn → List ℕ
+printed_txn txn = decimal txn.site ++ codes "." ++ decimal txn.epoch ++ codes "." ++ decimal txn.number
+
+-- creator@site.object@birth site
+abbrev pub printed_swn : Swn → List ℕ
+printed_swn name = name.creator ++ codes "@" ++ decimal name.creator_site ++ codes "." ++ name.object ++ codes "@" ++ decimal name.birth
+
+-- site user epoch number
+abbrev pub printed_origin : Origin → List ℕ
+printed_origin origin = decimal origin.site ++ codes " " ++ origin.user ++ codes " " ++ decimal origin.epoch ++ codes " " ++ decimal origin.number
+
+-- ---- answers and replies
+
+abbrev pub printed_answer : Answer → List ℕ
+printed_answer answers.Ok = codes "ok\n"
+printed_answer (answers.Changed n) = codes "changed " ++ decimal n ++ codes "\n"
+printed_answer (answers.Rows rows) = codes "rows " ++ decimal (length rows) ++ codes "\n" ++ flat_map printed_row rows
+
+-- the number and the name of a denial
+abbrev pub printed_denial : Denial → List ℕ
+printed_denial denials.NoTable = codes "1 NoTable"
+printed_denial denials.NoColumn = codes "2 NoColumn"
+printed_denial denials.TwoColumns = codes "3 TwoColumns"
+printed_denial denials.WrongType = codes "4 WrongType"
+printed_denial denials.TableExists = codes "5 TableExists"
+printed_denial denials.NoIndex = codes "6 NoIndex"
+printed_denial denials.IndexExists = codes "7 IndexExists"
+printed_denial denials.NoProgram = codes "8 NoProgram"
+printed_denial denials.ProgramExists = codes "9 ProgramExists"
+printed_denial denials.WrongParams = codes "10 WrongParams"
+printed_denial denials.SynonymExists = codes "11 SynonymExists"
+printed_denial denials.NoSynonym = codes "12 NoSynonym"
+printed_denial denials.NoSite = codes "13 NoSite"
+printed_denial denials.Overflow = codes "14 Overflow"
+printed_denial denials.TooManyRows = codes "15 TooManyRows"
+printed_denial denials.TableFull = codes "16 TableFull"
+
+-- what a reply says: the class, and for each answer of a done request its lines
+abbrev pub printed_class : Reply → List ℕ
+printed_class (replies.Done answered) = codes "done " ++ decimal (length answered) ++ codes "\n" ++ flat_map printed_answer answered
+printed_class (replies.Denied cause) = codes "denied " ++ printed_denial cause ++ codes "\n"
+
+abbrev pub printed_reply : Origin → Reply → List ℕ
+printed_reply to reply = codes "reply " ++ printed_origin to ++ codes " " ++ printed_class reply
+
+-- a value that isn't the first of its row
+abbrev pub further_value : Value → List ℕ
+further_value value = 44 ∷ printed_value value

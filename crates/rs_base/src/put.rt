@@ -1,0 +1,217 @@
+//! Texts put at the end of bytes, part by part. Where memory is wanting, a part of the text may stand there.
+
+ghost use Rattle.std.specs.Prelude.{◌≡◌, ◌++◌, length, take, flat_map, map, decimal, OnOk};
+ghost use Rattle.std.specs.List.{join_with_byte};
+ghost use Rattle.std.specs.Fmt.{signed_decimal};
+ghost use Rattle.rs_base.specs.Printing as spec;
+
+use crate::bytes::Bytes;
+use crate::fault::NoMemory;
+use crate::name::Swn;
+use crate::reply::{Answer, Denial, Reply};
+use crate::txn::{Origin, Txn};
+use crate::value::{Row, Value};
+use itoa::Buffer;
+
+pub fn number(out: &mut Bytes, n: u64) -> Result<(), NoMemory>
+    ensures { OnOk result (out.new ≡ out.old ++ decimal n) }
+{
+    let mut buffer = Buffer::new();
+    out.extend(buffer.format(n).as_bytes())
+}
+
+fn integer(out: &mut Bytes, n: i64) -> Result<(), NoMemory>
+    ensures { OnOk result (out.new ≡ out.old ++ signed_decimal n) }
+{
+    let mut buffer = Buffer::new();
+    out.extend(buffer.format(n).as_bytes())
+}
+
+fn quoted_byte(out: &mut Bytes, byte: u8) -> Result<(), NoMemory>
+    ensures { OnOk result (out.new ≡ out.old ++ spec.quoted_byte byte) }
+{
+    if byte == b'\'' {
+        out.push(byte)?;
+    }
+    out.push(byte)
+}
+
+fn quoted_bytes(out: &mut Bytes, bytes: &[u8]) -> Result<(), NoMemory>
+    ensures { OnOk result (out.new ≡ out.old ++ flat_map spec.quoted_byte bytes.now) }
+{
+    for byte in bytes {
+        quoted_byte(out, *byte)?;
+    }
+    Ok(())
+}
+
+fn text(out: &mut Bytes, bytes: &[u8]) -> Result<(), NoMemory>
+    ensures { OnOk result (out.new ≡ out.old ++ spec.printed_text bytes.now) }
+{
+    out.extend(b"'")?;
+    quoted_bytes(out, bytes)?;
+    out.extend(b"'")
+}
+
+pub fn value(out: &mut Bytes, value: &Value) -> Result<(), NoMemory>
+    ensures { OnOk result (out.new ≡ out.old ++ spec.printed_value value.now) }
+{
+    match value {
+        Value::Int(n) => integer(out, *n),
+        Value::Text(bytes) => text(out, bytes.as_bytes()),
+    }
+}
+
+fn values(out: &mut Bytes, row: &[Value]) -> Result<(), NoMemory>
+    ensures { OnOk result (out.new ≡ out.old ++ join_with_byte 44 (map spec.printed_value row.now)) }
+{
+    let [first, others @ ..] = row else {
+        return Ok(());
+    };
+    value(out, first)?;
+    further_values(out, others)
+}
+
+fn further_value(out: &mut Bytes, next: &Value) -> Result<(), NoMemory>
+    ensures { OnOk result (out.new ≡ out.old ++ spec.further_value next.now) }
+{
+    out.push(b',')?;
+    value(out, next)
+}
+
+fn further_values(out: &mut Bytes, row: &[Value]) -> Result<(), NoMemory>
+    ensures { OnOk result (out.new ≡ out.old ++ flat_map spec.further_value row.now) }
+{
+    for next in row {
+        further_value(out, next)?;
+    }
+    Ok(())
+}
+
+pub fn row(out: &mut Bytes, row: &[Value]) -> Result<(), NoMemory>
+    ensures { OnOk result (out.new ≡ out.old ++ spec.printed_row row.now) }
+{
+    values(out, row)?;
+    out.extend(b"\n")
+}
+
+fn rows(out: &mut Bytes, rows: &[Row]) -> Result<(), NoMemory>
+    ensures { OnOk result (out.new ≡ out.old ++ flat_map spec.printed_row rows.now) }
+{
+    for each in rows {
+        row(out, each.as_slice())?;
+    }
+    Ok(())
+}
+
+pub fn txn(out: &mut Bytes, txn: &Txn) -> Result<(), NoMemory>
+    ensures { OnOk result (out.new ≡ out.old ++ spec.printed_txn txn.now) }
+{
+    number(out, u64::from(txn.site.number()))?;
+    out.extend(b".")?;
+    number(out, u64::from(txn.epoch))?;
+    out.extend(b".")?;
+    number(out, txn.number)
+}
+
+pub fn swn(out: &mut Bytes, name: &Swn) -> Result<(), NoMemory>
+    ensures { OnOk result (out.new ≡ out.old ++ spec.printed_swn name.now) }
+{
+    out.extend(name.creator.as_bytes())?;
+    out.extend(b"@")?;
+    number(out, u64::from(name.creator_site.number()))?;
+    out.extend(b".")?;
+    out.extend(name.object.as_bytes())?;
+    out.extend(b"@")?;
+    number(out, u64::from(name.birth.number()))
+}
+
+pub fn origin(out: &mut Bytes, origin: &Origin) -> Result<(), NoMemory>
+    ensures { OnOk result (out.new ≡ out.old ++ spec.printed_origin origin.now) }
+{
+    number(out, u64::from(origin.site.number()))?;
+    out.extend(b" ")?;
+    out.extend(origin.user.as_bytes())?;
+    out.extend(b" ")?;
+    number(out, u64::from(origin.epoch))?;
+    out.extend(b" ")?;
+    number(out, origin.number)
+}
+
+fn answer(out: &mut Bytes, answer: &Answer) -> Result<(), NoMemory>
+    ensures { OnOk result (out.new ≡ out.old ++ spec.printed_answer answer.now) }
+{
+    match answer {
+        Answer::Ok => out.extend(b"ok\n"),
+        Answer::Changed(n) => {
+            out.extend(b"changed ")?;
+            number(out, *n)?;
+            out.extend(b"\n")
+        }
+        Answer::Rows(answered) => {
+            out.extend(b"rows ")?;
+            number(out, answered.len() as u64)?;
+            out.extend(b"\n")?;
+            rows(out, answered.as_slice())
+        }
+    }
+}
+
+fn answers(out: &mut Bytes, answers: &[Answer]) -> Result<(), NoMemory>
+    ensures { OnOk result (out.new ≡ out.old ++ flat_map spec.printed_answer answers.now) }
+{
+    for each in answers {
+        answer(out, each)?;
+    }
+    Ok(())
+}
+
+fn denial_text(cause: Denial) -> &'static [u8]
+    ensures { result.now ≡ spec.printed_denial cause }
+{
+    match cause {
+        Denial::NoTable => b"1 NoTable",
+        Denial::NoColumn => b"2 NoColumn",
+        Denial::TwoColumns => b"3 TwoColumns",
+        Denial::WrongType => b"4 WrongType",
+        Denial::TableExists => b"5 TableExists",
+        Denial::NoIndex => b"6 NoIndex",
+        Denial::IndexExists => b"7 IndexExists",
+        Denial::NoProgram => b"8 NoProgram",
+        Denial::ProgramExists => b"9 ProgramExists",
+        Denial::WrongParams => b"10 WrongParams",
+        Denial::SynonymExists => b"11 SynonymExists",
+        Denial::NoSynonym => b"12 NoSynonym",
+        Denial::NoSite => b"13 NoSite",
+        Denial::Overflow => b"14 Overflow",
+        Denial::TooManyRows => b"15 TooManyRows",
+        Denial::TableFull => b"16 TableFull",
+    }
+}
+
+fn class(out: &mut Bytes, reply: &Reply) -> Result<(), NoMemory>
+    ensures { OnOk result (out.new ≡ out.old ++ spec.printed_class reply.now) }
+{
+    match reply {
+        Reply::Done(answered) => {
+            out.extend(b"done ")?;
+            number(out, answered.len() as u64)?;
+            out.extend(b"\n")?;
+            answers(out, answered.as_slice())
+        }
+        Reply::Denied(cause) => {
+            out.extend(b"denied ")?;
+            out.extend(denial_text(*cause))?;
+            out.extend(b"\n")
+        }
+    }
+}
+
+pub fn reply(out: &mut Bytes, to: &Origin, reply: &Reply) -> Result<(), NoMemory>
+    ensures { OnOk result (out.new ≡ out.old ++ spec.printed_reply to.now reply.now) }
+{
+    out.extend(b"reply ")?;
+    origin(out, to)?;
+    out.extend(b" ")?;
+    class(out, reply)
+}
