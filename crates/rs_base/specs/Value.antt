@@ -9,6 +9,10 @@ use Rattle.rs_base.specs.declared.value.Value.TheVariants.{Int, Text}
 use Rattle.rs_base.specs.declared.value.Kind.{Kind}
 use Rattle.rs_base.specs.declared.value.Kind.TheVariants as kinds
 
+-- rows, each a list of values
+abbrev pub RowList : Type 0
+RowList = List (List Value)
+
 abbrev pub kind_of : Value → Kind
 kind_of (Int n) = kinds.Int
 kind_of (Text t) = kinds.Text

@@ -1,13 +1,12 @@
-// A library with one function.
+//! What statements mean over one database.
 #![tactic(auto)]
 
-ghost use Rattle.std.specs.Prelude.{◌≡◌};
-ghost use Rattle.rs_mean.specs.Echo.{echo_of};
+mod database;
+mod execution;
+mod stored_rows;
+mod table;
 
-// The `ensures` clause is the contract: what `echo` returns is `echo_of` of its argument, a definition
-// in `specs/Echo.antt`, which a caller's clause can cite too.
-pub fn echo(x: usize) -> usize
-    ensures { result ≡ echo_of x }
-{
-    x
-}
+pub use database::Database;
+pub use execution::{Execution, Outcome};
+pub use stored_rows::StoredRows;
+pub use table::Table;

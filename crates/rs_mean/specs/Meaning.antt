@@ -1,0 +1,88 @@
+-- What an execution means: the database after it, and its outcome. A denied one changes nothing.
+use Rattle.std.specs.Prelude.{ℕ, Bool, true, false, List, [], ◌∷◌, ◌++◌, map, length, Option, Some, None, Result, Ok, Err, if◌then◌else◌}
+use Rattle.std.specs.List.{list_all}
+use Rattle.std.specs.Cmp.Lexicographic.{pointwise}
+use Rattle.rs_base.specs.declared.value.Kind.{Kind}
+use Rattle.rs_base.specs.declared.value.Kind.TheVariants as kinds
+use Rattle.rs_base.specs.declared.value.Value.{Value}
+use Rattle.rs_base.specs.declared.name.Swn.{Swn}
+use Rattle.rs_base.specs.declared.txn.Txn.{Txn}
+use Rattle.rs_base.specs.declared.reply.Answer.{Answer}
+use Rattle.rs_base.specs.declared.reply.Answer.TheVariants as answers
+use Rattle.rs_base.specs.declared.reply.Denial.{Denial}
+use Rattle.rs_base.specs.declared.reply.Denial.TheVariants as denials
+use Rattle.rs_base.specs.Name.{resolve}
+use Rattle.rs_base.specs.Value.{kind_of}
+use Rattle.rs_ast.specs.declared.stmt.ColDef.{ColDef}
+use Rattle.rs_ast.specs.declared.stmt.Dml.{Dml}
+use Rattle.rs_ast.specs.declared.stmt.Dml.TheVariants as dmls
+use Rattle.rs_ast.specs.declared.stmt.Stmt.{Stmt}
+use Rattle.rs_ast.specs.declared.stmt.Stmt.TheVariants as stmts
+use Rattle.rs_mean.specs.declared.execution.Execution.{Execution}
+use Rattle.rs_mean.specs.declared.table.Table.{Table}
+use Rattle.rs_mean.specs.Database.{Database, table_named, with_table}
+use Rattle.rs_mean.specs.Sorting.{in_order}
+
+-- an answer for each statement, or why the execution was denied
+abbrev pub Outcome : Type 0
+Outcome = Result (List Answer) Denial
+
+abbrev pub done : Answer → Outcome
+done answer = Ok (answer ∷ [])
+
+abbrev pub denied : Denial → Outcome
+denied cause = Err cause
+
+-- ---- CREATE TABLE
+
+-- Stores a table without rows at its birth site. It is denied where a table has the name.
+abbrev pub create : Txn → Swn → List ColDef → Database → Option Table → Database × Outcome
+create txn name columns db (Some found) = (db, denied denials.TableExists)
+create txn name columns db None = (with_table name (record { made = txn; place = name.birth; columns = columns; rows = [] }) db, done answers.Ok)
+
+-- ---- INSERT
+
+abbrev pub same_kind : Kind → Kind → Bool
+same_kind kinds.Int kinds.Int = true
+same_kind kinds.Int kinds.Text = false
+same_kind kinds.Text kinds.Int = false
+same_kind kinds.Text kinds.Text = true
+
+-- the value has the column's kind
+abbrev pub fits_column : Value → ColDef → Bool
+fits_column value column = same_kind (kind_of value) column.kind
+
+-- the row has a value for each column, of its kind
+abbrev pub fits_columns : List ColDef → List Value → Bool
+fits_columns columns row = pointwise fits_column row columns
+
+-- Appends the rows, in their order. It is denied as a whole where no table has the name, or where a row doesn't fit.
+abbrev pub insert : Swn → List (List Value) → Database → Option Table → Database × Outcome
+insert name rows db None = (db, denied denials.NoTable)
+insert name rows db (Some table) =
+    if list_all (fits_columns table.columns) rows
+    then (with_table name (record table { rows = table.rows ++ rows }) db, done (answers.Changed (length rows)))
+    else (db, denied denials.WrongType)
+
+-- ---- SELECT
+
+-- Answers every row, in order of all columns. It is denied where no table has the name.
+abbrev pub select : Database → Option Table → Database × Outcome
+select db None = (db, denied denials.NoTable)
+select db (Some table) = (db, done (answers.Rows (in_order table.rows)))
+
+-- ---- statements
+
+abbrev pub meaning_of_dml : Database → Execution → Dml → Database × Outcome
+meaning_of_dml db execution (dmls.Insert written rows) =
+    let name = resolve written execution.user execution.site in insert name rows db (table_named name db)
+meaning_of_dml db execution (dmls.Select query) =
+    select db (table_named (resolve query.from execution.user execution.site) db)
+
+abbrev pub meaning_of : Database → Execution → Stmt → Database × Outcome
+meaning_of db execution (stmts.CreateTable written columns) =
+    let name = resolve written execution.user execution.site in create execution.txn name columns db (table_named name db)
+meaning_of db execution (stmts.Dml dml) = meaning_of_dml db execution dml
+
+unfoldable pub meaning : Database → Execution → Database × Outcome
+meaning db execution = meaning_of db execution execution.stmt

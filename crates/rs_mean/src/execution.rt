@@ -1,0 +1,16 @@
+//! One execution of a statement.
+
+use rs_ast::Stmt;
+use rs_base::{Answers, Denial, Ident, SiteNo, Txn};
+
+/// A statement, the transaction that executes it, and the user who asked for it at a site.
+#[derive(Debug, Drop)]
+pub struct Execution {
+    pub txn: Txn,
+    pub user: Ident,
+    pub site: SiteNo,
+    pub stmt: Stmt,
+}
+
+/// An answer for each statement, or why the execution was denied.
+pub type Outcome = Result<Answers, Denial>;
