@@ -37,3 +37,8 @@ push_first first read = read >>= λ x. Some (first ∷ x.0, x.1)
 abbrev pub separated : {A T : Type 0} → (List T → Option (A × List T)) → (List T → Bool) → ℕ → List T → Option (List A × List T)
 separated item is_next zero ts = None
 separated item is_next (suc n) ts = item ts >>= λ x. if is_next x.1 then push_first x.0 (separated item is_next n (drop 1 x.1)) else Some (x.0 ∷ [], x.1)
+
+-- what a cursor gives that only passes over something
+abbrev pub Passes : {X R : Type 0} → Option R → Result X ReadFault → R → Type 0
+Passes read (Ok x) new = read ≡ Some new
+Passes read (Err e) new = Fails e read

@@ -41,7 +41,8 @@ fn is_letter(byte: u8) -> bool
     b'a' <= byte && byte <= b'z'
 }
 
-fn is_name_byte(byte: u8) -> bool
+/// A lower-case ASCII letter, a digit or `_`.
+pub fn is_name_byte(byte: u8) -> bool
     ensures { result ≡ spec.is_name_byte byte }
 {
     is_letter(byte) || (b'0' <= byte && byte <= b'9') || byte == b'_'

@@ -16,7 +16,7 @@ mod value;
 
 pub use bytes::Bytes;
 pub use fault::{Failed, Fault, NoMemory, ReadFault};
-pub use ident::Ident;
+pub use ident::{Ident, is_name_byte};
 pub use name::{NameText, Swn};
 pub use print::{print_number, print_origin, print_reply, print_row, print_swn, print_txn, print_value};
 pub use reply::{Answer, Answers, Denial, Reply};

@@ -1,0 +1,7 @@
+pub mod Course
+pub mod Explains
+pub mod History
+pub mod ReportText
+
+pub mod Source
+pub mod SourceReader
