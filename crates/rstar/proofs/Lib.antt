@@ -1,2 +1,4 @@
 pub mod Fronts
 pub mod Places
+pub mod Gets
+pub mod ExplainsLaw
