@@ -16,6 +16,7 @@ use Rattle.rs_parse.specs.declared.token.Token.{Token}
 use Rattle.rs_parse.specs.declared.token.Token.TheVariants as tokens
 use Rattle.rs_parse.specs.Tokens.{is_blank, is_letter, is_digit, is_word_byte, word_at, number_at, quoted_at, text_at, mark_at, begins_with, digits_value, token_at, tokens_behind}
 use Rattle.rs_parse.specs.Scanning.{token_here}
+use Rattle.rs_parse.proofs.Options.{bind_some, chosen, push_some}
 
 -- ---- what a token leaves is an end of what stood there
 
@@ -30,14 +31,6 @@ Leaves-drop bytes rest (m, is_end) =
 
 Leaves-length : (bytes rest : List ℕ) → Leaves bytes rest → length rest ≤ length bytes
 Leaves-length bytes rest (m, is_end) = omega (arith, ap length is_end, length-drop m bytes)
-
-bind_some : {A B : Type 0} (read : Option A) (f : A → Option B) (y : B) → (read >>= f) ≡ Some y → (x : A) × (read ≡ Some x) × (f x ≡ Some y)
-bind_some None f y e = absurd cc
-bind_some (Some x) f y e = (x, refl, e)
-
-chosen : {A : Type 0} (test : Bool) (x y : Option A) (z : A) → cond test x y ≡ Some z → ((test ≡ true) × (x ≡ Some z)) ⊎ ((test ≡ false) × (y ≡ Some z))
-chosen true x y z e = inl (refl, e)
-chosen false x y z e = inr (refl, e)
 
 one_more : (n : ℕ) → 1 + n ≡ suc n
 one_more n = omega arith
@@ -65,10 +58,6 @@ number_leaves b bytes t rest h e =
     let value = digits_value (take n (b ∷ bytes)) in
     let g = cond_some (leb n 19 && leb value 9223372036854775807) (tokens.Number value, drop n (b ∷ bytes)) (t, rest) e in
     front_leaves is_digit b bytes rest h (sym (ap (λ (x : Token × List ℕ). x.1) g.1))
-
-push_some : {A R : Type 0} (first : A) (read : Option (List A × R)) (xs : List A) (rest : R) → push_first first read ≡ Some (xs, rest) → (ys : List A) × (read ≡ Some (ys, rest))
-push_some first None xs rest e = absurd cc
-push_some {A} {R} first (Some x) xs rest e = (x.0, ap (λ (r : R). Some (x.0, r)) (ap (λ (y : List A × R). y.1) (same_Some (first ∷ x.0, x.1) (xs, rest) e)))
 
 quoted_two : (quote doubled : Bool) (b c : ℕ) (bytes q rest : List ℕ)
     → ((r : List ℕ) (left : List ℕ) → quoted_at bytes ≡ Some (r, left) → Leaves bytes left)
