@@ -51,10 +51,10 @@ module _ {A : Type 0} (IsOne : A → List Token → Type 0) (item : List Token �
             let behind : x.1 ≡ tokens.Mark marks.Comma ∷ others.0 ++ rest = c.1 ∙ ap (λ (us : List Token). tokens.Mark marks.Comma ∷ us) (sym (ap (drop 1) c.1) ∙ others.3) in
             let spelled : ts ≡ (first.0 ++ tokens.Mark marks.Comma ∷ others.0) ++ rest = first.2 ∙ ap (λ (us : List Token). first.0 ++ us) behind ∙ sym (append_assoc first.0 (tokens.Mark marks.Comma ∷ others.0) rest) in
             subst (λ (ys : List A). (front : List Token) × IsParted IsOne ys front × (length ys ≤ suc n) × (ts ≡ front ++ rest)) p.2
-                (first.0 ++ tokens.Mark marks.Comma ∷ others.0, parted_one_more x.0 p.0 first.0 others.0 first.1 others.1, omega (arith, others.2), spelled)
+            (first.0 ++ tokens.Mark marks.Comma ∷ others.0, parted_one_more x.0 p.0 first.0 others.0 first.1 others.1, omega (arith, others.2), spelled)
         | inr h ↦
             subst (λ (y : List A × List Token). (front : List Token) × IsParted IsOne y.0 front × (length y.0 ≤ suc n) × (ts ≡ front ++ y.1)) (same_Some (x.0 ∷ [], x.1) (xs, rest) h.1)
-                (first.0, first.1, omega arith, first.2)
+            (first.0, first.1, omega arith, first.2)
       ]
 
   pub parted_again : IsAgain IsOne item → (n : ℕ) (xs : List A) (front rest : List Token) → length xs ≤ n → begins_with_mark marks.Comma rest ≡ false → IsParted IsOne xs front
@@ -95,17 +95,17 @@ module _ {A : Type 0} (IsOne : A → List Token → Type 0) (item : List Token �
       let front : List Token = tokens.Mark marks.Open ∷ inner.0 ++ tokens.Mark marks.Close ∷ [] in
       let behind : a.0 ≡ inner.0 ++ tokens.Mark marks.Close ∷ c.0 = inner.3 ∙ ap (λ (us : List Token). inner.0 ++ us) (mark_found marks.Close b.0.1 c.0 c.1) in
       let spelled : ts ≡ front ++ c.0 = mark_found marks.Open ts a.0 a.1 ∙ ap (λ (us : List Token). tokens.Mark marks.Open ∷ us) behind
-              ∙ sym (append_assoc (tokens.Mark marks.Open ∷ inner.0) (tokens.Mark marks.Close ∷ []) c.0) in
+      ∙ sym (append_assoc (tokens.Mark marks.Open ∷ inner.0) (tokens.Mark marks.Close ∷ []) c.0) in
       let short : length b.0.0 ≤ 16 = omega (arith, inner.2, most) in
       subst (λ (y : List A × List Token). (front : List Token) × IsBracketed IsOne y.0 front × (ts ≡ front ++ y.1)) (same_Some (b.0.0, c.0) (xs, rest) c.2)
-          (front, (inner.0, short, inner.1, refl), spelled)
+      (front, (inner.0, short, inner.1, refl), spelled)
 
   pub bracketed_again : IsAgain IsOne item → (n : ℕ) → n ≡ 16 → (xs : List A) (front rest : List Token) → IsBracketed IsOne xs front → bracketed_at n (front ++ rest) ≡ Some (xs, rest)
   bracketed_again again n most xs front rest (inner, short, parts, spelled) =
       let regrouped : front ++ rest ≡ tokens.Mark marks.Open ∷ inner ++ tokens.Mark marks.Close ∷ rest =
-              ap (λ (us : List Token). us ++ rest) spelled ∙ append_assoc (tokens.Mark marks.Open ∷ inner) (tokens.Mark marks.Close ∷ []) rest in
+      ap (λ (us : List Token). us ++ rest) spelled ∙ append_assoc (tokens.Mark marks.Open ∷ inner) (tokens.Mark marks.Close ∷ []) rest in
       let inside : parted_at item n (inner ++ tokens.Mark marks.Close ∷ rest) ≡ Some (xs, tokens.Mark marks.Close ∷ rest) =
-              parted_again again n xs inner (tokens.Mark marks.Close ∷ rest) (omega (arith, short, most)) (close_ends rest) parts in
+      parted_again again n xs inner (tokens.Mark marks.Close ∷ rest) (omega (arith, short, most)) (close_ends rest) parts in
       ap (bracketed_at n) regrouped ∙ rw (mark_again marks.Open (inner ++ tokens.Mark marks.Close ∷ rest), inside, mark_again marks.Close rest) refl
 
 -- ---- columns and tuples

@@ -49,8 +49,8 @@ create_found ts stmt rest e =
     let object = ident_found b.0 c.0.0 c.0.1 c.1 in
     let columns = columns_found c.0.1 d.0.0 d.0.1 d.1 in
     let spelled : ts ≡ tokens.Word (codes "create") ∷ tokens.Word (codes "table") ∷ tokens.Word c.0.0 ∷ columns.0 ++ d.0.1 =
-            word_found (codes "create") ts a.0 a.1
-            ∙ ap (word (tokens.Word (codes "create"))) (word_found (codes "table") a.0 b.0 b.1 ∙ ap (word (tokens.Word (codes "table"))) (object.1 ∙ ap (word (tokens.Word c.0.0)) columns.2)) in
+    word_found (codes "create") ts a.0 a.1
+    ∙ ap (word (tokens.Word (codes "create"))) (word_found (codes "table") a.0 b.0 b.1 ∙ ap (word (tokens.Word (codes "table"))) (object.1 ∙ ap (word (tokens.Word c.0.0)) columns.2)) in
     let front : List Token = tokens.Word (codes "create") ∷ tokens.Word (codes "table") ∷ tokens.Word c.0.0 ∷ columns.0 in
     subst (Stands ts) (same_Some (stmts.CreateTable (plain c.0.0) d.0.0, d.0.1) (stmt, rest) d.2) (front, (columns.0, (refl, object.0), columns.1, refl), spelled)
 
@@ -77,9 +77,9 @@ insert_found ts stmt rest e =
     let object = ident_found b.0 c.0.0 c.0.1 c.1 in
     let rows = tuples_found d.0 r.0.0 r.0.1 r.1 in
     let spelled : ts ≡ tokens.Word (codes "insert") ∷ tokens.Word (codes "into") ∷ tokens.Word c.0.0 ∷ tokens.Word (codes "values") ∷ rows.0 ++ r.0.1 =
-            word_found (codes "insert") ts a.0 a.1
-            ∙ ap (word (tokens.Word (codes "insert"))) (word_found (codes "into") a.0 b.0 b.1
-            ∙ ap (word (tokens.Word (codes "into"))) (object.1 ∙ ap (word (tokens.Word c.0.0)) (word_found (codes "values") c.0.1 d.0 d.1 ∙ ap (word (tokens.Word (codes "values"))) rows.2))) in
+    word_found (codes "insert") ts a.0 a.1
+    ∙ ap (word (tokens.Word (codes "insert"))) (word_found (codes "into") a.0 b.0 b.1
+    ∙ ap (word (tokens.Word (codes "into"))) (object.1 ∙ ap (word (tokens.Word c.0.0)) (word_found (codes "values") c.0.1 d.0 d.1 ∙ ap (word (tokens.Word (codes "values"))) rows.2))) in
     let front : List Token = tokens.Word (codes "insert") ∷ tokens.Word (codes "into") ∷ tokens.Word c.0.0 ∷ tokens.Word (codes "values") ∷ rows.0 in
     subst (Stands ts) (same_Some (stmts.Dml (dmls.Insert (plain c.0.0) r.0.0), r.0.1) (stmt, rest) r.2) (front, (rows.0, (refl, object.0), rows.1, refl), spelled)
 
@@ -105,9 +105,9 @@ select_found ts stmt rest e =
     let d = bind_some (ident_at c.0) select_of (stmt, rest) c.2 in
     let object = ident_found c.0 d.0.0 d.0.1 d.1 in
     let spelled : ts ≡ tokens.Word (codes "select") ∷ tokens.Mark marks.Star ∷ tokens.Word (codes "from") ∷ tokens.Word d.0.0 ∷ d.0.1 =
-            word_found (codes "select") ts a.0 a.1
-            ∙ ap (word (tokens.Word (codes "select"))) (mark_found marks.Star a.0 b.0 b.1
-            ∙ ap (word (tokens.Mark marks.Star)) (word_found (codes "from") b.0 c.0 c.1 ∙ ap (word (tokens.Word (codes "from"))) object.1)) in
+    word_found (codes "select") ts a.0 a.1
+    ∙ ap (word (tokens.Word (codes "select"))) (mark_found marks.Star a.0 b.0 b.1
+    ∙ ap (word (tokens.Mark marks.Star)) (word_found (codes "from") b.0 c.0 c.1 ∙ ap (word (tokens.Word (codes "from"))) object.1)) in
     let front : List Token = tokens.Word (codes "select") ∷ tokens.Mark marks.Star ∷ tokens.Word (codes "from") ∷ tokens.Word d.0.0 ∷ [] in
     subst (Stands ts) (same_Some (stmts.Dml (dmls.Select (record { from = plain d.0.0 })), d.0.1) (stmt, rest) d.2) (front, ((refl, object.0), refl), spelled)
 

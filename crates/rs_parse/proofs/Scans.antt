@@ -160,7 +160,7 @@ same_behind b bytes (Some token) e =
 
 skip_step : (blank : Bool) (b : ℕ) (bytes : List ℕ) → tokens_behind 0 bytes ≡ tokens_here (drop (prefix_len is_blank bytes) bytes)
     → cond blank (tokens_behind 0 bytes) (token_at b bytes >>= λ token. tokens_behind (length bytes - length token.1) bytes >>= λ others. Some (token.0 ∷ others))
-        ≡ tokens_here (drop (cond blank (1 + prefix_len is_blank bytes) 0) (b ∷ bytes))
+    ≡ tokens_here (drop (cond blank (1 + prefix_len is_blank bytes) 0) (b ∷ bytes))
 unfolding token_here
 skip_step true b bytes so_far = so_far ∙ ap (λ (n : ℕ). tokens_here (drop n (b ∷ bytes))) (sym (one_more (prefix_len is_blank bytes)))
 skip_step false b bytes so_far = same_behind b bytes (token_at b bytes) refl

@@ -120,7 +120,7 @@ column_found ts column rest e =
     let spelled : ts ≡ tokens.Word a.0.0 ∷ tokens.Word kind.0 ∷ b.0.1 = name.1 ∙ ap (λ (us : List Token). tokens.Word a.0.0 ∷ us) kind.2 in
     let made : ColDef × List Token = (record { name = a.0.0; kind = b.0.0 }, b.0.1) in
     subst (λ (x : ColDef × List Token). (front : List Token) × IsColumn x.0 front × (ts ≡ front ++ x.1)) (same_Some made (column, rest) b.2)
-        (tokens.Word a.0.0 ∷ tokens.Word kind.0 ∷ [], (kind.0, kind.1, name.0, refl), spelled)
+    (tokens.Word a.0.0 ∷ tokens.Word kind.0 ∷ [], (kind.0, kind.1, name.0, refl), spelled)
 
 pub column_again : (column : ColDef) (front rest : List Token) → IsColumn column front → column_at (front ++ rest) ≡ Some (column, rest)
 unfolding column_at
@@ -134,7 +134,7 @@ negative_found [] value rest e = absurd (none-some (value, rest) e)
 negative_found (tokens.Number n ∷ ts) value rest e =
     let g = cond_some (ltb n (2 ^ 63)) (values.Int (neg_ℤ (pos n)), ts) (value, rest) e in
     subst (λ (x : Value × List Token). (front : List Token) × IsLiteral x.0 (tokens.Mark marks.Minus ∷ front) × (tokens.Number n ∷ ts ≡ front ++ x.1)) g.1
-        (tokens.Number n ∷ [], (n, ltb-true n (2 ^ 63) g.0, inr (refl, refl)), refl)
+    (tokens.Number n ∷ [], (n, ltb-true n (2 ^ 63) g.0, inr (refl, refl)), refl)
 negative_found (tokens.Word w ∷ ts) value rest e = absurd (none-some (value, rest) e)
 negative_found (tokens.Text text ∷ ts) value rest e = absurd (none-some (value, rest) e)
 negative_found (tokens.Mark m ∷ ts) value rest e = absurd (none-some (value, rest) e)
@@ -146,10 +146,10 @@ literal_found (tokens.Word w ∷ ts) value rest e = absurd (none-some (value, re
 literal_found (tokens.Number n ∷ ts) value rest e =
     let g = cond_some (ltb n (2 ^ 63)) (values.Int (pos n), ts) (value, rest) e in
     subst (λ (x : Value × List Token). (front : List Token) × IsLiteral x.0 front × (tokens.Number n ∷ ts ≡ front ++ x.1)) g.1
-        (tokens.Number n ∷ [], (n, ltb-true n (2 ^ 63) g.0, inl (refl, refl)), refl)
+    (tokens.Number n ∷ [], (n, ltb-true n (2 ^ 63) g.0, inl (refl, refl)), refl)
 literal_found (tokens.Text text ∷ ts) value rest e =
     subst (λ (x : Value × List Token). (front : List Token) × IsLiteral x.0 front × (tokens.Text text ∷ ts ≡ front ++ x.1)) (same_Some (values.Text text, ts) (value, rest) e)
-        (tokens.Text text ∷ [], refl, refl)
+    (tokens.Text text ∷ [], refl, refl)
 literal_found (tokens.Mark m ∷ ts) value rest e =
     elim (chosen (same_mark m marks.Minus) (negative_at ts) None (value, rest) e) [
       | inl h ↦

@@ -6,6 +6,7 @@ mod cursor;
 mod parser;
 mod reserved;
 mod scanner;
+mod span;
 mod statement;
 mod token;
 mod tokenizer;

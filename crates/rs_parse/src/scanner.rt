@@ -1,12 +1,13 @@
 //! A place in a text.
 
-ghost use Rattle.std.specs.Prelude.{◌≡◌, ◌≤◌, ◌<◌, IfOk, length, map, drop, if◌then◌else◌};
+ghost use Rattle.std.specs.Prelude.{◌≡◌, ◌≤◌, IfOk, length, map, drop, if◌then◌else◌};
 ghost use Rattle.std.specs.List.{prefix_len};
 ghost use Rattle.std.specs.Char.{to_ascii_lowercase};
 ghost use Rattle.rs_base.specs.Reading.{Reads};
 ghost use Rattle.rs_parse.specs.Tokens as spec;
 ghost use Rattle.rs_parse.specs.Scanning.{token_here, Steps};
 
+use crate::span::{blanks, is_digit, is_letter, number_len, word_len};
 use crate::token::{Mark, Token};
 use rs_base::{Bytes, Ident, ReadFault, Txt, TxtFault};
 use std::alloc::{AllocError, Global};
@@ -24,52 +25,6 @@ impl<'a> Model for Scanner<'a> {
     ghost Value = { List ℕ };
 
     ghost view = { λ scanner. scanner.left.now };
-}
-
-fn is_blank(byte: u8) -> bool
-    ensures { result ≡ spec.is_blank byte }
-{
-    byte == b' ' || byte == b'\t' || byte == b'\n' || byte == b'\r'
-}
-
-fn is_letter(byte: u8) -> bool
-    ensures { result ≡ spec.is_letter byte }
-{
-    b'a' <= byte && byte <= b'z' || b'A' <= byte && byte <= b'Z'
-}
-
-fn is_digit(byte: u8) -> bool
-    ensures { result ≡ spec.is_digit byte }
-{
-    b'0' <= byte && byte <= b'9'
-}
-
-fn is_word_byte(byte: u8) -> bool
-    ensures { result ≡ spec.is_word_byte byte }
-{
-    is_letter(byte) || is_digit(byte) || byte == b'_'
-}
-
-/// How many bytes at the front are blank.
-fn blanks(bytes: &[u8]) -> usize
-    ensures len { result ≡ prefix_len spec.is_blank bytes.now }
-    ensures within { result ≤ length bytes.now }
-{
-    bytes.iter().take_while(|byte| is_blank(**byte)).count()
-}
-
-fn word_len(bytes: &[u8]) -> usize
-    ensures len { result ≡ prefix_len spec.is_word_byte bytes.now }
-    ensures within { result ≤ length bytes.now }
-{
-    bytes.iter().take_while(|byte| is_word_byte(**byte)).count()
-}
-
-fn number_len(bytes: &[u8]) -> usize
-    ensures len { result ≡ prefix_len spec.is_digit bytes.now }
-    ensures within { result ≤ length bytes.now }
-{
-    bytes.iter().take_while(|byte| is_digit(**byte)).count()
 }
 
 fn lowered(alloc: Global, word: &[u8]) -> Result<Vec<u8>, AllocError>
