@@ -1,0 +1,201 @@
+//! A place in a text.
+
+ghost use Rattle.std.specs.Prelude.{◌≡◌, ◌≤◌, IfOk, length, map, drop, if◌then◌else◌};
+ghost use Rattle.std.specs.List.{prefix_len};
+ghost use Rattle.std.specs.Char.{to_ascii_lowercase};
+ghost use Rattle.rs_base.specs.Reading.{Reads};
+ghost use Rattle.rs_parse.specs.Tokens as spec;
+ghost use Rattle.rs_parse.specs.Scanning.{token_here, Steps};
+
+use crate::span::{blanks, is_digit, is_letter, number_len, word_len};
+use crate::token::{Mark, Token};
+use rs_base::{Bytes, Ident, ReadFault, Txt, TxtFault};
+use std::alloc::{AllocError, Global};
+use std::marker::Model;
+
+/// The bytes that are still to be read.
+#[derive(Drop)]
+pub struct Scanner<'a> {
+    left: &'a [u8],
+}
+
+impl<'a> Model for Scanner<'a> {
+    ghost use Rattle.std.specs.Prelude.{List, ℕ};
+
+    ghost Value = { List ℕ };
+
+    ghost view = { λ scanner. scanner.left.now };
+}
+
+fn lowered(alloc: Global, word: &[u8]) -> Result<Vec<u8>, AllocError>
+    ensures { IfOk result (λ lower. lower.items ≡ map to_ascii_lowercase word.now) }
+{
+    word.iter()
+        .map(|byte| byte.to_ascii_lowercase())
+        .collect(alloc)
+}
+
+fn digits_value(digits: &[u8]) -> u128
+    requires { length digits.now ≤ 19 }
+    ensures { result ≡ spec.digits_value digits.now }
+{
+    let mut value = 0u128;
+    for digit in digits {
+        value = 10 * value + u128::from(digit.saturating_sub(b'0'));
+    }
+    value
+}
+
+impl<'a> Scanner<'a> {
+    pub fn new(text: &'a [u8]) -> Scanner<'a>
+        ensures { result ≡ text.now }
+    {
+        Scanner { left: text }
+    }
+
+    fn skip_blanks(&mut self)
+        ensures { self.new ≡ drop (prefix_len spec.is_blank self.old) self.old }
+    {
+        let (_, rest) = self.left.split_at(blanks(self.left));
+        self.left = rest;
+    }
+
+    #[tactic(auto, unfolding(crate::specs::Tokens::word_at))]
+    fn word(&mut self, alloc: Global) -> Result<Token, ReadFault>
+        ensures { Reads (spec.word_at self.old) result self.new }
+    {
+        let (word, rest) = self.left.split_at(word_len(self.left));
+        let word = lowered(alloc, word)?;
+        let Some(word) = Ident::new(word.as_slice()) else {
+            return Err(ReadFault::Malformed);
+        };
+        self.left = rest;
+        Ok(Token::Word(word))
+    }
+
+    #[tactic(auto, unfolding(crate::specs::Tokens::number_at))]
+    fn number(&mut self) -> Result<Token, ReadFault>
+        ensures { Reads (spec.number_at self.old) result self.new }
+    {
+        let len = number_len(self.left);
+        if 19 < len {
+            return Err(ReadFault::Malformed);
+        }
+        let (digits, rest) = self.left.split_at(len);
+        let value = digits_value(digits);
+        if 9223372036854775807 < value {
+            return Err(ReadFault::Malformed);
+        }
+        self.left = rest;
+        Ok(Token::Number(value as u64))
+    }
+
+    /// What stands up to the closing quote, with each doubled quote taken as one.
+    fn quoted(&mut self, alloc: Global) -> Result<Bytes, ReadFault>
+        ensures { Reads (spec.quoted_at self.old) result self.new }
+    {
+        let mut found = Bytes::new(alloc);
+        loop {
+            match self.left {
+                [] => return Err(ReadFault::Malformed),
+                [b'\'', b'\'', rest @ ..] => {
+                    self.left = rest;
+                    found.push(b'\'')?;
+                }
+                [b'\'', rest @ ..] => {
+                    self.left = rest;
+                    return Ok(found);
+                }
+                [byte, rest @ ..] => {
+                    self.left = rest;
+                    found.push(*byte)?;
+                }
+            }
+        }
+    }
+
+    /// A text, behind its opening quote.
+    #[tactic(auto, unfolding(crate::specs::Tokens::text_at))]
+    fn text(&mut self, alloc: Global) -> Result<Token, ReadFault>
+        ensures { Reads (spec.text_at self.old) result self.new }
+    {
+        let quoted = self.quoted(alloc)?;
+        match Txt::new(alloc, quoted.as_slice()) {
+            Ok(text) => Ok(Token::Text(text)),
+            Err(TxtFault::Bad) => Err(ReadFault::Malformed),
+            Err(TxtFault::NoMemory) => Err(ReadFault::NoMemory),
+        }
+    }
+
+    /// Goes behind this byte, where it stands there.
+    fn eat(&mut self, byte: u8) -> bool
+        ensures eaten { result ≡ spec.begins_with byte self.old }
+        ensures left { self.new ≡ (if result then drop 1 self.old else self.old) }
+    {
+        if let [first, rest @ ..] = self.left {
+            if *first == byte {
+                self.left = rest;
+                return true;
+            }
+        }
+        false
+    }
+
+    /// A mark, behind its first byte.
+    #[tactic(auto, unfolding(crate::specs::Tokens::mark_at))]
+    fn mark(&mut self, first: u8) -> Result<Mark, ReadFault>
+        ensures { Reads (spec.mark_at first self.old) result self.new }
+    {
+        match first {
+            b'(' => Ok(Mark::Open),
+            b')' => Ok(Mark::Close),
+            b',' => Ok(Mark::Comma),
+            b'.' => Ok(Mark::Dot),
+            b';' => Ok(Mark::Semicolon),
+            b'@' => Ok(Mark::At),
+            b'*' => Ok(Mark::Star),
+            b':' => Ok(Mark::Colon),
+            b'+' => Ok(Mark::Plus),
+            b'-' => Ok(Mark::Minus),
+            b'=' => Ok(Mark::Equal),
+            b'<' if self.eat(b'>') => Ok(Mark::NotEqual),
+            b'<' if self.eat(b'=') => Ok(Mark::LessOrEqual),
+            b'<' => Ok(Mark::Less),
+            b'>' if self.eat(b'=') => Ok(Mark::GreaterOrEqual),
+            b'>' => Ok(Mark::Greater),
+            _ => Err(ReadFault::Malformed),
+        }
+    }
+
+    #[tactic(auto, unfolding(crate::specs::Scanning::token_here, crate::specs::Tokens::token_at))]
+    fn token(&mut self, alloc: Global) -> Result<Token, ReadFault>
+        ensures { Reads (token_here self.old) result self.new }
+    {
+        let [first, rest @ ..] = self.left else {
+            return Err(ReadFault::Malformed);
+        };
+        let first = *first;
+        if is_letter(first) {
+            return self.word(alloc);
+        }
+        if is_digit(first) {
+            return self.number();
+        }
+        self.left = rest;
+        if first == b'\'' {
+            return self.text(alloc);
+        }
+        Ok(Token::Mark(self.mark(first)?))
+    }
+
+    /// The next token, or `None` where only blanks are left.
+    pub fn next(&mut self, alloc: Global) -> Result<Option<Token>, ReadFault>
+        ensures { Steps result self.old self.new }
+    {
+        self.skip_blanks();
+        if self.left.is_empty() {
+            return Ok(None);
+        }
+        Ok(Some(self.token(alloc)?))
+    }
+}
