@@ -5,3 +5,5 @@ pub mod Txt
 pub mod Value
 pub mod Faults
 pub mod Reading
+pub mod MemStreams
+pub mod Streams
