@@ -1,10 +1,9 @@
 -- What streams over memory give, and what several calls of a stream do.
 use Rattle.std.proofs.Common.{◌≡◌, ℕ, ◌+◌, ◌-◌, ◌<◌, ◌≤◌, min, List, [], ◌++◌, length, take, drop, Option, sym, ap, ◌∙◌, subst, arith}
-use Rattle.std.proofs.lemmas.List.{length-take, length-drop, length-append, take_at, take_all, take-append-drop, nil_from_length}
+use Rattle.std.proofs.lemmas.List.{length-take, length-drop, length-append, take_at, take-append-drop, nil_from_length}
 use Rattle.std.proofs.Math.Seq.{take-add}
-use Rattle.std.specs.Io.KnownBytes.{Appends, Keeps}
-use Rattle.std.proofs.KnownBytes.{Appends-trans, Appends-kept}
-use Rattle.rs_base.specs.Streams.{AppendsFront}
+use Rattle.std.specs.Io.KnownBytes.{Appends}
+use Rattle.std.proofs.KnownBytes.{Appends-trans}
 
 -- the front of what is left was copied into a piece
 pub copied_front : (left into piece : List ℕ) (n : ℕ) → n ≡ min (length left) (length into) → piece ≡ take n left ++ drop n into → left ≡ take n piece ++ drop n left
@@ -23,11 +22,3 @@ pub written_more : (start old new : Option (List ℕ)) (bytes rest : List ℕ) (
 written_more start old new bytes rest at n is before more =
     let joined : take at bytes ++ take n rest ≡ take (at + n) bytes = ap (λ (bs : List ℕ). take at bytes ++ take n bs) is ∙ sym (take-add at n bytes) in
     subst (Appends start new) joined (Appends-trans start old new (take at bytes) (take n rest) before more)
-
--- a front of the bytes was written, and the next write failed
-pub written_front : (start old new : Option (List ℕ)) (bytes : List ℕ) (at : ℕ) → Appends start old (take at bytes) → Keeps old new → AppendsFront start new bytes
-written_front start old new bytes at before kept = (at, Appends-kept start old new (take at bytes) before kept)
-
--- the front that was written is all
-pub written_whole : (start old : Option (List ℕ)) (bytes : List ℕ) (at : ℕ) → length bytes ≤ at → Appends start old (take at bytes) → Appends start old bytes
-written_whole start old bytes at all before = subst (Appends start old) (take_all at bytes all) before

@@ -15,6 +15,8 @@ mod site_no;
 mod source;
 mod std_stream;
 mod sure;
+#[cfg(test)]
+mod tests;
 mod txn;
 mod txt;
 mod value;

@@ -65,9 +65,9 @@ impl Sink for MemSink {
         ensures failed { IsErrOf result Fault.Failed ↔ IsTrue (fails_next self.old.fail self.old.calls) }
         ensures all { IfOk result (λ n. n ≡ length from.now) }
         ensures counts { self.new ≡ record self.old {
-            written = self.new.written;
-            calls = raised self.old.calls;
-            faults = faults_after (fails_next self.old.fail self.old.calls) self.old.faults
+          written = self.new.written;
+          calls = raised self.old.calls;
+          faults = faults_after (fails_next self.old.fail self.old.calls) self.old.faults;
         } }
     {
         self.calls = self.calls.saturating_add(1);

@@ -59,9 +59,9 @@ impl Source for MemSource {
         ensures fits { IfOk result (λ n. n ≡ min (length self.old.left) (length into.old)) }
         ensures piece { OnErr result (into.new ≡ into.old) }
         ensures counts { self.new ≡ record self.old {
-            left = self.new.left;
-            calls = raised self.old.calls;
-            faults = faults_after (is_err result) self.old.faults
+          left = self.new.left;
+          calls = raised self.old.calls;
+          faults = faults_after (is_err result) self.old.faults;
         } }
     {
         self.calls = self.calls.saturating_add(1);

@@ -6,7 +6,7 @@ abbrev pub invariant-loop-piece : goal.invariant-loop-piece
 invariant-loop-piece g l = record {
   consumed : Consumes (g.S.Source.left l.fn.source) (g.S.Source.left l.source) l.bytes;
   within : length l.bytes ≤ l.limit;
-  faults : g.S.Source.faults l.source ≡ g.S.Source.faults l.fn.source
+  faults : g.S.Source.faults l.source ≡ g.S.Source.faults l.fn.source;
 }
 
 abbrev pub decreases-loop-piece : goal.decreases-loop-piece

@@ -1,4 +1,4 @@
-use Rattle.std.proofs.Common.{◌≡◌, ℕ, ◌+◌, List, [], ◌++◌, length, min, take, drop, sym, ap, ◌∙◌, arith}
+use Rattle.std.proofs.Common.{◌≡◌, ℕ, ◌+◌, List, ◌++◌, length, min, take, drop, sym, ap, ◌∙◌, arith}
 use Rattle.std.proofs.lemmas.List.{drop-drop}
 use Rattle.std.proofs.lemmas.Grind.{common_steps}
 use Rattle.rs_base.proofs.Streams.{copied_front, nothing_left}
@@ -12,8 +12,7 @@ returns-clause-bytes c =
     let piece = c.copy_from_slice.new.self ++ drop n into in
     let rest : drop (c.self.inside.at + n) c.self.inside.bytes ≡ drop n left = sym (drop-drop n c.self.inside.at c.self.inside.bytes) in
     let count : n ≡ min (length left) (length into) = grind (arith, common_steps) in
-    let copied : piece ≡ take n left ++ drop n into = grind (arith, common_steps) in
-    (
+    let copied : piece ≡ take n left ++ drop n into = grind (arith, common_steps) in (
       sym c.self.view_is ∙ copied_front left into piece n count copied ∙ ap (λ (bs : List ℕ). take n piece ++ bs) (sym rest),
-      λ none room. rest ∙ nothing_left left into piece n count copied none room
+      λ none room. rest ∙ nothing_left left into piece n count copied none room,
     )
