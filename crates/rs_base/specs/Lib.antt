@@ -6,3 +6,5 @@ pub mod Value
 pub mod Faults
 pub mod Printing
 pub mod Reading
+pub mod MemStreams
+pub mod Streams
