@@ -3,10 +3,12 @@
 
 mod database;
 mod execution;
+mod sorting;
 mod stored_rows;
 mod table;
 
 pub use database::Database;
 pub use execution::{Execution, Outcome};
+pub use sorting::rows_in_order;
 pub use stored_rows::StoredRows;
 pub use table::Table;
