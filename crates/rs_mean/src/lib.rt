@@ -1,8 +1,12 @@
 //! What statements mean over one database.
 #![tactic(auto)]
 
+mod create;
 mod database;
+mod execute;
 mod execution;
+mod insert;
+mod select;
 mod sorting;
 mod stored_rows;
 mod table;
