@@ -34,4 +34,19 @@ impl StoredRows {
     {
         self.rows.as_slice()
     }
+
+    pub fn len(&self) -> usize
+        ensures { result ≡ length self.now }
+    {
+        self.rows.len()
+    }
+
+    /// Moves `more` to the end, in time proportional to `more`. Where memory is wanting, nothing changes.
+    pub fn append(&mut self, mut more: Vec<Row>) -> Result<(), NoMemory>
+        ensures ok { OnOk result (self.new ≡ self.old ++ more.items) }
+        ensures err { OnErr result (self.new ≡ self.old) }
+    {
+        self.rows.append(&mut more)?;
+        Ok(())
+    }
 }

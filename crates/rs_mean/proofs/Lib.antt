@@ -1,0 +1,5 @@
+pub mod Arranged
+pub mod Entries
+pub mod Fitting
+pub mod Inserted
+pub mod Orders
