@@ -33,6 +33,13 @@ impl SiteNo {
         Some(SiteNo { number: n })
     }
 
+    /// Site 1.
+    pub fn first() -> SiteNo
+        ensures { result ≡ 1 }
+    {
+        SiteNo { number: 1 }
+    }
+
     pub fn number(self) -> u16
         ensures value { result ≡ self }
         ensures range { (1 ≤ result) × (result ≤ 16) }

@@ -8,7 +8,7 @@ use Rattle.rstar.specs.declared.ask.Ask.{Ask}
 use Rattle.rstar.specs.declared.report.Entry.{Entry}
 use Rattle.rstar.specs.declared.report.Report.{Report}
 use Rattle.rstar.specs.declared.world.World.{World}
-use Rattle.rstar.specs.History.{execution_of, reply_of}
+pub use Rattle.rstar.specs.History.{execution_of, reply_of}
 
 abbrev pub start : World
 start = record { replies = []; history = []; database = empty }

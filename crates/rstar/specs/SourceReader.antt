@@ -5,9 +5,9 @@ use Rattle.rs_base.specs.Ident.{is_ident}
 pub use Rattle.rs_base.specs.Ident.{is_name_byte}
 use Rattle.rs_base.specs.Reading.{◌>>=◌, push_first}
 use Rattle.rs_ast.specs.declared.stmt.Stmt.{Stmt}
-use Rattle.rs_parse.specs.Parsing.{statement_of}
+pub use Rattle.rs_parse.specs.Parsing.{statement_of}
 use Rattle.rstar.specs.declared.ask.Ask.{Ask}
-use Rattle.rstar.specs.Source.{asked_by, names_columns_once, is_inner}
+pub use Rattle.rstar.specs.Source.{asked_by, names_columns_once, is_inner}
 
 -- what stands behind this front
 abbrev pub behind : List ℕ → List ℕ → Option (List ℕ)
@@ -25,8 +25,11 @@ abbrev pub is_allowed : Option Stmt → Bool
 is_allowed None = false
 is_allowed (Some stmt) = names_columns_once stmt
 
+abbrev pub are_inner : List ℕ → Bool
+are_inner bytes = list_all is_inner bytes
+
 abbrev pub is_ask_text : List ℕ → Bool
-is_ask_text text = nat_le (length text) 1000 && list_all is_inner text && is_allowed (statement_of text)
+is_ask_text text = nat_le (length text) 1000 && are_inner text && is_allowed (statement_of text)
 
 abbrev pub is_before_feed : ℕ → Bool
 is_before_feed b = not (b == 10)

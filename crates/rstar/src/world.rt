@@ -1,8 +1,16 @@
 //! What happened so far.
 
-use crate::report::{Entry, Given};
-use rs_mean::Database;
+ghost use Rattle.std.specs.Prelude.{◌≡◌, OnOk, IfOk};
+ghost use Rattle.rstar.specs.Course as spec;
+
+use crate::ask::Ask;
+use crate::report::{Entry, Given, Report, SiteView};
+use rs_ast::Stmt;
+use rs_base::{NoMemory, Reply, SiteNo, Txn};
+use rs_mean::{Database, Execution, Outcome};
+use rs_parse::{ParseFault, parse};
 use sqlite_items::Items;
+use std::alloc::Global;
 
 /// The replies given and the entries of the history so far, both in order, and the database that they built.
 #[derive(Drop)]
@@ -10,4 +18,89 @@ pub struct World {
     pub replies: Items<Given>,
     pub history: Items<Entry>,
     pub database: Database,
+}
+
+fn reply_of(outcome: Outcome) -> Reply
+    ensures { result ≡ spec.reply_of outcome }
+{
+    match outcome {
+        Ok(answers) => Reply::Done(answers),
+        Err(cause) => Reply::Denied(cause),
+    }
+}
+
+impl World {
+    /// The world before the first ask.
+    pub fn new(alloc: Global) -> World
+        ensures { result ≡ spec.start }
+    {
+        World {
+            replies: Items::new(alloc),
+            history: Items::new(alloc),
+            database: Database::new(alloc),
+        }
+    }
+
+    fn answer(&mut self, alloc: Global, ask: Ask, stmt: Stmt) -> Result<(), NoMemory>
+        ensures { OnOk result (self.new ≡ spec.answered self.old ask stmt) }
+    {
+        let Ask { origin, text } = ask;
+        // There is no room for an entry whose number no transaction can have.
+        let number = (self.history.len() as u64).checked_add(1).ok_or(NoMemory)?;
+        let txn = Txn {
+            site: origin.site,
+            epoch: origin.epoch,
+            number,
+        };
+        let outcome = self.database.execute(
+            alloc,
+            Execution {
+                txn,
+                user: origin.user,
+                site: origin.site,
+                stmt,
+            },
+        )?;
+        self.replies.push(Given {
+            to: origin,
+            reply: reply_of(outcome),
+        })?;
+        self.history.push(Entry { txn, origin, text })?;
+        Ok(())
+    }
+
+    /// Executes and answers an ask. One whose text is no request does nothing.
+    #[tactic(auto, unfolding(crate::specs::Course::step))]
+    pub fn step(&mut self, alloc: Global, ask: Ask) -> Result<(), NoMemory>
+        ensures { OnOk result (self.new ≡ spec.step self.old ask) }
+    {
+        match parse(alloc, ask.text.as_slice()) {
+            Ok(stmt) => self.answer(alloc, ask, stmt),
+            Err(ParseFault::Syntax { .. }) => Ok(()),
+            Err(ParseFault::NoMemory) => Err(NoMemory),
+        }
+    }
+
+    /// What the world reports.
+    pub fn into_report(self, alloc: Global) -> Result<Report, NoMemory>
+        ensures { IfOk result (λ report. report ≡ spec.report_of self) }
+    {
+        let World {
+            replies,
+            history,
+            database,
+        } = self;
+        let mut sites = Items::new(alloc);
+        sites.push(SiteView {
+            site: SiteNo::first(),
+            epoch: 1,
+            tables: database,
+        })?;
+        Ok(Report {
+            replies,
+            history,
+            runs: 0,
+            sites,
+        })
+    }
 }

@@ -1,0 +1,138 @@
+//! The program's work, from its words, source and sink to its status.
+
+ghost use Rattle.std.specs.Prelude.{◌≡◌, ◌≢◌, ◌≤◌, ◌⊎◌, codes, IfOk, IfErr, IsTrue, ◌↔◌};
+ghost use Rattle.std.specs.Io.KnownBytes.{Appends, IsAtEnd, Keeps};
+ghost use Rattle.rs_base.specs.Faults.{Rises, CountsFault};
+ghost use Rattle.rs_base.specs.Streams.{ConsumesAtMost};
+ghost use Rattle.rstar.specs.Run as spec;
+
+use crate::replay::report_text;
+use rs_base::{Bytes, Fault, ReadFault, Sink, Source, read_to_end, write_whole};
+use std::alloc::Global;
+
+/// One byte more than a source has.
+const MOST_READ: usize = 16_777_217;
+
+/// What a run has to say.
+#[derive(Clone, Copy, Debug, PartialEq, Eq)]
+pub enum Finding {
+    /// The report of its source.
+    Reported,
+    /// How it is used, since the words are no command.
+    Usage,
+    /// That the source is none that is played yet.
+    Later,
+}
+
+/// What a run has to write.
+#[derive(Debug, Drop)]
+pub struct Owed {
+    pub finding: Finding,
+    pub text: Bytes,
+}
+
+impl Finding {
+    fn status(self) -> u8
+        ensures { result ≡ spec.status_of self }
+    {
+        match self {
+            Finding::Reported => 0,
+            Finding::Usage => 1,
+            Finding::Later => 2,
+        }
+    }
+}
+
+fn is_replay(words: &[String]) -> bool
+    ensures { IsTrue result ↔ spec.IsReplay words.now }
+{
+    match words {
+        [word] => word.as_str() == "replay",
+        _ => false,
+    }
+}
+
+fn owed_to_bytes(alloc: Global, bytes: &[u8]) -> Result<Owed, Fault>
+    ensures found { IfOk result (λ owed. spec.FoundIn bytes.now owed.finding owed.text) }
+    ensures memory { IfErr result (λ fault. fault ≡ Fault.NoMemory) }
+{
+    match report_text(alloc, bytes) {
+        Ok(text) => Ok(Owed {
+            finding: Finding::Reported,
+            text,
+        }),
+        Err(ReadFault::Malformed) => Ok(Owed {
+            finding: Finding::Later,
+            text: Bytes::from_slice(alloc, b"later\n")?,
+        }),
+        Err(ReadFault::NoMemory) => Err(Fault::NoMemory),
+    }
+}
+
+fn owed<S: Source>(alloc: Global, words: &[String], source: &mut S) -> Result<Owed, Fault>
+    ensures found { IfOk result (λ owed. spec.Finds words.now (S.left source.old) (S.left source.new) owed.finding owed.text) }
+    ensures faults { CountsFault result (S.faults source.old) (S.faults source.new) }
+    ensures reads { ConsumesAtMost spec.most_read (S.left source.old) (S.left source.new) }
+{
+    if !is_replay(words) {
+        return Ok(Owed {
+            finding: Finding::Usage,
+            text: Bytes::from_slice(alloc, b"usage\n")?,
+        });
+    }
+    let bytes = read_to_end(alloc, source, MOST_READ)?;
+    owed_to_bytes(alloc, bytes.as_slice())
+}
+
+/// Does the work of the program whose words these are, and answers its status:
+///
+/// - 0: the source was read to its end, and the report of its asks was written;
+/// - 1: the words are not the one word `replay`; `usage` was written;
+/// - 2: the bytes read, to the end of the source or one byte more than a source has, are no source; `later` was
+///   written;
+/// - 3: the source failed, and nothing was written;
+/// - 4: the sink failed;
+/// - 5: memory was wanting.
+///
+/// With 4 and 5 a front of the text that was to be written may have been written.
+pub fn run<S: Source, K: Sink>(alloc: Global, words: &[String], source: &mut S, sink: &mut K) -> u8
+    ensures done { result ≡ 0 → spec.IsReplay words.now × IsAtEnd (S.left source.new)
+        × spec.WritesReport (S.left source.old) (K.written sink.old) (K.written sink.new) }
+    ensures usage { result ≡ 1 → (spec.IsReplay words.now → ⊥)
+        × Appends (K.written sink.old) (K.written sink.new) (codes "usage\n") }
+    ensures later { result ≡ 2 → spec.IsReplay words.now × spec.ReadsNoSource (S.left source.old)
+        × Appends (K.written sink.old) (K.written sink.new) (codes "later\n") }
+    ensures source { result ≡ 3 → Rises (S.faults source.old) (S.faults source.new)
+        × Keeps (K.written sink.old) (K.written sink.new) }
+    ensures sink { result ≡ 4 → Rises (K.faults sink.old) (K.faults sink.new)
+        × spec.WritesFront words.now (S.left source.old) (K.written sink.old) (K.written sink.new) }
+    ensures memory { result ≡ 5
+        → spec.WritesFront words.now (S.left source.old) (K.written sink.old) (K.written sink.new) }
+    ensures others { result ≤ 5 }
+
+    // Which status comes, where no device fails.
+    ensures other_words { (spec.IsReplay words.now → ⊥) → (result ≡ 1) ⊎ ((result ≡ 4) ⊎ (result ≡ 5)) }
+    ensures complete { spec.IsReplay words.now → spec.HoldsSource (S.left source.old)
+        → (Rises (S.faults source.old) (S.faults source.new) → ⊥)
+        → (Rises (K.faults sink.old) (K.faults sink.new) → ⊥)
+        → (result ≡ 0) ⊎ (result ≡ 5) }
+    ensures refused { spec.IsReplay words.now → spec.HoldsNoSource (S.left source.old)
+        → (Rises (S.faults source.old) (S.faults source.new) → ⊥)
+        → (Rises (K.faults sink.old) (K.faults sink.new) → ⊥)
+        → (result ≡ 2) ⊎ (result ≡ 5) }
+
+    ensures reads { ConsumesAtMost spec.most_read (S.left source.old) (S.left source.new) }
+    ensures source_faults { result ≢ 3 → S.faults source.new ≡ S.faults source.old }
+    ensures sink_faults { result ≢ 4 → K.faults sink.new ≡ K.faults sink.old }
+{
+    let owed = match owed(alloc, words, source) {
+        Ok(owed) => owed,
+        Err(Fault::Failed) => return 3,
+        Err(Fault::NoMemory) => return 5,
+    };
+    match write_whole(sink, owed.text.as_slice()) {
+        Ok(()) => owed.finding.status(),
+        Err(Fault::Failed) => 4,
+        Err(Fault::NoMemory) => 5,
+    }
+}
