@@ -1,2 +1,4 @@
 pub mod Fronts
 pub mod Places
+pub mod SourceLaws
+pub mod SourceParts
