@@ -37,6 +37,7 @@ impl<R: Read> Source for StdSource<R> {
         ensures bytes { ReadConsumes None None result into.new }
         ensures faults { CountsFailed result self.old.faults self.new.faults }
         ensures counts { self.new.faults ≡ faults_after (is_err result) self.old.faults }
+        ensures reader { ReadConsumes (R.remaining self.old.reader) (R.remaining self.new.reader) result into.new }
     {
         match self.reader.read(into) {
             Ok(n) => Ok(n),
@@ -78,6 +79,7 @@ impl<W: Write> Sink for StdSink<W> {
         ensures faults { CountsFault result self.old.faults self.new.faults }
         ensures failed { IfErr result (λ fault. fault ≡ Fault.Failed) }
         ensures counts { self.new.faults ≡ faults_after (is_err result) self.old.faults }
+        ensures writer { WriteAppends (W.contents self.old.writer) (W.contents self.new.writer) result from.now }
     {
         match self.writer.write(from) {
             Ok(n) if n > 0 || from.is_empty() => Ok(n),
