@@ -1,5 +1,5 @@
 -- What it takes for a reader of several steps to give a value.
-use Rattle.std.proofs.Common.{◌≡◌, Bool, true, false, cond, List, [], ◌∷◌, Option, Some, None, refl, sym, ap, ◌∙◌, ◌⊎◌, inl, inr}
+use Rattle.std.proofs.Common.{◌≡◌, Bool, true, false, cond, List, ◌∷◌, Option, Some, None, refl, ap, ◌⊎◌, inl, inr}
 use Rattle.std.proofs.lemmas.Option.{same_Some}
 use Rattle.rs_base.specs.Reading.{◌>>=◌, push_first}
 

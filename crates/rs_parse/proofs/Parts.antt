@@ -1,5 +1,5 @@
 -- The loops that read parted items: at the turn `i` of `n`, the items so far and those that are read with what is left of `n`.
-use Rattle.std.proofs.Common.{◌≡◌, ℕ, zero, suc, ◌+◌, ◌-◌, ◌<◌, ◌≤◌, Bool, true, false, cond, List, [], ◌∷◌, ◌++◌, drop, Option, Some, None, refl, sym, ap, ◌∙◌, arith}
+use Rattle.std.proofs.Common.{◌≡◌, ℕ, suc, ◌+◌, ◌-◌, ◌<◌, Bool, true, cond, List, [], ◌∷◌, ◌++◌, drop, Option, Some, refl, sym, ◌∙◌, arith}
 use Rattle.rs_base.specs.declared.fault.ReadFault.{ReadFault}
 use Rattle.rs_base.specs.Reading.{Fails, with_front, separated}
 use Rattle.rs_base.proofs.Loops.{separated-goes_on, separated-fails}

@@ -1,15 +1,14 @@
 -- The two laws of requests: what is read is spelled so, and what is spelled so is read.
-use Rattle.std.proofs.Common.{◌≡◌, ℕ, Bool, true, false, cond, List, [], ◌∷◌, ◌++◌, Option, Some, None, Result, Ok, Err, codes, refl, sym, ap, subst, ◌∙◌, ◌⊎◌, inl, inr}
+use Rattle.std.proofs.Common.{◌≡◌, ℕ, true, false, cond, List, [], ◌∷◌, ◌++◌, Option, Some, None, Result, Ok, Err, codes, refl, sym, ap, subst, ◌∙◌, ◌⊎◌, inl, inr}
 use Rattle.std.specs.Prelude.{IfOk}
 use Rattle.std.proofs.lemmas.Bool.{false≢true}
 use Rattle.std.proofs.lemmas.List.{append-nil}
-use Rattle.std.proofs.lemmas.Option.{cond_some, none-some, same_Some}
+use Rattle.std.proofs.lemmas.Option.{cond_some, same_Some}
 use Rattle.rs_base.specs.declared.value.Value.{Value}
 use Rattle.rs_base.specs.declared.name.NameText.{NameText}
 use Rattle.rs_base.specs.Name.{plain}
 use Rattle.rs_base.specs.Reading.{◌>>=◌}
 use Rattle.rs_ast.specs.declared.stmt.ColDef.{ColDef}
-use Rattle.rs_ast.specs.declared.stmt.Dml.{Dml}
 use Rattle.rs_ast.specs.declared.stmt.Dml.TheVariants as dmls
 use Rattle.rs_ast.specs.declared.stmt.Stmt.{Stmt}
 use Rattle.rs_ast.specs.declared.stmt.Stmt.TheVariants as stmts
@@ -18,10 +17,9 @@ use Rattle.rs_parse.specs.declared.token.Mark.TheVariants as marks
 use Rattle.rs_parse.specs.declared.token.Token.{Token}
 use Rattle.rs_parse.specs.declared.token.Token.TheVariants as tokens
 use Rattle.rs_parse.specs.Marks.{same_mark}
-use Rattle.rs_parse.specs.Reserved.{is_reserved}
 use Rattle.rs_parse.specs.Tokens.{tokens_of}
-use Rattle.rs_parse.specs.Grammar.{IsStatement, IsRequest, IsBracketed, IsColumn, IsParted, IsTuple}
-use Rattle.rs_parse.specs.Reader.{begins_with_word, begins_with_mark, is_mark, word_at, mark_at, ident_at, columns_at, tuples_at, create_at, insert_at, select_at, statement_at, is_end, request_of}
+use Rattle.rs_parse.specs.Grammar.{IsStatement, IsRequest}
+use Rattle.rs_parse.specs.Reader.{begins_with_word, begins_with_mark, word_at, mark_at, ident_at, columns_at, tuples_at, create_at, insert_at, select_at, statement_at, is_end, request_of}
 use Rattle.rs_parse.specs.Parsing.{Spells, ParseGives, statement_of}
 use Rattle.rs_parse.proofs.Options.{bind_some, chosen}
 use Rattle.rs_parse.proofs.TokenLaws.{is_mark_is, same_mark_self, word_found, mark_found, ident_found, ident_again}

@@ -1,6 +1,6 @@
 -- The tokenizer: each token leaves an end of the bytes, and the loop puts the tokens that were found in front of those
 -- of the bytes that are left.
-use Rattle.std.proofs.Common.{◌≡◌, ℕ, zero, suc, ◌+◌, ◌-◌, ◌<◌, ◌≤◌, ◌≢◌, min, Bool, true, false, cond, eqb, leb, ◌&&◌, List, [], ◌∷◌, ◌++◌, map, length, take, drop, Option, Some, None, refl, sym, ap, subst, ◌∙◌, append_assoc, arith, ◌⊎◌, inl, inr, ⊎_elim}
+use Rattle.std.proofs.Common.{◌≡◌, ℕ, zero, suc, ◌+◌, ◌-◌, ◌<◌, ◌≤◌, ◌≢◌, min, Bool, true, false, cond, eqb, leb, ◌&&◌, List, [], ◌∷◌, ◌++◌, map, length, take, drop, Option, Some, None, refl, sym, ap, ◌∙◌, arith, inl, inr}
 use Rattle.std.specs.List.{prefix_len}
 use Rattle.std.specs.Char.{to_ascii_lowercase}
 use Rattle.std.proofs.lemmas.List.{length-drop, drop_min}
@@ -11,10 +11,9 @@ use Rattle.rs_base.specs.declared.fault.ReadFault.{ReadFault}
 use Rattle.rs_base.specs.declared.fault.ReadFault.TheVariants as faults
 use Rattle.rs_base.specs.Reading.{◌>>=◌, Fails, push_first}
 use Rattle.rs_parse.specs.declared.token.Mark.{Mark}
-use Rattle.rs_parse.specs.declared.token.Mark.TheVariants as marks
 use Rattle.rs_parse.specs.declared.token.Token.{Token}
 use Rattle.rs_parse.specs.declared.token.Token.TheVariants as tokens
-use Rattle.rs_parse.specs.Tokens.{is_blank, is_letter, is_digit, is_word_byte, word_at, number_at, quoted_at, text_at, mark_at, begins_with, digits_value, token_at, tokens_behind}
+use Rattle.rs_parse.specs.Tokens.{is_blank, is_letter, is_digit, is_word_byte, word_at, number_at, quoted_at, text_at, mark_at, digits_value, token_at, tokens_behind}
 use Rattle.rs_parse.specs.Scanning.{token_here}
 use Rattle.rs_parse.proofs.Options.{bind_some, chosen, push_some}
 

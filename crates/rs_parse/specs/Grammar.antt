@@ -9,7 +9,7 @@
 --     literal   = [ "-" ] number | text
 --
 -- with at most 16 columns and at most 16 literals in a tuple. An id is a word that isn't reserved.
-use Rattle.std.specs.Prelude.{◌≡◌, ℕ, ◌^◌, ◌<◌, ◌≤◌, Bool, false, List, [], ◌∷◌, ◌++◌, length, ℤ, pos, neg_ℤ, ◌⊎◌, codes}
+use Rattle.std.specs.Prelude.{◌≡◌, ℕ, ◌^◌, ◌<◌, ◌≤◌, false, List, [], ◌∷◌, ◌++◌, length, pos, neg_ℤ, ◌⊎◌, codes}
 use Rattle.rs_base.specs.declared.value.Kind.{Kind}
 use Rattle.rs_base.specs.declared.value.Kind.TheVariants as kinds
 use Rattle.rs_base.specs.declared.value.Value.{Value}

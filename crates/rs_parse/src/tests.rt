@@ -2,7 +2,6 @@ use super::*;
 use rs_ast::{Dml, Stmt};
 use rs_base::{Kind, NameText, Value};
 use std::alloc::{AllocError, Global};
-use std::process::Abort;
 use std::test::*;
 
 const ACCEPTED: [&[u8]; 11] = [
@@ -142,7 +141,7 @@ fn reads_rows(rt: HostRuntime) -> Result<(), Fail> {
 #[test]
 fn reads_a_query(rt: HostRuntime) -> Result<(), Fail> {
     let stmt = parse(rt.alloc(), b"SELECT * FROM Accounts ;")?;
-    let Stmt::Dml(Dml::Select(select)) = stmt else {
+    let Stmt::Dml(Dml::Select(select)) = &stmt else {
         return Err(Fail::from("rows are asked for"));
     };
     assert!(rt; is_plain(&select.from, b"accounts"));

@@ -1,4 +1,3 @@
-use Rattle.std.proofs.Common.{ap}
 use Rattle.std.proofs.lemmas.Result.{err_from_is_err_and}
 use Rattle.rs_parse.specs.declared.token.Mark.TheVariants as marks
 use Rattle.rs_parse.specs.Reader.{column_at, begins_with_mark}

@@ -1,4 +1,4 @@
-use Rattle.std.proofs.Common.{rules, ◌≡◌, length, arith, ◌≢◌}
+use Rattle.std.proofs.Common.{rules}
 use Rattle.std.proofs.lemmas.Result.{err_from_is_err_and}
 use Rattle.rs_parse.proofs.Scans.{next_ends, next_fails, next_goes_on}
 use Rattle.rs_parse.proofs.scanner.Scanner.next.Goals as goal
