@@ -1,12 +1,20 @@
 -- Entries of a map in order of keys.
-use Rattle.std.proofs.Common.{◌≡◌, List, [], ◌∷◌, Bool, true, false, cond, Option, Some, None, Ordering, Less, Equal, Greater, refl, sym, ap, ◌∙◌, is_eq}
+use Rattle.std.proofs.Common.{◌≡◌, ◌≢◌, List, [], ◌∷◌, Bool, true, false, cond, Option, Some, None, Ordering, Less, Equal, Greater, refl, sym, ap, ◌∙◌, is_eq}
 use Rattle.std.specs.Cmp.{IsTotalOrder}
 use Rattle.std.specs.BTreeMap.{insert_entry, is_at}
 use Rattle.std.specs.List.{AllByRecursion}
 use Rattle.std.specs.List.Sorted.{IsStrictlySortedBy}
 use Rattle.std.specs.Map.{lookup, set_value, keys_of}
-use Rattle.std.specs.Ordering.{match_ordering}
+use Rattle.std.specs.Ordering.{match_ordering, ordering_reverse}
+use Rattle.std.proofs.lemmas.Cmp.{tied_itself, alike_right}
 use Rattle.std.proofs.lemmas.Map.Keys.{sorted_head, sorted_tail}
+use Rattle.std.proofs.lemmas.Map.Lookups.{CmpEqualImpliesEq}
+
+pub apart : {K : Type 0} {R : K → K → Ordering} → CmpEqualImpliesEq R → (x y : K) → x ≢ y → is_eq (R x y) ≡ false
+apart {K} {R} exact x y differ =
+    let at : (r : Ordering) → R x y ≡ r → is_eq r ≡ false
+        = λ r. elim r as (λ r. R x y ≡ r → is_eq r ≡ false) [ Less ↦ λ h. refl | Equal ↦ λ h. absurd (differ (exact x y h)) | Greater ↦ λ h. refl ] in
+    at (R x y) refl
 
 module _ {K X : Type 0} {R : K → K → Ordering} (o : IsTotalOrder R) (k : K) where
   -- no later key is k where an earlier one is above it
@@ -30,3 +38,54 @@ module _ {K X : Type 0} {R : K → K → Ordering} (o : IsTotalOrder R) (k : K) 
           | Greater ↦ λ h there. ap (λ fs. e ∷ fs) (set_value_is_insert_entry es v w (sorted_tail R e.0 (keys_of es) up) there)
           ] in
       at (R k e.0) refl found
+
+  module _ (v : X) where
+    -- the key that was put in has its value
+    pub lookup_put : (es : List (K × X)) → lookup (is_at (R k)) (insert_entry R es k v) ≡ Some v
+    lookup_put [] = ap (λ r. cond (is_eq r) (Some v) None) (tied_itself o k)
+    lookup_put (e ∷ es) =
+        let at : (r : Ordering) → R k e.0 ≡ r → lookup (is_at (R k)) (match_ordering r ((k, v) ∷ e ∷ es) ((e.0, v) ∷ es) (e ∷ insert_entry R es k v)) ≡ Some v
+            = λ r. elim r as (λ r. R k e.0 ≡ r → lookup (is_at (R k)) (match_ordering r ((k, v) ∷ e ∷ es) ((e.0, v) ∷ es) (e ∷ insert_entry R es k v)) ≡ Some v) [
+              Less ↦ λ h. ap (λ s. cond (is_eq s) (Some v) (lookup (is_at (R k)) (e ∷ es))) (tied_itself o k)
+            | Equal ↦ λ h. ap (λ s. cond (is_eq s) (Some v) (lookup (is_at (R k)) es)) h
+            | Greater ↦ λ h. ap (λ s. cond (is_eq s) (Some e.1) (lookup (is_at (R k)) (insert_entry R es k v))) h ∙ lookup_put es
+            ] in
+        at (R k e.0) refl
+
+    -- each other key keeps its value
+    pub lookup_beside : (q : K) → is_eq (R q k) ≡ false → (es : List (K × X)) → lookup (is_at (R q)) (insert_entry R es k v) ≡ lookup (is_at (R q)) es
+    lookup_beside q apart [] = ap (λ b. cond b (Some v) None) apart
+    lookup_beside q apart (e ∷ es) =
+        let at : (r : Ordering) → R k e.0 ≡ r → lookup (is_at (R q)) (match_ordering r ((k, v) ∷ e ∷ es) ((e.0, v) ∷ es) (e ∷ insert_entry R es k v)) ≡ lookup (is_at (R q)) (e ∷ es)
+            = λ r. elim r as (λ r. R k e.0 ≡ r → lookup (is_at (R q)) (match_ordering r ((k, v) ∷ e ∷ es) ((e.0, v) ∷ es) (e ∷ insert_entry R es k v)) ≡ lookup (is_at (R q)) (e ∷ es)) [
+              Less ↦ λ h. ap (λ b. cond b (Some v) (lookup (is_at (R q)) (e ∷ es))) apart
+            | Equal ↦ λ h.
+                let other : is_eq (R q e.0) ≡ false = ap is_eq (sym (alike_right o k e.0 q h)) ∙ apart in
+                ap (λ b. cond b (Some v) (lookup (is_at (R q)) es)) other ∙ sym (ap (λ b. cond b (Some e.1) (lookup (is_at (R q)) es)) other)
+            | Greater ↦ λ h. ap (λ found. cond (is_eq (R q e.0)) (Some e.1) found) (lookup_beside q apart es)
+            ] in
+        at (R k e.0) refl
+
+    -- keys in order stay so
+    all_keys_put : (P : K → Type 0) (es : List (K × X)) → P k → AllByRecursion P (keys_of es) → AllByRecursion P (keys_of (insert_entry R es k v))
+    all_keys_put P [] here all = (here, tt)
+    all_keys_put P (e ∷ es) here all =
+        let later : AllByRecursion P (keys_of (e ∷ insert_entry R es k v)) = (all.0, all_keys_put P es here all.1) in
+        elim (R k e.0) as (λ r. AllByRecursion P (keys_of (match_ordering r ((k, v) ∷ e ∷ es) ((e.0, v) ∷ es) (e ∷ insert_entry R es k v))))
+            [ Less ↦ (here, all) | Equal ↦ all | Greater ↦ later ]
+
+    all_above : (e : K) (ks : List K) → R k e ≡ Less → AllByRecursion (λ y. R e y ≡ Less) ks → AllByRecursion (λ y. R k y ≡ Less) ks
+    all_above e [] h all = tt
+    all_above e (y ∷ ks) h all = (o.trans k e y h all.0, all_above e ks h all.1)
+
+    pub keys_stay_sorted : (es : List (K × X)) → IsStrictlySortedBy R (keys_of es) → IsStrictlySortedBy R (keys_of (insert_entry R es k v))
+    unfolding IsStrictlySortedBy
+    keys_stay_sorted [] up = (tt, tt)
+    keys_stay_sorted (e ∷ es) up =
+        let at : (r : Ordering) → R k e.0 ≡ r → IsStrictlySortedBy R (keys_of (match_ordering r ((k, v) ∷ e ∷ es) ((e.0, v) ∷ es) (e ∷ insert_entry R es k v)))
+            = λ r. elim r as (λ r. R k e.0 ≡ r → IsStrictlySortedBy R (keys_of (match_ordering r ((k, v) ∷ e ∷ es) ((e.0, v) ∷ es) (e ∷ insert_entry R es k v)))) [
+              Less ↦ λ h. ((h, all_above e.0 (keys_of es) h up.0), up)
+            | Equal ↦ λ h. up
+            | Greater ↦ λ h. (all_keys_put (λ y. R e.0 y ≡ Less) es (o.antisymm e.0 k ∙ ap ordering_reverse h) up.0, keys_stay_sorted es up.1)
+            ] in
+        at (R k e.0) refl

@@ -2,4 +2,5 @@ pub mod Arranged
 pub mod Entries
 pub mod Fitting
 pub mod Inserted
+pub mod Lawful
 pub mod Orders

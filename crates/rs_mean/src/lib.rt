@@ -6,6 +6,7 @@ mod database;
 mod execute;
 mod execution;
 mod insert;
+pub mod laws;
 mod select;
 mod sorting;
 mod stored_rows;
