@@ -3,6 +3,7 @@
 ghost use Rattle.std.specs.Prelude.{◌<◌, ◌≤◌, length, IfOk};
 ghost use Rattle.std.specs.Io.KnownBytes.{Consumes, IsAtEnd};
 ghost use Rattle.rs_base.specs.Faults.{CountsFault};
+ghost use Rattle.rs_base.specs.Streams.{ConsumesAtMost};
 
 use crate::bytes::Bytes;
 use crate::fault::Fault;
@@ -15,6 +16,7 @@ pub fn read_to_end<S: Source>(alloc: Global, source: &mut S, limit: usize) -> Re
     ensures consumed { IfOk result (λ bytes. Consumes (S.left source.old) (S.left source.new) bytes) }
     ensures within { IfOk result (λ bytes. length bytes ≤ limit) }
     ensures at_end { IfOk result (λ bytes. length bytes < limit → IsAtEnd (S.left source.new)) }
+    ensures reads { ConsumesAtMost limit (S.left source.old) (S.left source.new) }
     ensures faults { CountsFault result (S.faults source.old) (S.faults source.new) }
 {
     let mut bytes = Bytes::new(alloc);

@@ -21,6 +21,9 @@ use Rattle.rstar.specs.Source.{asked_by, IsAsk, AreAsks}
 use Rattle.rstar.specs.History.{execution_of, effect_of, effect, database_of, outcome_behind, reply_of}
 use Rattle.rstar.specs.Course.{start, entry_of, answered, step_by, step, course, report_of}
 use Rattle.rstar.specs.Explains.{entries_from, IsAnswer, Explains}
+use Rattle.rs_mean.proofs.Lawful.{names_stay_in_order}
+use Rattle.rs_mean.proofs.Lawful.{denied_changes_nothing as after_denied}
+use Rattle.rstar.proofs.Statements.{spelled_is_read}
 use Rattle.rstar.proofs.Gets.{get_push, get_below, get_at, take-get}
 
 -- ---- entries
@@ -195,53 +198,46 @@ holds_start in_order = record {
   distinct = λ i j a b lt at_a at_b. absurd (nothing_at i a at_a);
 }
 
--- what the laws of other crates give
-pub record Given_laws : Type 0 where
-  pub spelled_is_read : (text : List ℕ) (stmt : Stmt) → Spells text stmt → statement_of text ≡ Some stmt
-  pub keeps_order : (db : Database) (e : Execution) → IsInOrder db → IsInOrder (meaning db e).0
-  pub starts_in_order : IsInOrder empty
-  pub denied_keeps : (db : Database) (e : Execution) (cause : Denial) → (meaning db e).1 ≡ Err cause → (meaning db e).0 ≡ db
-
-holds_from : Given_laws → (before asks : List Ask) (world : World) → AreAsks before asks → Holds before world → Holds (before ++ asks) (fold step world asks)
+holds_from : (before asks : List Ask) (world : World) → AreAsks before asks → Holds before world → Holds (before ++ asks) (fold step world asks)
 unfolding step
-holds_from laws before [] world are holds = subst (λ (asks : List Ask). Holds asks world) (sym (append-nil before)) holds
-holds_from laws before (ask ∷ asks) world are holds =
+holds_from before [] world are holds = subst (λ (asks : List Ask). Holds asks world) (sym (append-nil before)) holds
+holds_from before (ask ∷ asks) world are holds =
     let stmt = are.0.text.request.0 in
-    let reads = laws.spelled_is_read ask.text stmt are.0.text.request.1 in
+    let reads = spelled_is_read ask.text stmt are.0.text.request.1 in
     let stepped : step world ask ≡ answered world ask stmt = ap (step_by world ask) reads in
-    let one : Holds (before ++ ask ∷ []) (step world ask) = subst (λ (w : World). Holds (before ++ ask ∷ []) w) (sym stepped) (holds_next before world ask stmt are.0 reads holds laws.keeps_order) in
-    subst (λ (all : List Ask). Holds all (fold step (step world ask) asks)) (append_assoc before (ask ∷ []) asks) (holds_from laws (before ++ ask ∷ []) asks (step world ask) are.1 one)
+    let one : Holds (before ++ ask ∷ []) (step world ask) = subst (λ (w : World). Holds (before ++ ask ∷ []) w) (sym stepped) (holds_next before world ask stmt are.0 reads holds names_stay_in_order.1) in
+    subst (λ (all : List Ask). Holds all (fold step (step world ask) asks)) (append_assoc before (ask ∷ []) asks) (holds_from (before ++ ask ∷ []) asks (step world ask) are.1 one)
 
-denied_at : Given_laws → (db : Database) (entry : Entry) (read : Option Stmt) (cause : Denial) → (effect_of db entry read).1 ≡ Some (Err cause) → (effect_of db entry read).0 ≡ db
-denied_at laws db entry None cause e = absurd cc
-denied_at laws db entry (Some stmt) cause e = laws.denied_keeps db (execution_of entry stmt) cause cc
+denied_at : (db : Database) (entry : Entry) (read : Option Stmt) (cause : Denial) → (effect_of db entry read).1 ≡ Some (Err cause) → (effect_of db entry read).0 ≡ db
+denied_at db entry None cause e = absurd cc
+denied_at db entry (Some stmt) cause e = after_denied db (execution_of entry stmt) cause cc
 
 outcome_is : (outcome : Outcome) (cause : Denial) → reply_of outcome ≡ replies.Denied cause → outcome ≡ Err cause
 outcome_is (Ok answers) cause e = absurd cc
 outcome_is (Err other) cause e = cc
 
-denied_changes_nothing : Given_laws → (asks : List Ask) (world : World) → Holds asks world → (i : ℕ) (given : Given) (cause : Denial) → slice_get world.replies i ≡ Some given → given.reply ≡ replies.Denied cause
+denied_changes_nothing : (asks : List Ask) (world : World) → Holds asks world → (i : ℕ) (given : Given) (cause : Denial) → slice_get world.replies i ≡ Some given → given.reply ≡ replies.Denied cause
     → database_of (take (i + 1) world.history) ≡ database_of (take i world.history)
-denied_changes_nothing laws asks world holds i given cause at denied =
+denied_changes_nothing asks world holds i given cause at denied =
     let found = get_at world.history i (omega (arith, get_below world.replies given i at, holds.as_many)) in
     let answer = holds.answers i found.0 given found.1 at in
     let outcome = answer.meaning.0 in
     let is_denied : outcome ≡ Err cause = outcome_is outcome cause (sym answer.meaning.2 ∙ denied) in
     ap database_of (take-get world.history i found.0 found.1)
     ∙ database_of-push (take i world.history) found.0
-    ∙ denied_at laws (database_of (take i world.history)) found.0 (statement_of found.0.text) cause (answer.meaning.1 ∙ ap (λ (o : Outcome). Some o) is_denied)
+    ∙ denied_at (database_of (take i world.history)) found.0 (statement_of found.0.text) cause (answer.meaning.1 ∙ ap (λ (o : Outcome). Some o) is_denied)
 
 -- The report of a right course explains its asks.
-pub course_explains : Given_laws → (asks : List Ask) → AreAsks [] asks → Explains asks (report_of (course asks))
-course_explains laws asks are =
+pub course_explains : (asks : List Ask) → AreAsks [] asks → Explains asks (report_of (course asks))
+course_explains asks are =
     let world = course asks in
-    let holds = holds_from laws [] asks start are (holds_start laws.starts_in_order) in
+    let holds = holds_from [] asks start are (holds_start names_stay_in_order.0) in
     record {
       an_entry_each = holds.entries;
       entries_distinct = holds.distinct;
       a_reply_each = holds.as_many;
       answers_are_meaning = holds.answers;
-      denied_changes_nothing = denied_changes_nothing laws asks world holds;
+      denied_changes_nothing = denied_changes_nothing asks world holds;
       runs_stand = refl;
       stores_agree = ap (λ (db : Database). (record { site = 1; epoch = 1; tables = db }) ∷ []) holds.database;
       tables_in_order = subst IsInOrder holds.database holds.in_order;

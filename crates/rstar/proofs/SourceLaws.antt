@@ -7,6 +7,7 @@ use Rattle.rs_base.specs.Ident.{is_ident}
 use Rattle.rs_base.specs.Reading.{◌>>=◌}
 use Rattle.rs_ast.specs.declared.stmt.Stmt.{Stmt}
 use Rattle.rs_parse.specs.Parsing.{Spells, statement_of}
+use Rattle.rstar.proofs.Statements.{read_is_spelled, spelled_is_read}
 use Rattle.rstar.specs.declared.ask.Ask.{Ask}
 use Rattle.rstar.specs.Source.{asked_by, IsAskText, IsAsk, AreAsks, ask_lines, IsLastEnd, IsSource}
 use Rattle.rstar.specs.SourceReader.{behind, user_at, text_at, ask_at, is_end, asks_within, asks_of}
@@ -138,80 +139,78 @@ source_of bytes rest asks short parts all = record {
 -- ---- the law of what is read
 
 -- With the law of the reader of statements: what it reads is spelled so.
-module _ (read_is_spelled : (text : List ℕ) (stmt : Stmt) → statement_of text ≡ Some stmt → Spells text stmt) where
-  ask_is : (before : List Ask) (bytes : List ℕ) (x : Ask × List ℕ) → ask_at before bytes ≡ Some x → IsAsk before x.0 × (bytes ≡ ask_lines x.0 ++ x.1)
-  unfolding ask_at
-  ask_is before bytes x e =
-      let word = bind_some (behind (codes "\nask 1 ") bytes) (at_user before) x e in
-      let user = bind_some (user_at word.0) (at_epoch before) x word.2 in
-      let epoch = bind_some (behind (codes " 1 ") user.0.1) (at_number before user.0.0) x user.2 in
-      let number = bind_some (behind (decimal (asked_by user.0.0 before + 1)) epoch.0) (at_space before user.0.0) x epoch.2 in
-      let space = bind_some (behind (codes " ") number.0) (at_text before user.0.0) x number.2 in
-      let text = bind_some (text_at space.0) (at_settle before user.0.0) x space.2 in
-      let settle = bind_some (behind (codes "\nsettle") text.0.1) (λ settle. Some (ask_of before user.0.0 text.0.0, settle)) x text.2 in
-      let user_right = user_is word.0 user.0 user.1 in
-      let text_right = text_is read_is_spelled space.0 text.0 text.1 in
-      let parts = ask_parts before user.0.0 text.0.0 settle.0 bytes word.0 user.0.1 epoch.0 number.0 space.0 text.0.1 word.1 user_right.1 epoch.1 number.1 space.1 text_right.1 settle.1 in
-      same_ask before bytes (ask_of before user.0.0 text.0.0) settle.0 x settle.2 (ask_of_right before user.0.0 text.0.0 user_right.0 text_right.0, parts)
+ask_is : (before : List Ask) (bytes : List ℕ) (x : Ask × List ℕ) → ask_at before bytes ≡ Some x → IsAsk before x.0 × (bytes ≡ ask_lines x.0 ++ x.1)
+unfolding ask_at
+ask_is before bytes x e =
+    let word = bind_some (behind (codes "\nask 1 ") bytes) (at_user before) x e in
+    let user = bind_some (user_at word.0) (at_epoch before) x word.2 in
+    let epoch = bind_some (behind (codes " 1 ") user.0.1) (at_number before user.0.0) x user.2 in
+    let number = bind_some (behind (decimal (asked_by user.0.0 before + 1)) epoch.0) (at_space before user.0.0) x epoch.2 in
+    let space = bind_some (behind (codes " ") number.0) (at_text before user.0.0) x number.2 in
+    let text = bind_some (text_at space.0) (at_settle before user.0.0) x space.2 in
+    let settle = bind_some (behind (codes "\nsettle") text.0.1) (λ settle. Some (ask_of before user.0.0 text.0.0, settle)) x text.2 in
+    let user_right = user_is word.0 user.0 user.1 in
+    let text_right = text_is space.0 text.0 text.1 in
+    let parts = ask_parts before user.0.0 text.0.0 settle.0 bytes word.0 user.0.1 epoch.0 number.0 space.0 text.0.1 word.1 user_right.1 epoch.1 number.1 space.1 text_right.1 settle.1 in
+    same_ask before bytes (ask_of before user.0.0 text.0.0) settle.0 x settle.2 (ask_of_right before user.0.0 text.0.0 user_right.0 text_right.0, parts)
 
-  asks_are : (n : ℕ) (before : List Ask) (bytes : List ℕ) (asks : List Ask) → asks_within n before bytes ≡ Some asks → Within n before bytes asks
-  asks_are zero before bytes asks e =
-      let last = chosen (is_end bytes) (Some []) asks e in
-      within_end zero before bytes asks last.0 last.1
-  asks_are (suc n) before bytes asks e =
-      elim (cases_of (is_end bytes) (Some []) (ask_at before bytes >>= λ ask. asks_within n (before ++ ask.0 ∷ []) ask.1 >>= λ others. Some (ask.0 ∷ others)) (Some asks) e) [
-        | inl last ↦ within_end (suc n) before bytes asks last.0 last.1
-        | inr more ↦
-            let first = bind_some (ask_at before bytes) (λ ask. asks_within n (before ++ ask.0 ∷ []) ask.1 >>= λ others. Some (ask.0 ∷ others)) asks more.1 in
-            let second = bind_some (asks_within n (before ++ first.0.0 ∷ []) first.0.1) (λ others. Some (first.0.0 ∷ others)) asks first.2 in
-            let ask = ask_is before bytes first.0 first.1 in
-            let others = asks_are n (before ++ first.0.0 ∷ []) first.0.1 second.0 second.1 in
-            subst (Within (suc n) before bytes) (some_is (first.0.0 ∷ second.0) asks second.2) (within_more n before bytes first.0.1 first.0.0 second.0 ask.0 ask.1 others)
-      ]
+asks_are : (n : ℕ) (before : List Ask) (bytes : List ℕ) (asks : List Ask) → asks_within n before bytes ≡ Some asks → Within n before bytes asks
+asks_are zero before bytes asks e =
+    let last = chosen (is_end bytes) (Some []) asks e in
+    within_end zero before bytes asks last.0 last.1
+asks_are (suc n) before bytes asks e =
+    elim (cases_of (is_end bytes) (Some []) (ask_at before bytes >>= λ ask. asks_within n (before ++ ask.0 ∷ []) ask.1 >>= λ others. Some (ask.0 ∷ others)) (Some asks) e) [
+      | inl last ↦ within_end (suc n) before bytes asks last.0 last.1
+      | inr more ↦
+          let first = bind_some (ask_at before bytes) (λ ask. asks_within n (before ++ ask.0 ∷ []) ask.1 >>= λ others. Some (ask.0 ∷ others)) asks more.1 in
+          let second = bind_some (asks_within n (before ++ first.0.0 ∷ []) first.0.1) (λ others. Some (first.0.0 ∷ others)) asks first.2 in
+          let ask = ask_is before bytes first.0 first.1 in
+          let others = asks_are n (before ++ first.0.0 ∷ []) first.0.1 second.0 second.1 in
+          subst (Within (suc n) before bytes) (some_is (first.0.0 ∷ second.0) asks second.2) (within_more n before bytes first.0.1 first.0.0 second.0 ask.0 ask.1 others)
+    ]
 
-  -- What is read is a source.
-  pub asks_of-is : (bytes : List ℕ) (asks : List Ask) → asks_of bytes ≡ Some asks → IsSource bytes asks
-  unfolding asks_of
-  asks_of-is bytes asks e =
-      let whole = chosen (leb (length bytes) 16777216) (behind (codes "sites 1") bytes >>= asks_within 200 []) asks e in
-      let sites = bind_some (behind (codes "sites 1") bytes) (asks_within 200 []) asks whole.1 in
-      source_of bytes sites.0 asks (leb-true _ _ whole.0) (behind_is (codes "sites 1") bytes sites.0 sites.1) (asks_are 200 [] sites.0 asks sites.2)
+-- What is read is a source.
+pub asks_of-is : (bytes : List ℕ) (asks : List Ask) → asks_of bytes ≡ Some asks → IsSource bytes asks
+unfolding asks_of
+asks_of-is bytes asks e =
+    let whole = chosen (leb (length bytes) 16777216) (behind (codes "sites 1") bytes >>= asks_within 200 []) asks e in
+    let sites = bind_some (behind (codes "sites 1") bytes) (asks_within 200 []) asks whole.1 in
+    source_of bytes sites.0 asks (leb-true _ _ whole.0) (behind_is (codes "sites 1") bytes sites.0 sites.1) (asks_are 200 [] sites.0 asks sites.2)
 
 -- ---- the law of what is spelled
 
 -- With the other law of that reader: what is spelled so is read.
-module _ (spelled_is_read : (text : List ℕ) (stmt : Stmt) → Spells text stmt → statement_of text ≡ Some stmt) where
-  ask_of_again : (before : List Ask) (user text rest : List ℕ)
-      → IsTrue (is_ident user) → IsAskText text → ask_at before (ask_lines (ask_of before user text) ++ rest) ≡ Some (ask_of before user text, rest)
-  unfolding ask_at
-  ask_of_again before user text rest ident h =
-      let number = asked_by user before + 1 in
-      let at_word = user_again user (codes "1 " ++ (decimal number ++ (codes " " ++ (text ++ (codes "\nsettle" ++ rest))))) ident in
-      let at_number = behind_again (decimal number) (codes " " ++ (text ++ (codes "\nsettle" ++ rest))) in
-      let at_text = text_again spelled_is_read text (codes "settle" ++ rest) h in
-      ap (ask_at before) (ask_parted before user text rest) ∙ rw (at_word, at_number, at_text) refl
+ask_of_again : (before : List Ask) (user text rest : List ℕ)
+    → IsTrue (is_ident user) → IsAskText text → ask_at before (ask_lines (ask_of before user text) ++ rest) ≡ Some (ask_of before user text, rest)
+unfolding ask_at
+ask_of_again before user text rest ident h =
+    let number = asked_by user before + 1 in
+    let at_word = user_again user (codes "1 " ++ (decimal number ++ (codes " " ++ (text ++ (codes "\nsettle" ++ rest))))) ident in
+    let at_number = behind_again (decimal number) (codes " " ++ (text ++ (codes "\nsettle" ++ rest))) in
+    let at_text = text_again text (codes "settle" ++ rest) h in
+    ap (ask_at before) (ask_parted before user text rest) ∙ rw (at_word, at_number, at_text) refl
 
-  ask_again : (before : List Ask) (ask : Ask) (rest : List ℕ) → IsAsk before ask → ask_at before (ask_lines ask ++ rest) ≡ Some (ask, rest)
-  ask_again before ask rest h =
-      subst (λ (a : Ask). ask_at before (ask_lines a ++ rest) ≡ Some (a, rest)) (ask_of_is before ask h)
-      (ask_of_again before ask.origin.user ask.text rest h.user h.text)
+ask_again : (before : List Ask) (ask : Ask) (rest : List ℕ) → IsAsk before ask → ask_at before (ask_lines ask ++ rest) ≡ Some (ask, rest)
+ask_again before ask rest h =
+    subst (λ (a : Ask). ask_at before (ask_lines a ++ rest) ≡ Some (a, rest)) (ask_of_is before ask h)
+    (ask_of_again before ask.origin.user ask.text rest h.user h.text)
 
-  asks_again : (n : ℕ) (before asks : List Ask) (end : List ℕ) → length asks ≤ n → AreAsks before asks → IsLastEnd end → asks_within n before (flat_map ask_lines asks ++ end) ≡ Some asks
-  asks_again zero before [] end few right last = rw (is_end_again end last) refl
-  asks_again (suc n) before [] end few right last = rw (is_end_again end last) refl
-  asks_again zero before (ask ∷ asks) end few right last = absurd (omega arith)
-  asks_again (suc n) before (ask ∷ asks) end few right last =
-      let others : asks_within n (before ++ ask ∷ []) (flat_map ask_lines asks ++ end) ≡ Some asks = asks_again n (before ++ ask ∷ []) asks end (omega arith) right.1 last in
-      ap (asks_within (suc n) before) (append_assoc (ask_lines ask) (flat_map ask_lines asks) end)
-      ∙ rw (ask_again before ask (flat_map ask_lines asks ++ end) right.0, others) refl
+asks_again : (n : ℕ) (before asks : List Ask) (end : List ℕ) → length asks ≤ n → AreAsks before asks → IsLastEnd end → asks_within n before (flat_map ask_lines asks ++ end) ≡ Some asks
+asks_again zero before [] end few right last = rw (is_end_again end last) refl
+asks_again (suc n) before [] end few right last = rw (is_end_again end last) refl
+asks_again zero before (ask ∷ asks) end few right last = absurd (omega arith)
+asks_again (suc n) before (ask ∷ asks) end few right last =
+    let others : asks_within n (before ++ ask ∷ []) (flat_map ask_lines asks ++ end) ≡ Some asks = asks_again n (before ++ ask ∷ []) asks end (omega arith) right.1 last in
+    ap (asks_within (suc n) before) (append_assoc (ask_lines ask) (flat_map ask_lines asks) end)
+    ∙ rw (ask_again before ask (flat_map ask_lines asks ++ end) right.0, others) refl
 
-  -- What is spelled so is read.
-  pub asks_of-again : (bytes : List ℕ) (asks : List Ask) → IsSource bytes asks → asks_of bytes ≡ Some asks
-  unfolding asks_of
-  asks_of-again bytes asks h =
-      let sites : behind (codes "sites 1") bytes ≡ Some (flat_map ask_lines asks ++ h.end) = rw h.written (behind_again (codes "sites 1") (flat_map ask_lines asks ++ h.end)) in
-      rw (le-leb (length bytes) 16777216 h.bytes_few, sites) (asks_again 200 [] asks h.end h.asks_few h.asks_right h.end_right)
+-- What is spelled so is read.
+pub asks_of-again : (bytes : List ℕ) (asks : List Ask) → IsSource bytes asks → asks_of bytes ≡ Some asks
+unfolding asks_of
+asks_of-again bytes asks h =
+    let sites : behind (codes "sites 1") bytes ≡ Some (flat_map ask_lines asks ++ h.end) = rw h.written (behind_again (codes "sites 1") (flat_map ask_lines asks ++ h.end)) in
+    rw (le-leb (length bytes) 16777216 h.bytes_few, sites) (asks_again 200 [] asks h.end h.asks_few h.asks_right h.end_right)
 
-  -- Bytes are a source in one way.
-  pub source-once : (bytes : List ℕ) (asks others : List Ask) → IsSource bytes asks → IsSource bytes others → asks ≡ others
-  source-once bytes asks others h k = some_is asks others (sym (asks_of-again bytes asks h) ∙ asks_of-again bytes others k)
+-- Bytes are a source in one way.
+pub source-once : (bytes : List ℕ) (asks others : List Ask) → IsSource bytes asks → IsSource bytes others → asks ≡ others
+source-once bytes asks others h k = some_is asks others (sym (asks_of-again bytes asks h) ∙ asks_of-again bytes others k)

@@ -7,6 +7,7 @@ use Rattle.rs_base.specs.Ident.{is_ident, is_name_byte, begins_with_letter, are_
 use Rattle.rs_base.specs.Reading.{◌>>=◌}
 use Rattle.rs_ast.specs.declared.stmt.Stmt.{Stmt}
 use Rattle.rs_parse.specs.Parsing.{Spells, statement_of}
+use Rattle.rstar.proofs.Statements.{read_is_spelled, spelled_is_read}
 use Rattle.rstar.specs.Source.{IsAskText, is_inner, names_columns_once}
 use Rattle.rstar.specs.SourceReader.{behind, user_at, text_at, is_ask_text, is_allowed, is_before_feed}
 
@@ -82,31 +83,29 @@ allowed_is : (read : Option Stmt) → is_allowed read ≡ true → (stmt : Stmt)
 allowed_is None e = absurd cc
 allowed_is (Some stmt) e = (stmt, refl, e)
 
-module _ (read_is_spelled : (text : List ℕ) (stmt : Stmt) → statement_of text ≡ Some stmt → Spells text stmt) where
-  ask_text_is : (text : List ℕ) → is_ask_text text ≡ true → IsAskText text
-  ask_text_is text e =
-      let last = and_parts (leb (length text) 1000 && list_all is_inner text) (is_allowed (statement_of text)) e in
-      let first = and_parts (leb (length text) 1000) (list_all is_inner text) last.0 in
-      let stmt = allowed_is (statement_of text) last.1 in
-      record { short = leb-true _ _ first.0; one_line = first.1; request = (stmt.0, read_is_spelled text stmt.0 stmt.1, stmt.2) }
+ask_text_is : (text : List ℕ) → is_ask_text text ≡ true → IsAskText text
+ask_text_is text e =
+    let last = and_parts (leb (length text) 1000 && list_all is_inner text) (is_allowed (statement_of text)) e in
+    let first = and_parts (leb (length text) 1000) (list_all is_inner text) last.0 in
+    let stmt = allowed_is (statement_of text) last.1 in
+    record { short = leb-true _ _ first.0; one_line = first.1; request = (stmt.0, read_is_spelled text stmt.0 stmt.1, stmt.2) }
 
-  pub text_is : (bytes : List ℕ) (x : List ℕ × List ℕ) → text_at bytes ≡ Some x → IsAskText x.0 × (bytes ≡ x.0 ++ x.1)
-  unfolding text_at
-  text_is bytes x e =
-      let n = prefix_len is_before_feed bytes in
-      let found : List ℕ × List ℕ = (take n bytes, drop n bytes) in
-      let right = chosen (is_ask_text (take n bytes)) (Some found) x e in
-      subst (λ (y : List ℕ × List ℕ). IsAskText y.0 × (bytes ≡ y.0 ++ y.1)) (some_is found x right.1) (ask_text_is (take n bytes) right.0, sym (take-append-drop n bytes))
+pub text_is : (bytes : List ℕ) (x : List ℕ × List ℕ) → text_at bytes ≡ Some x → IsAskText x.0 × (bytes ≡ x.0 ++ x.1)
+unfolding text_at
+text_is bytes x e =
+    let n = prefix_len is_before_feed bytes in
+    let found : List ℕ × List ℕ = (take n bytes, drop n bytes) in
+    let right = chosen (is_ask_text (take n bytes)) (Some found) x e in
+    subst (λ (y : List ℕ × List ℕ). IsAskText y.0 × (bytes ≡ y.0 ++ y.1)) (some_is found x right.1) (ask_text_is (take n bytes) right.0, sym (take-append-drop n bytes))
 
-module _ (spelled_is_read : (text : List ℕ) (stmt : Stmt) → Spells text stmt → statement_of text ≡ Some stmt) where
-  ask_text_again : (text : List ℕ) → IsAskText text → is_ask_text text ≡ true
-  ask_text_again text h =
-      let allowed : is_allowed (statement_of text) ≡ true = rw (spelled_is_read text h.request.0 h.request.1) h.request.2 in
-      and_from _ _ (and_from _ _ (le-leb _ _ h.short) h.one_line) allowed
+ask_text_again : (text : List ℕ) → IsAskText text → is_ask_text text ≡ true
+ask_text_again text h =
+    let allowed : is_allowed (statement_of text) ≡ true = rw (spelled_is_read text h.request.0 h.request.1) h.request.2 in
+    and_from _ _ (and_from _ _ (le-leb _ _ h.short) h.one_line) allowed
 
-  -- a line feed ends a text
-  pub text_again : (text rest : List ℕ) → IsAskText text → text_at (text ++ 10 ∷ rest) ≡ Some (text, 10 ∷ rest)
-  unfolding text_at
-  text_again text rest h =
-      let n : prefix_len is_before_feed (text ++ 10 ∷ rest) ≡ length text = prefix_len_front is_before_feed text 10 rest (is_before_feed_of text h.one_line) refl in
-      rw (n, take_at text (10 ∷ rest) (length text) refl, drop_at text (10 ∷ rest) (length text) refl, ask_text_again text h) refl
+-- a line feed ends a text
+pub text_again : (text rest : List ℕ) → IsAskText text → text_at (text ++ 10 ∷ rest) ≡ Some (text, 10 ∷ rest)
+unfolding text_at
+text_again text rest h =
+    let n : prefix_len is_before_feed (text ++ 10 ∷ rest) ≡ length text = prefix_len_front is_before_feed text 10 rest (is_before_feed_of text h.one_line) refl in
+    rw (n, take_at text (10 ∷ rest) (length text) refl, drop_at text (10 ∷ rest) (length text) refl, ask_text_again text h) refl

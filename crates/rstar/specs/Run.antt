@@ -1,7 +1,7 @@
 -- What a run of the program does with its words, its source and its sink.
 use Rattle.std.specs.Prelude.{◌≡◌, ℕ, ◌≤◌, List, [], ◌∷◌, map, length, take, codes, string_bytes, Option, Some, None, IfSome, ◌⊎◌, ⊤}
 use Rattle.std.specs.Io.KnownBytes.{Appends, IsAtEnd, Keeps}
-use Rattle.std.specs.Global.{String}
+use Rattle.std.specs.Prelude.{String}
 use Rattle.rs_base.specs.Streams.{AppendsFront}
 use Rattle.rstar.specs.declared.ask.Ask.{Ask}
 use Rattle.rstar.specs.declared.report.Report.{Report}

@@ -52,7 +52,7 @@ fn is_replay(words: &[String]) -> bool
     }
 }
 
-fn owed_to_bytes(alloc: Global, bytes: &[u8]) -> Result<Owed, Fault>
+fn find_in(alloc: Global, bytes: &[u8]) -> Result<Owed, Fault>
     ensures found { IfOk result (λ owed. spec.FoundIn bytes.now owed.finding owed.text) }
     ensures memory { IfErr result (λ fault. fault ≡ Fault.NoMemory) }
 {
@@ -69,7 +69,7 @@ fn owed_to_bytes(alloc: Global, bytes: &[u8]) -> Result<Owed, Fault>
     }
 }
 
-fn owed<S: Source>(alloc: Global, words: &[String], source: &mut S) -> Result<Owed, Fault>
+fn find_owed<S: Source>(alloc: Global, words: &[String], source: &mut S) -> Result<Owed, Fault>
     ensures found { IfOk result (λ owed. spec.Finds words.now (S.left source.old) (S.left source.new) owed.finding owed.text) }
     ensures faults { CountsFault result (S.faults source.old) (S.faults source.new) }
     ensures reads { ConsumesAtMost spec.most_read (S.left source.old) (S.left source.new) }
@@ -81,7 +81,7 @@ fn owed<S: Source>(alloc: Global, words: &[String], source: &mut S) -> Result<Ow
         });
     }
     let bytes = read_to_end(alloc, source, MOST_READ)?;
-    owed_to_bytes(alloc, bytes.as_slice())
+    find_in(alloc, bytes.as_slice())
 }
 
 /// Does the work of the program whose words these are, and answers its status:
@@ -125,7 +125,7 @@ pub fn run<S: Source, K: Sink>(alloc: Global, words: &[String], source: &mut S, 
     ensures source_faults { result ≢ 3 → S.faults source.new ≡ S.faults source.old }
     ensures sink_faults { result ≢ 4 → K.faults sink.new ≡ K.faults sink.old }
 {
-    let owed = match owed(alloc, words, source) {
+    let owed = match find_owed(alloc, words, source) {
         Ok(owed) => owed,
         Err(Fault::Failed) => return 3,
         Err(Fault::NoMemory) => return 5,

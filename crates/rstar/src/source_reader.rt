@@ -1,6 +1,6 @@
 //! Reading the asks of a source.
 
-ghost use Rattle.std.specs.Prelude.{◌≡◌, ◌≤◌, length, IfOk, count_by};
+ghost use Rattle.std.specs.Prelude.{◌≡◌, ◌≤◌, [], length, IfOk};
 ghost use Rattle.rs_base.specs.Reading.{Gives, Reads};
 ghost use Rattle.rstar.specs.Source.{asked_by, names_differ, names_columns_once};
 ghost use Rattle.rstar.specs.SourceReader as spec;

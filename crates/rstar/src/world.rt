@@ -52,20 +52,20 @@ impl World {
             epoch: origin.epoch,
             number,
         };
-        let outcome = self.database.execute(
-            alloc,
-            Execution {
-                txn,
-                user: origin.user,
-                site: origin.site,
-                stmt,
-            },
-        )?;
-        self.replies.push(Given {
+        let execution = Execution {
+            txn,
+            user: origin.user,
+            site: origin.site,
+            stmt,
+        };
+        let outcome = self.database.execute(alloc, execution)?;
+        let given = Given {
             to: origin,
             reply: reply_of(outcome),
-        })?;
-        self.history.push(Entry { txn, origin, text })?;
+        };
+        let entry = Entry { txn, origin, text };
+        self.replies.push(given)?;
+        self.history.push(entry)?;
         Ok(())
     }
 
@@ -90,12 +90,13 @@ impl World {
             history,
             database,
         } = self;
-        let mut sites = Items::new(alloc);
-        sites.push(SiteView {
+        let view = SiteView {
             site: SiteNo::first(),
             epoch: 1,
             tables: database,
-        })?;
+        };
+        let mut sites = Items::new(alloc);
+        sites.push(view)?;
         Ok(Report {
             replies,
             history,
