@@ -1,5 +1,5 @@
 -- Lists in order: two with the same elements are the same list, and `in_order` gives the one.
-use Rattle.std.proofs.Common.{◌≡◌, ℕ, ◌+◌, ◌<◌, ◌≤◌, suc, zero, List, [], ◌∷◌, Bool, true, false, cond, length, Ordering, Less, Equal, Greater, refl, sym, ap, ◌∙◌, subst, is_lt, is_gt, arith, zero-le, rules, add-one, true≢false}
+use Rattle.std.proofs.Common.{◌≡◌, ℕ, ◌+◌, ◌<◌, suc, zero, List, [], ◌∷◌, Bool, true, false, cond, length, Ordering, Less, Equal, Greater, refl, sym, ap, ◌∙◌, is_lt, is_gt, arith, add-one}
 use Rattle.std.proofs.Math.ListN.{get_or}
 use Rattle.std.specs.Cmp.{IsTotalOrder}
 use Rattle.std.specs.List.{sum_by, AllByRecursion}
@@ -46,19 +46,20 @@ sorted_rest R x xs up = λ k d low high. rw add-one (simp add-one at (up (suc k)
 
 rising_from_sorted : {X : Type 0} {R : X → X → Ordering} → IsTotalOrder R → (xs : List X) → IsSorted R xs → Rising R xs
 rising_from_sorted o [] up = tt
-rising_from_sorted {X} {R} o (x ∷ xs) up =
-    (none_below_from_places R x xs (λ j d l. sym (lt_as_gt o x (get_or xs j d)) ∙ sorted_far (λ a b. is_lt (R a b)) (ranks_by o (λ x. x)) (x ∷ xs) up 0 (suc j) d (omega arith) (omega arith))
-    , rising_from_sorted o xs (sorted_rest R x xs up))
+rising_from_sorted {X} {R} o (x ∷ xs) up = (
+  none_below_from_places R x xs (λ j d l. sym (lt_as_gt o x (get_or xs j d)) ∙ sorted_far (λ a b. is_lt (R a b)) (ranks_by o (λ x. x)) (x ∷ xs) up 0 (suc j) d (omega arith) (omega arith)),
+  rising_from_sorted o xs (sorted_rest R x xs up),
+)
 
 sorted_from_rising : {X : Type 0} {R : X → X → Ordering} → IsTotalOrder R → (xs : List X) → Rising R xs → IsSorted R xs
 sorted_from_rising o [] up = λ k d low high. absurd (omega arith)
 sorted_from_rising o (x ∷ []) up = λ k d low high. absurd (omega arith)
 sorted_from_rising {X} {R} o (x ∷ y ∷ ys) up =
     let step : (k : ℕ) (d : X) → k + 1 < length (x ∷ y ∷ ys) → is_lt (R (get_or (x ∷ y ∷ ys) (k + 1) d) (get_or (x ∷ y ∷ ys) k d)) ≡ false
-        = λ k. elim k as (λ k. (d : X) → k + 1 < length (x ∷ y ∷ ys) → is_lt (R (get_or (x ∷ y ∷ ys) (k + 1) d) (get_or (x ∷ y ∷ ys) k d)) ≡ false) [
-          zero ↦ λ d high. lt_as_gt o x y ∙ up.0.0
-        | suc j ↦ λ d high. rw add-one (simp add-one at (sorted_from_rising o (y ∷ ys) up.1 j d (omega arith) (omega arith)))
-        ] in
+    = λ k. elim k as (λ k. (d : X) → k + 1 < length (x ∷ y ∷ ys) → is_lt (R (get_or (x ∷ y ∷ ys) (k + 1) d) (get_or (x ∷ y ∷ ys) k d)) ≡ false) [
+      | zero ↦ λ d high. lt_as_gt o x y ∙ up.0.0
+      | suc j ↦ λ d high. rw add-one (simp add-one at (sorted_from_rising o (y ∷ ys) up.1 j d (omega arith) (omega arith)))
+    ] in
     λ k d low high. step k d high
 
 -- ---- two lists in order with the same elements
@@ -104,10 +105,10 @@ same_from_sums o exact [] (y ∷ ys) up vp h = absurd (omega (arith, h (λ _. 1)
 same_from_sums o exact (x ∷ xs) [] up vp h = absurd (omega (arith, h (λ _. 1), sum_by-cons (λ _. 1) x xs))
 same_from_sums {X} {R} o exact (x ∷ xs) (y ∷ ys) up vp h =
     let first : x ≡ y = same_first o exact x y
-        (first_not_below R y x xs (h (one_below R y) ∙ none_below_first o y ys vp))
-        (first_not_below R x y ys (sym (h (one_below R x)) ∙ none_below_first o x xs up)) in
+    (first_not_below R y x xs (h (one_below R y) ∙ none_below_first o y ys vp))
+    (first_not_below R x y ys (sym (h (one_below R x)) ∙ none_below_first o x xs up)) in
     let rest : xs ≡ ys = same_from_sums o exact xs ys up.1 vp.1
-        (λ f. let same : f x ≡ f y = ap f first in omega (arith, h f, sum_by-cons f x xs, sum_by-cons f y ys, same)) in cc
+    (λ f. let same : f x ≡ f y = ap f first in omega (arith, h f, sum_by-cons f x xs, sum_by-cons f y ys, same)) in cc
 
 -- ---- `in_order`
 
@@ -117,7 +118,7 @@ put_permutes row (other ∷ rows) =
     let turned : IsPermutation (row ∷ other ∷ rows) (other ∷ row ∷ rows) = IsPermutation-swap (row ∷ other ∷ rows) (other ∷ row ∷ rows) 0 1 (omega arith) (omega arith) refl in
     let onward : IsPermutation (row ∷ other ∷ rows) (other ∷ put_in_order row rows) = IsPermutation-trans _ (other ∷ row ∷ rows) _ turned (IsPermutation-cons other _ _ (put_permutes row rows)) in
     elim (row_cmp row other) as (λ o. IsPermutation (row ∷ other ∷ rows) (match_ordering o (row ∷ other ∷ rows) (row ∷ other ∷ rows) (other ∷ put_in_order row rows)))
-        [ Less ↦ IsPermutation-refl _ | Equal ↦ IsPermutation-refl _ | Greater ↦ onward ]
+    [ Less ↦ IsPermutation-refl _ | Equal ↦ IsPermutation-refl _ | Greater ↦ onward ]
 
 pub in_order_permutes : (rows : List (List Value)) → IsPermutation rows (in_order rows)
 in_order_permutes [] = IsPermutation-refl []
@@ -128,7 +129,7 @@ all_put P row [] here all = (here, tt)
 all_put P row (other ∷ rows) here all =
     let onward : AllByRecursion P (other ∷ put_in_order row rows) = (all.0, all_put P row rows here all.1) in
     elim (row_cmp row other) as (λ o. AllByRecursion P (match_ordering o (row ∷ other ∷ rows) (row ∷ other ∷ rows) (other ∷ put_in_order row rows)))
-        [ Less ↦ (here, all) | Equal ↦ (here, all) | Greater ↦ onward ]
+    [ Less ↦ (here, all) | Equal ↦ (here, all) | Greater ↦ onward ]
 
 none_below_before : {X : Type 0} {R : X → X → Ordering} → IsTotalOrder R → (x y : X) (ys : List X) → is_gt (R x y) ≡ false → NoneBelow R y ys → NoneBelow R x ys
 none_below_before o x y [] e h = tt
@@ -142,10 +143,10 @@ put_rises row [] up = (tt, tt)
 put_rises row (other ∷ rows) up =
     let before : is_gt (row_cmp row other) ≡ false → Rising row_cmp (row ∷ other ∷ rows) = λ e. ((e, none_below_before row_total row other rows e up.0), up) in
     let onward : row_cmp row other ≡ Greater → Rising row_cmp (other ∷ put_in_order row rows) = λ e.
-        (all_put (λ y. is_gt (row_cmp other y) ≡ false) row rows (turned_above row_total row other e) up.0, put_rises row rows up.1) in
+    (all_put (λ y. is_gt (row_cmp other y) ≡ false) row rows (turned_above row_total row other e) up.0, put_rises row rows up.1) in
     let at : (o : Ordering) → row_cmp row other ≡ o → Rising row_cmp (match_ordering o (row ∷ other ∷ rows) (row ∷ other ∷ rows) (other ∷ put_in_order row rows)) =
-        λ o. elim o as (λ o. row_cmp row other ≡ o → Rising row_cmp (match_ordering o (row ∷ other ∷ rows) (row ∷ other ∷ rows) (other ∷ put_in_order row rows)))
-        [ Less ↦ λ e. before (ap is_gt e) | Equal ↦ λ e. before (ap is_gt e) | Greater ↦ λ e. onward e ] in
+    λ o. elim o as (λ o. row_cmp row other ≡ o → Rising row_cmp (match_ordering o (row ∷ other ∷ rows) (row ∷ other ∷ rows) (other ∷ put_in_order row rows)))
+    [ Less ↦ λ e. before (ap is_gt e) | Equal ↦ λ e. before (ap is_gt e) | Greater ↦ λ e. onward e ] in
     at (row_cmp row other) refl
 
 in_order_rises : (rows : List (List Value)) → Rising row_cmp (in_order rows)
@@ -159,4 +160,4 @@ in_order_sorted rows = sorted_from_rising row_total (in_order rows) (in_order_ri
 pub is_in_order : (rows sorted : List (List Value)) → IsPermutation rows sorted → IsSorted row_cmp sorted → sorted ≡ in_order rows
 is_in_order rows sorted same up =
     same_from_sums row_total row_exact sorted (in_order rows) (rising_from_sorted row_total sorted up) (in_order_rises rows)
-        (λ f. sum_by-IsPermutation f rows sorted same ∙ sym (sum_by-IsPermutation f rows (in_order rows) (in_order_permutes rows)))
+    (λ f. sum_by-IsPermutation f rows sorted same ∙ sym (sum_by-IsPermutation f rows (in_order rows) (in_order_permutes rows)))

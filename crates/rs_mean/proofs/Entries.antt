@@ -1,5 +1,5 @@
 -- Entries of a map in order of keys.
-use Rattle.std.proofs.Common.{◌≡◌, ◌≢◌, List, [], ◌∷◌, Bool, true, false, cond, Option, Some, None, Ordering, Less, Equal, Greater, refl, sym, ap, ◌∙◌, is_eq}
+use Rattle.std.proofs.Common.{◌≡◌, ◌≢◌, List, [], ◌∷◌, false, cond, Some, None, Ordering, Less, Equal, Greater, refl, sym, ap, ◌∙◌, is_eq}
 use Rattle.std.specs.Cmp.{IsTotalOrder}
 use Rattle.std.specs.BTreeMap.{insert_entry, is_at}
 use Rattle.std.specs.List.{AllByRecursion}
@@ -13,7 +13,7 @@ use Rattle.std.proofs.lemmas.Map.Lookups.{CmpEqualImpliesEq}
 pub apart : {K : Type 0} {R : K → K → Ordering} → CmpEqualImpliesEq R → (x y : K) → x ≢ y → is_eq (R x y) ≡ false
 apart {K} {R} exact x y differ =
     let at : (r : Ordering) → R x y ≡ r → is_eq r ≡ false
-        = λ r. elim r as (λ r. R x y ≡ r → is_eq r ≡ false) [ Less ↦ λ h. refl | Equal ↦ λ h. absurd (differ (exact x y h)) | Greater ↦ λ h. refl ] in
+    = λ r. elim r as (λ r. R x y ≡ r → is_eq r ≡ false) [ Less ↦ λ h. refl | Equal ↦ λ h. absurd (differ (exact x y h)) | Greater ↦ λ h. refl ] in
     at (R x y) refl
 
 module _ {K X : Type 0} {R : K → K → Ordering} (o : IsTotalOrder R) (k : K) where
@@ -30,13 +30,13 @@ module _ {K X : Type 0} {R : K → K → Ordering} (o : IsTotalOrder R) (k : K) 
   set_value_is_insert_entry [] v w up found = cc
   set_value_is_insert_entry (e ∷ es) v w up found =
       let at : (r : Ordering) → R k e.0 ≡ r → cond (is_eq r) (Some e.1) (lookup (is_at (R k)) es) ≡ Some v
-          → cond (is_eq r) ((e.0, w) ∷ es) (e ∷ set_value (is_at (R k)) es w) ≡ match_ordering r ((k, w) ∷ e ∷ es) ((e.0, w) ∷ es) (e ∷ insert_entry R es k w)
-          = λ r. elim r as (λ r. R k e.0 ≡ r → cond (is_eq r) (Some e.1) (lookup (is_at (R k)) es) ≡ Some v
-          → cond (is_eq r) ((e.0, w) ∷ es) (e ∷ set_value (is_at (R k)) es w) ≡ match_ordering r ((k, w) ∷ e ∷ es) ((e.0, w) ∷ es) (e ∷ insert_entry R es k w)) [
-            Less ↦ λ h there. let absent : lookup (is_at (R k)) es ≡ None = lookup_below e.0 es h (sorted_head R e.0 (keys_of es) up) in cc
-          | Equal ↦ λ h there. refl
-          | Greater ↦ λ h there. ap (λ fs. e ∷ fs) (set_value_is_insert_entry es v w (sorted_tail R e.0 (keys_of es) up) there)
-          ] in
+      → cond (is_eq r) ((e.0, w) ∷ es) (e ∷ set_value (is_at (R k)) es w) ≡ match_ordering r ((k, w) ∷ e ∷ es) ((e.0, w) ∷ es) (e ∷ insert_entry R es k w)
+      = λ r. elim r as (λ r. R k e.0 ≡ r → cond (is_eq r) (Some e.1) (lookup (is_at (R k)) es) ≡ Some v
+      → cond (is_eq r) ((e.0, w) ∷ es) (e ∷ set_value (is_at (R k)) es w) ≡ match_ordering r ((k, w) ∷ e ∷ es) ((e.0, w) ∷ es) (e ∷ insert_entry R es k w)) [
+        | Less ↦ λ h there. let absent : lookup (is_at (R k)) es ≡ None = lookup_below e.0 es h (sorted_head R e.0 (keys_of es) up) in cc
+        | Equal ↦ λ h there. refl
+        | Greater ↦ λ h there. ap (λ fs. e ∷ fs) (set_value_is_insert_entry es v w (sorted_tail R e.0 (keys_of es) up) there)
+      ] in
       at (R k e.0) refl found
 
   module _ (v : X) where
@@ -45,11 +45,11 @@ module _ {K X : Type 0} {R : K → K → Ordering} (o : IsTotalOrder R) (k : K) 
     lookup_put [] = ap (λ r. cond (is_eq r) (Some v) None) (tied_itself o k)
     lookup_put (e ∷ es) =
         let at : (r : Ordering) → R k e.0 ≡ r → lookup (is_at (R k)) (match_ordering r ((k, v) ∷ e ∷ es) ((e.0, v) ∷ es) (e ∷ insert_entry R es k v)) ≡ Some v
-            = λ r. elim r as (λ r. R k e.0 ≡ r → lookup (is_at (R k)) (match_ordering r ((k, v) ∷ e ∷ es) ((e.0, v) ∷ es) (e ∷ insert_entry R es k v)) ≡ Some v) [
-              Less ↦ λ h. ap (λ s. cond (is_eq s) (Some v) (lookup (is_at (R k)) (e ∷ es))) (tied_itself o k)
-            | Equal ↦ λ h. ap (λ s. cond (is_eq s) (Some v) (lookup (is_at (R k)) es)) h
-            | Greater ↦ λ h. ap (λ s. cond (is_eq s) (Some e.1) (lookup (is_at (R k)) (insert_entry R es k v))) h ∙ lookup_put es
-            ] in
+        = λ r. elim r as (λ r. R k e.0 ≡ r → lookup (is_at (R k)) (match_ordering r ((k, v) ∷ e ∷ es) ((e.0, v) ∷ es) (e ∷ insert_entry R es k v)) ≡ Some v) [
+          | Less ↦ λ h. ap (λ s. cond (is_eq s) (Some v) (lookup (is_at (R k)) (e ∷ es))) (tied_itself o k)
+          | Equal ↦ λ h. ap (λ s. cond (is_eq s) (Some v) (lookup (is_at (R k)) es)) h
+          | Greater ↦ λ h. ap (λ s. cond (is_eq s) (Some e.1) (lookup (is_at (R k)) (insert_entry R es k v))) h ∙ lookup_put es
+        ] in
         at (R k e.0) refl
 
     -- each other key keeps its value
@@ -57,13 +57,13 @@ module _ {K X : Type 0} {R : K → K → Ordering} (o : IsTotalOrder R) (k : K) 
     lookup_beside q apart [] = ap (λ b. cond b (Some v) None) apart
     lookup_beside q apart (e ∷ es) =
         let at : (r : Ordering) → R k e.0 ≡ r → lookup (is_at (R q)) (match_ordering r ((k, v) ∷ e ∷ es) ((e.0, v) ∷ es) (e ∷ insert_entry R es k v)) ≡ lookup (is_at (R q)) (e ∷ es)
-            = λ r. elim r as (λ r. R k e.0 ≡ r → lookup (is_at (R q)) (match_ordering r ((k, v) ∷ e ∷ es) ((e.0, v) ∷ es) (e ∷ insert_entry R es k v)) ≡ lookup (is_at (R q)) (e ∷ es)) [
-              Less ↦ λ h. ap (λ b. cond b (Some v) (lookup (is_at (R q)) (e ∷ es))) apart
-            | Equal ↦ λ h.
-                let other : is_eq (R q e.0) ≡ false = ap is_eq (sym (alike_right o k e.0 q h)) ∙ apart in
-                ap (λ b. cond b (Some v) (lookup (is_at (R q)) es)) other ∙ sym (ap (λ b. cond b (Some e.1) (lookup (is_at (R q)) es)) other)
-            | Greater ↦ λ h. ap (λ found. cond (is_eq (R q e.0)) (Some e.1) found) (lookup_beside q apart es)
-            ] in
+        = λ r. elim r as (λ r. R k e.0 ≡ r → lookup (is_at (R q)) (match_ordering r ((k, v) ∷ e ∷ es) ((e.0, v) ∷ es) (e ∷ insert_entry R es k v)) ≡ lookup (is_at (R q)) (e ∷ es)) [
+          | Less ↦ λ h. ap (λ b. cond b (Some v) (lookup (is_at (R q)) (e ∷ es))) apart
+          | Equal ↦ λ h.
+              let other : is_eq (R q e.0) ≡ false = ap is_eq (sym (alike_right o k e.0 q h)) ∙ apart in
+              ap (λ b. cond b (Some v) (lookup (is_at (R q)) es)) other ∙ sym (ap (λ b. cond b (Some e.1) (lookup (is_at (R q)) es)) other)
+          | Greater ↦ λ h. ap (λ found. cond (is_eq (R q e.0)) (Some e.1) found) (lookup_beside q apart es)
+        ] in
         at (R k e.0) refl
 
     -- keys in order stay so
@@ -72,7 +72,7 @@ module _ {K X : Type 0} {R : K → K → Ordering} (o : IsTotalOrder R) (k : K) 
     all_keys_put P (e ∷ es) here all =
         let later : AllByRecursion P (keys_of (e ∷ insert_entry R es k v)) = (all.0, all_keys_put P es here all.1) in
         elim (R k e.0) as (λ r. AllByRecursion P (keys_of (match_ordering r ((k, v) ∷ e ∷ es) ((e.0, v) ∷ es) (e ∷ insert_entry R es k v))))
-            [ Less ↦ (here, all) | Equal ↦ all | Greater ↦ later ]
+        [ Less ↦ (here, all) | Equal ↦ all | Greater ↦ later ]
 
     all_above : (e : K) (ks : List K) → R k e ≡ Less → AllByRecursion (λ y. R e y ≡ Less) ks → AllByRecursion (λ y. R k y ≡ Less) ks
     all_above e [] h all = tt
@@ -83,9 +83,9 @@ module _ {K X : Type 0} {R : K → K → Ordering} (o : IsTotalOrder R) (k : K) 
     keys_stay_sorted [] up = (tt, tt)
     keys_stay_sorted (e ∷ es) up =
         let at : (r : Ordering) → R k e.0 ≡ r → IsStrictlySortedBy R (keys_of (match_ordering r ((k, v) ∷ e ∷ es) ((e.0, v) ∷ es) (e ∷ insert_entry R es k v)))
-            = λ r. elim r as (λ r. R k e.0 ≡ r → IsStrictlySortedBy R (keys_of (match_ordering r ((k, v) ∷ e ∷ es) ((e.0, v) ∷ es) (e ∷ insert_entry R es k v)))) [
-              Less ↦ λ h. ((h, all_above e.0 (keys_of es) h up.0), up)
-            | Equal ↦ λ h. up
-            | Greater ↦ λ h. (all_keys_put (λ y. R e.0 y ≡ Less) es (o.antisymm e.0 k ∙ ap ordering_reverse h) up.0, keys_stay_sorted es up.1)
-            ] in
+        = λ r. elim r as (λ r. R k e.0 ≡ r → IsStrictlySortedBy R (keys_of (match_ordering r ((k, v) ∷ e ∷ es) ((e.0, v) ∷ es) (e ∷ insert_entry R es k v)))) [
+          | Less ↦ λ h. ((h, all_above e.0 (keys_of es) h up.0), up)
+          | Equal ↦ λ h. up
+          | Greater ↦ λ h. (all_keys_put (λ y. R e.0 y ≡ Less) es (o.antisymm e.0 k ∙ ap ordering_reverse h) up.0, keys_stay_sorted es up.1)
+        ] in
         at (R k e.0) refl

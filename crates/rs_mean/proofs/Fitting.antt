@@ -1,5 +1,5 @@
 -- Two lists compared in place.
-use Rattle.std.proofs.Common.{◌≡◌, List, [], ◌∷◌, Bool, true, false, ◌&&◌, length, refl, ap, cond, arith}
+use Rattle.std.proofs.Common.{◌≡◌, List, [], ◌∷◌, Bool, ◌&&◌, length, refl, ap, arith}
 use Rattle.std.specs.List.{list_all, zip}
 use Rattle.std.specs.Cmp.Lexicographic.{pointwise}
 

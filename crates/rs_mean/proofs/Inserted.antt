@@ -1,7 +1,7 @@
 -- A table that INSERT changed, written back in its place.
-use Rattle.std.proofs.Common.{◌≡◌, List, ◌++◌, Bool, true, false, cond, Option, Some, None, Result, Ok, Err, length, refl, sym, ap, ◌∙◌, subst}
+use Rattle.std.proofs.Common.{◌≡◌, List, ◌++◌, true, false, cond, Some, Result, Ok, Err, length, sym, ap, ◌∙◌, subst}
 use Rattle.std.specs.Result.{IfOk, OnErr}
-use Rattle.std.specs.BTreeMap.{insert_entry, is_at}
+use Rattle.std.specs.BTreeMap.{is_at}
 use Rattle.std.specs.List.{list_all}
 use Rattle.std.specs.List.Sorted.{IsStrictlySortedBy}
 use Rattle.std.specs.Map.{lookup, set_value, keys_of}
@@ -34,9 +34,9 @@ module _ (name : Swn) (rows : List (List Value)) (es : List (Swn × Table)) (tab
       let changed : Outcome = done (answers.Changed (length rows)) in
       let wrong : Outcome = denied denials.WrongType in
       elim (list_all (fits_columns table.columns) rows) as (λ b. cond {A = Table × Outcome} b (longer, changed) (table, wrong) ≡ (w, outcome)
-          → cond {A = Database × Outcome} b (with_table name longer db, changed) (db, wrong) ≡ (written name es w, outcome)) [
-        true ↦ λ e. let first : with_table name longer db ≡ written name es w = sym put ∙ ap (λ t. written name es t) (λ i. (e i).0) in λ i. (first i, (e i).1)
-      | false ↦ λ e. let first : db ≡ written name es w = sym same ∙ ap (λ t. written name es t) (λ i. (e i).0) in λ i. (first i, (e i).1)
+      → cond {A = Database × Outcome} b (with_table name longer db, changed) (db, wrong) ≡ (written name es w, outcome)) [
+        | true ↦ λ e. let first : with_table name longer db ≡ written name es w = sym put ∙ ap (λ t. written name es t) (λ i. (e i).0) in λ i. (first i, (e i).1)
+        | false ↦ λ e. let first : db ≡ written name es w = sym same ∙ ap (λ t. written name es t) (λ i. (e i).0) in λ i. (first i, (e i).1)
       ]
 
   named : (db : Database) → record { tables = es } ≡ db → table_named name db ≡ Some table

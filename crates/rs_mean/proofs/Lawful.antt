@@ -1,11 +1,8 @@
 -- The laws, statement by statement.
-use Rattle.std.proofs.Common.{◌≡◌, ◌≢◌, List, [], ◌∷◌, ◌++◌, Bool, true, false, cond, Option, Some, None, Ok, Err, IsSome, length, refl, sym, ap, ◌∙◌, subst}
+use Rattle.std.proofs.Common.{◌≡◌, ◌≢◌, List, [], ◌∷◌, Bool, true, false, cond, Option, Some, None, Ok, Err, IsSome, length, refl, sym, ap, subst}
 use Rattle.std.specs.Option.{option_map}
-use Rattle.std.specs.BTreeMap.{insert_entry, is_at}
 use Rattle.std.specs.List.{list_all}
 use Rattle.std.specs.List.Sorted.{IsStrictlySortedBy}
-use Rattle.std.specs.Map.{lookup, keys_of}
-use Rattle.rs_base.specs.declared.name.NameText.{NameText}
 use Rattle.rs_base.specs.declared.name.Swn.{Swn}
 use Rattle.rs_base.specs.declared.txn.Txn.{Txn}
 use Rattle.rs_base.specs.declared.reply.Answer.{Answer}
@@ -13,17 +10,16 @@ use Rattle.rs_base.specs.declared.reply.Answer.TheVariants as answers
 use Rattle.rs_base.specs.declared.reply.Denial.{Denial}
 use Rattle.rs_base.specs.declared.reply.Denial.TheVariants as denials
 use Rattle.rs_base.specs.declared.value.Value.{Value}
-use Rattle.rs_base.specs.Name.{name_cmp, resolve}
+use Rattle.rs_base.specs.Name.{resolve}
 use Rattle.rs_ast.specs.declared.stmt.ColDef.{ColDef}
 use Rattle.rs_ast.specs.declared.stmt.Dml.TheVariants as dmls
 use Rattle.rs_ast.specs.declared.stmt.Stmt.{Stmt}
 use Rattle.rs_ast.specs.declared.stmt.Stmt.TheVariants as stmts
 use Rattle.rs_mean.specs.declared.execution.Execution.{Execution}
 use Rattle.rs_mean.specs.declared.table.Table.{Table}
-use Rattle.rs_mean.specs.Database.{Database, empty, table_named, with_table, IsInOrder}
-use Rattle.rs_mean.specs.Laws.{DeniedChangesNothing, NamesStayInOrder, AnswerIsInOrder, OthersStay, TableIsMade, RowsAreAppended, written_name, name_of, with_rows, after}
+use Rattle.rs_mean.specs.Database.{Database, table_named, with_table, IsInOrder}
+use Rattle.rs_mean.specs.Laws.{DeniedChangesNothing, NamesStayInOrder, AnswerIsInOrder, OthersStay, TableIsMade, RowsAreAppended, written_name, with_rows}
 use Rattle.rs_mean.specs.Meaning.{Outcome, done, denied, fits_columns, create, insert, select, meaning_of, meaning}
-use Rattle.rs_mean.specs.Sorting.{in_order}
 use Rattle.rs_mean.proofs.Arranged.{in_order_sorted, in_order_permutes}
 use Rattle.rs_mean.proofs.Entries.{apart, lookup_put, lookup_beside, keys_stay_sorted}
 use Rattle.rs_mean.proofs.Orders.{name_total, name_exact}
@@ -74,16 +70,16 @@ module _ (name : Swn) (rows : List (List Value)) (db : Database) where
   insert_beside other differ None = refl
   insert_beside other differ (Some table) =
       elim (all_fit table) as (λ b. table_named other (changed table b).0 ≡ table_named other db)
-        [ true ↦ lookup_beside name_total name (with_rows rows table) other (apart name_exact other name differ) db.tables | false ↦ refl ]
+      [ true ↦ lookup_beside name_total name (with_rows rows table) other (apart name_exact other name differ) db.tables | false ↦ refl ]
 
   insert_appends : (found : Option Table) (given : List Answer) → (insert name rows db found).1 ≡ Ok given
       → (given ≡ answers.Changed (length rows) ∷ []) × IsSome found × (table_named name (insert name rows db found).0 ≡ option_map (with_rows rows) found)
   insert_appends None given = λ e. absurd cc
   insert_appends (Some table) given =
       elim (all_fit table) as (λ b. (changed table b).1 ≡ Ok given
-        → (given ≡ answers.Changed (length rows) ∷ []) × IsSome (Some table) × (table_named name (changed table b).0 ≡ Some (with_rows rows table))) [
-        true ↦ λ e. (cc, refl, lookup_put name_total name (with_rows rows table) db.tables)
-      | false ↦ λ e. absurd cc
+      → (given ≡ answers.Changed (length rows) ∷ []) × IsSome (Some table) × (table_named name (changed table b).0 ≡ Some (with_rows rows table))) [
+        | true ↦ λ e. (cc, refl, lookup_put name_total name (with_rows rows table) db.tables)
+        | false ↦ λ e. absurd cc
       ]
 
 -- ---- SELECT
@@ -135,7 +131,7 @@ unfolding meaning
 table_is_made db execution written columns given is e =
     let name : Swn = resolve written execution.user execution.site in
     let Claim : Stmt → Type 0 = λ stmt. (meaning_of db execution stmt).1 ≡ Ok given → (given ≡ answers.Ok ∷ []) × (table_named (stated_name execution stmt) db ≡ None)
-        × (table_named (stated_name execution stmt) (meaning_of db execution stmt).0 ≡ Some (made execution.txn (stated_name execution stmt) columns)) in
+    × (table_named (stated_name execution stmt) (meaning_of db execution stmt).0 ≡ Some (made execution.txn (stated_name execution stmt) columns)) in
     let claim : Claim (stmts.CreateTable written columns) = create_makes execution.txn name columns db (table_named name db) given in
     subst Claim (sym is) claim e
 
@@ -144,7 +140,7 @@ unfolding meaning
 rows_are_appended db execution written rows given is e =
     let name : Swn = resolve written execution.user execution.site in
     let Claim : Stmt → Type 0 = λ stmt. (meaning_of db execution stmt).1 ≡ Ok given → (given ≡ answers.Changed (length rows) ∷ [])
-        × IsSome (table_named (stated_name execution stmt) db)
-        × (table_named (stated_name execution stmt) (meaning_of db execution stmt).0 ≡ option_map (with_rows rows) (table_named (stated_name execution stmt) db)) in
+    × IsSome (table_named (stated_name execution stmt) db)
+    × (table_named (stated_name execution stmt) (meaning_of db execution stmt).0 ≡ option_map (with_rows rows) (table_named (stated_name execution stmt) db)) in
     let claim : Claim (stmts.Dml (dmls.Insert written rows)) = insert_appends name rows db (table_named name db) given in
     subst Claim (sym is) claim e

@@ -1,5 +1,5 @@
 -- The orders of values, rows and names are total, and only equal ones tie.
-use Rattle.std.proofs.Common.{◌≡◌, ℕ, List, [], ◌∷◌, Ordering, Less, Equal, Greater, refl, sym, ap, ◌∙◌, nat_cmp, int_cmp, rules}
+use Rattle.std.proofs.Common.{◌≡◌, [], ◌∷◌, Ordering, Less, Equal, Greater, refl, ap, nat_cmp}
 use Rattle.std.specs.Cmp.{IsTotalOrder}
 use Rattle.std.specs.Cmp.Lexicographic.{slice_cmp}
 use Rattle.std.specs.Ordering.{ordering_then, ordering_reverse}

@@ -14,7 +14,13 @@ use std::alloc::Global;
 
 impl Database {
     /// Stores a table without rows at its birth site. It is denied where a table has the name.
-    pub(crate) fn create(&mut self, alloc: Global, txn: Txn, name: Swn, columns: ColDefs) -> Result<Outcome, NoMemory>
+    pub(crate) fn create(
+        &mut self,
+        alloc: Global,
+        txn: Txn,
+        name: Swn,
+        columns: ColDefs,
+    ) -> Result<Outcome, NoMemory>
         ensures ok { IfOk result (λ outcome. spec.create txn name columns self.old (table_named name self.old) ≡ (self.new, outcome)) }
         ensures err { OnErr result (self.new ≡ self.old) }
     {

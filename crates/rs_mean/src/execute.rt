@@ -23,8 +23,17 @@ impl Database {
             stmt,
         } = execution;
         match stmt {
-            Stmt::CreateTable { name, columns } => self.create(alloc, txn, name.resolve(user, site), columns),
-            Stmt::Dml(Dml::Insert { name, rows }) => self.insert(alloc, &name.resolve(user, site), rows),
+            Stmt::CreateTable { name, columns } => self.create(
+                alloc,
+                txn,
+                name.resolve(user, site),
+                columns,
+            ),
+            Stmt::Dml(Dml::Insert { name, rows }) => self.insert(
+                alloc,
+                &name.resolve(user, site),
+                rows,
+            ),
             Stmt::Dml(Dml::Select(query)) => self.select(alloc, &query.from.resolve(user, site)),
         }
     }

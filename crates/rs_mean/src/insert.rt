@@ -28,7 +28,9 @@ fn fits_column(value: &Value, column: &ColDef) -> bool
 fn each_fits(columns: &[ColDef], row: &[Value]) -> bool
     ensures { result ≡ list_all (λ both. spec.fits_column both.0 both.1) (zip row.now columns.now) }
 {
-    row.iter().zip(columns).all(|(value, column)| fits_column(value, column))
+    row.iter()
+        .zip(columns)
+        .all(|(value, column)| fits_column(value, column))
 }
 
 fn fits_columns(columns: &[ColDef], row: &[Value]) -> bool
@@ -74,7 +76,12 @@ impl Table {
 impl Database {
     /// Appends the rows, in their order, in time proportional to them and to a look-up. It is denied as a whole where
     /// no table has the name, or where a row doesn't fit.
-    pub(crate) fn insert(&mut self, alloc: Global, name: &Swn, rows: Rows) -> Result<Outcome, NoMemory>
+    pub(crate) fn insert(
+        &mut self,
+        alloc: Global,
+        name: &Swn,
+        rows: Rows,
+    ) -> Result<Outcome, NoMemory>
         ensures ok { IfOk result (λ outcome. spec.insert name.now rows self.old (table_named name.now self.old) ≡ (self.new, outcome)) }
         ensures err { OnErr result (self.new ≡ self.old) }
     {

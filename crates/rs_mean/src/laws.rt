@@ -6,31 +6,26 @@ ghost use Rattle.rs_mean.specs.Laws.{AnswerIsInOrder, DeniedChangesNothing, Name
 /// A denied execution changes nothing.
 pub fn denied_changes_nothing()
     ensures { DeniedChangesNothing }
-{
-}
+{}
 
 /// Each name stands once, and the names rise, at first and after each execution.
 pub fn names_stay_in_order()
     ensures { NamesStayInOrder }
-{
-}
+{}
 
 /// Rows in order are in order, and the same rows, each as often.
 pub fn answer_is_in_order()
     ensures { AnswerIsInOrder }
-{
-}
+{}
 
 /// A statement touches no table but its own.
 pub fn others_stay()
     ensures { OthersStay }
-{
-}
+{}
 
 /// After a CREATE TABLE or an INSERT that was done, its name has the table made, or the table that it had with the rows
 /// at its end.
 pub fn rows_are_appended()
     ensures made { TableIsMade }
     ensures appended { RowsAreAppended }
-{
-}
+{}

@@ -6,7 +6,7 @@ mod database;
 mod execute;
 mod execution;
 mod insert;
-pub mod laws;
+mod laws;
 mod select;
 mod sorting;
 mod stored_rows;
@@ -14,6 +14,12 @@ mod table;
 
 pub use database::Database;
 pub use execution::{Execution, Outcome};
+pub use laws::{
+    answer_is_in_order, denied_changes_nothing, names_stay_in_order, others_stay, rows_are_appended,
+};
 pub use sorting::rows_in_order;
 pub use stored_rows::StoredRows;
 pub use table::Table;
+
+#[cfg(test)]
+mod tests;

@@ -1,8 +1,5 @@
-use Rattle.std.proofs.Common.{◌≡◌, List, ap, ◌∙◌, is_lt, rules, subst}
-use Rattle.std.specs.List.Sorted.{IsPermutation, IsSorted}
+use Rattle.std.proofs.Common.{◌∙◌, rules}
 use Rattle.std.proofs.lemmas.List.Sorted.{ranks_by, answers_always}
-use Rattle.rs_base.specs.declared.value.Value.{Value}
-use Rattle.rs_base.specs.Value.{row_cmp}
 use Rattle.rs_mean.proofs.Orders.{row_total}
 use Rattle.rs_mean.proofs.Arranged.{is_in_order}
 use Rattle.rs_mean.proofs.sorting.rows_in_order.Goals as goal
