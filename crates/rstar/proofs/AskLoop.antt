@@ -20,6 +20,7 @@ at_turn n i lt = omega arith
 
 pub asks-more : (before : List Ask) (n i : ℕ) (bytes rest : List ℕ) (ask : Ask) (total : Option (List Ask)) → i < n → is_end bytes ≡ false → ask_at before bytes ≡ Some (ask, rest)
     → with_asks before (asks_within (n - i) before bytes) ≡ total → with_asks (before ++ ask ∷ []) (asks_within (n - (i + 1)) (before ++ ask ∷ []) rest) ≡ total
+unfolding asks_within
 asks-more before n i bytes rest ask total lt more read so_far =
     let one : asks_within (suc (n - (i + 1))) before bytes ≡ (asks_within (n - (i + 1)) (before ++ ask ∷ []) rest >>= λ others. Some (ask ∷ others)) = rw (more, read) refl in
     sym (regroup before ask (asks_within (n - (i + 1)) (before ++ ask ∷ []) rest))
@@ -28,6 +29,7 @@ asks-more before n i bytes rest ask total lt more read so_far =
     ∙ so_far
 
 pub asks-end : (before : List Ask) (k : ℕ) (bytes : List ℕ) (total : Option (List Ask)) → is_end bytes ≡ true → with_asks before (asks_within k before bytes) ≡ total → total ≡ Some before
+unfolding asks_within
 asks-end before zero bytes total end so_far =
     let one : asks_within zero before bytes ≡ Some [] = rw end refl in
     sym so_far ∙ ap (with_asks before) one ∙ ap (λ (all : List Ask). Some all) (append-nil before)
@@ -37,13 +39,23 @@ asks-end before (suc k) bytes total end so_far =
 
 pub asks-fail : (fault : ReadFault) (before : List Ask) (n i : ℕ) (bytes : List ℕ) (total : Option (List Ask)) → i < n → is_end bytes ≡ false → Fails fault (ask_at before bytes)
     → with_asks before (asks_within (n - i) before bytes) ≡ total → Fails fault total
+unfolding asks_within
 asks-fail faults.Malformed before n i bytes total lt more fails so_far =
     let one : asks_within (suc (n - (i + 1))) before bytes ≡ None = rw (more, fails) refl in
     sym so_far ∙ ap (λ (k : ℕ). with_asks before (asks_within k before bytes)) (at_turn n i lt) ∙ ap (with_asks before) one
 asks-fail faults.NoMemory before n i bytes total lt more fails so_far = tt
 
 pub asks-too_many : (before : List Ask) (n i : ℕ) (bytes : List ℕ) (total : Option (List Ask)) → n ≤ i → is_end bytes ≡ false → with_asks before (asks_within (n - i) before bytes) ≡ total → total ≡ None
+unfolding asks_within
 asks-too_many before n i bytes total le more so_far =
     let none_left : n - i ≡ 0 = omega arith in
     let one : asks_within zero before bytes ≡ None = rw more refl in
     sym so_far ∙ ap (λ (k : ℕ). with_asks before (asks_within k before bytes)) none_left ∙ ap (with_asks before) one
+
+-- nothing was read yet
+pub asks-none : (asks : List Ask) (read : List Ask → Option (List Ask)) → asks ≡ [] → with_asks asks (read asks) ≡ read []
+asks-none asks read none = ap (λ (before : List Ask). with_asks before (read before)) none ∙ same (read [])
+  where
+    same : (found : Option (List Ask)) → with_asks [] found ≡ found
+    same None = refl
+    same (Some others) = refl

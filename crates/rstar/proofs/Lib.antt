@@ -1,4 +1,5 @@
 pub mod AskLoop
+pub mod Columns
 pub mod ExplainsLaw
 pub mod Fronts
 pub mod Gets
@@ -6,3 +7,4 @@ pub mod Places
 pub mod SourceLaws
 pub mod SourceParts
 pub mod Statements
+pub mod ReplayWord

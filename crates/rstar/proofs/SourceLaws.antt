@@ -155,6 +155,7 @@ ask_is before bytes x e =
     same_ask before bytes (ask_of before user.0.0 text.0.0) settle.0 x settle.2 (ask_of_right before user.0.0 text.0.0 user_right.0 text_right.0, parts)
 
 asks_are : (n : ℕ) (before : List Ask) (bytes : List ℕ) (asks : List Ask) → asks_within n before bytes ≡ Some asks → Within n before bytes asks
+unfolding asks_within
 asks_are zero before bytes asks e =
     let last = chosen (is_end bytes) (Some []) asks e in
     within_end zero before bytes asks last.0 last.1
@@ -196,6 +197,7 @@ ask_again before ask rest h =
     (ask_of_again before ask.origin.user ask.text rest h.user h.text)
 
 asks_again : (n : ℕ) (before asks : List Ask) (end : List ℕ) → length asks ≤ n → AreAsks before asks → IsLastEnd end → asks_within n before (flat_map ask_lines asks ++ end) ≡ Some asks
+unfolding asks_within
 asks_again zero before [] end few right last = rw (is_end_again end last) refl
 asks_again (suc n) before [] end few right last = rw (is_end_again end last) refl
 asks_again zero before (ask ∷ asks) end few right last = absurd (omega arith)

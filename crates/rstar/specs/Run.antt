@@ -2,6 +2,7 @@
 use Rattle.std.specs.Prelude.{◌≡◌, ℕ, ◌≤◌, List, [], ◌∷◌, map, length, take, codes, string_bytes, Option, Some, None, IfSome, ◌⊎◌, ⊤}
 use Rattle.std.specs.Io.KnownBytes.{Appends, IsAtEnd, Keeps}
 use Rattle.std.specs.Prelude.{String}
+use Rattle.std.specs.declared.alloc.Global.{Global}
 use Rattle.rs_base.specs.Streams.{AppendsFront}
 use Rattle.rstar.specs.declared.ask.Ask.{Ask}
 use Rattle.rstar.specs.declared.report.Report.{Report}
@@ -12,7 +13,7 @@ use Rattle.rstar.specs.ReportText.{printed_report}
 use Rattle.rstar.specs.Source.{IsSource}
 
 -- the one word `replay`
-abbrev pub IsReplay : List String → Type 0
+abbrev pub IsReplay : List (String Global) → Type 0
 IsReplay words = map string_bytes words ≡ codes "replay" ∷ []
 
 -- how many bytes a run reads at most: one more than a source has
@@ -36,11 +37,11 @@ abbrev pub OwesReplay : List ℕ → List ℕ → Type 0
 OwesReplay bytes text = Reports bytes text ⊎ (IsNoSource bytes × (text ≡ codes "later\n"))
 
 -- What is to be written by these words over a source with these bytes left, where it tells them.
-abbrev pub Owes : List String → Option (List ℕ) → List ℕ → Type 0
+abbrev pub Owes : List (String Global) → Option (List ℕ) → List ℕ → Type 0
 Owes words left text = (IsReplay words × IfSome left (λ bytes. OwesReplay (take most_read bytes) text)) ⊎ ((IsReplay words → ⊥) × (text ≡ codes "usage\n"))
 
 -- A front of what is to be written was written, or nothing.
-abbrev pub WritesFront : List String → Option (List ℕ) → Option (List ℕ) → Option (List ℕ) → Type 0
+abbrev pub WritesFront : List (String Global) → Option (List ℕ) → Option (List ℕ) → Option (List ℕ) → Type 0
 WritesFront words left old new = ((text : List ℕ) × Owes words left text × AppendsFront old new text) ⊎ Keeps old new
 
 -- The report of the bytes that were left was written.
@@ -75,7 +76,7 @@ FoundIn bytes findings.Usage text = ⊥
 FoundIn bytes findings.Later text = IsNoSource bytes × (text ≡ codes "later\n")
 
 -- what is to be written by these words, over a source with these bytes left, and after it was read
-abbrev pub Finds : List String → Option (List ℕ) → Option (List ℕ) → Finding → List ℕ → Type 0
+abbrev pub Finds : List (String Global) → Option (List ℕ) → Option (List ℕ) → Finding → List ℕ → Type 0
 Finds words left after findings.Reported text = IsReplay words × IsAtEnd after × IfSome left (λ bytes. Reports bytes text)
 Finds words left after findings.Usage text = (IsReplay words → ⊥) × (text ≡ codes "usage\n")
 Finds words left after findings.Later text = IsReplay words × ReadsNoSource left × (text ≡ codes "later\n")

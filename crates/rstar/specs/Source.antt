@@ -13,10 +13,14 @@ use Rattle.rstar.specs.declared.ask.Ask.{Ask}
 abbrev pub asked_by : List ℕ → List Ask → ℕ
 asked_by user asks = count_by (λ ask. bytes_eq ask.origin.user user) asks
 
+-- one of the columns has this name
+abbrev pub has_name : List ColDef → List ℕ → Bool
+has_name columns name = list_any (λ column. bytes_eq column.name name) columns
+
 -- no two columns have one name
 abbrev pub names_differ : List ColDef → Bool
 names_differ [] = true
-names_differ (column ∷ columns) = not (list_any (λ other. bytes_eq other.name column.name) columns) && names_differ columns
+names_differ (column ∷ columns) = not (has_name columns column.name) && names_differ columns
 
 -- the statement names no column twice
 abbrev pub names_columns_once : Stmt → Bool

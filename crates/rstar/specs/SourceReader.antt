@@ -59,7 +59,7 @@ is_end (b ∷ []) = b == 10
 is_end (b ∷ c ∷ bytes) = false
 
 -- at most so many asks, behind those before, up to the end
-abbrev pub asks_within : ℕ → List Ask → List ℕ → Option (List Ask)
+unfoldable pub asks_within : ℕ → List Ask → List ℕ → Option (List Ask)
 asks_within zero before bytes = if is_end bytes then Some [] else None
 asks_within (suc n) before bytes =
     if is_end bytes then Some []

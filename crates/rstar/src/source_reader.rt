@@ -2,7 +2,7 @@
 
 ghost use Rattle.std.specs.Prelude.{◌≡◌, ◌≤◌, [], length, IfOk};
 ghost use Rattle.rs_base.specs.Reading.{Gives, Reads};
-ghost use Rattle.rstar.specs.Source.{asked_by, names_differ, names_columns_once};
+ghost use Rattle.rstar.specs.Source.{asked_by, has_name, names_differ, names_columns_once};
 ghost use Rattle.rstar.specs.SourceReader as spec;
 
 use crate::ask::Ask;
@@ -16,15 +16,25 @@ use std::alloc::Global;
 /// How many bytes a source has at most.
 pub const MOST_BYTES: usize = 16_777_216;
 
+/// How many asks a source has at most.
+const MOST_ASKS: usize = 200;
+
+fn has_name(columns: &[ColDef], name: Ident) -> bool
+    ensures { result ≡ has_name columns.now name }
+{
+    columns.iter().any(|column| column.name == name)
+}
+
 fn names_differ(columns: &[ColDef]) -> bool
     ensures { result ≡ names_differ columns.now }
 {
-    match columns {
-        [] => true,
-        [first, others @ ..] => {
-            !others.iter().any(|other| other.name == first.name) && names_differ(others)
-        }
+    let [first, others @ ..] = columns else {
+        return true;
+    };
+    if has_name(others, first.name) {
+        return false;
     }
+    names_differ(others)
 }
 
 fn names_columns_once(stmt: &Stmt) -> bool
@@ -113,7 +123,7 @@ fn asks(alloc: Global, cursor: &mut Cursor<'_>) -> Result<Vec<Ask>, ReadFault>
     ensures { Gives (λ asks. asks.items) result (spec.asks_within 200 [] cursor.old) }
 {
     let mut asks = Vec::new(alloc);
-    for _ in 0..200 {
+    for _ in 0..MOST_ASKS {
         if cursor.is_at_end() {
             return Ok(asks);
         }

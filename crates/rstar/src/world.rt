@@ -1,12 +1,12 @@
 //! What happened so far.
 
-ghost use Rattle.std.specs.Prelude.{◌≡◌, OnOk, IfOk};
+ghost use Rattle.std.specs.Prelude.{◌≡◌, ◌+◌, length, OnOk, IfOk};
 ghost use Rattle.rstar.specs.Course as spec;
 
 use crate::ask::Ask;
 use crate::report::{Entry, Given, Report, SiteView};
 use rs_ast::Stmt;
-use rs_base::{NoMemory, Reply, SiteNo, Txn};
+use rs_base::{NoMemory, Origin, Reply, SiteNo, Txn};
 use rs_mean::{Database, Execution, Outcome};
 use rs_parse::{ParseFault, parse};
 use sqlite_items::Items;
@@ -29,6 +29,17 @@ fn reply_of(outcome: Outcome) -> Reply
     }
 }
 
+fn execution_of(txn: &Txn, origin: &Origin, stmt: Stmt) -> Execution
+    ensures { result ≡ record { txn = txn.now; user = origin.now.user; site = origin.now.site; stmt = stmt } }
+{
+    Execution {
+        txn: *txn,
+        user: origin.user,
+        site: origin.site,
+        stmt,
+    }
+}
+
 impl World {
     /// The world before the first ask.
     pub fn new(alloc: Global) -> World
@@ -41,24 +52,25 @@ impl World {
         }
     }
 
-    fn answer(&mut self, alloc: Global, ask: Ask, stmt: Stmt) -> Result<(), NoMemory>
-        ensures { OnOk result (self.new ≡ spec.answered self.old ask stmt) }
+    /// The transaction of the next entry. There is no room for an entry whose number no transaction can have.
+    fn next_txn(&self, origin: &Origin) -> Result<Txn, NoMemory>
+        ensures { IfOk result (λ txn. txn ≡ record { site = origin.now.site; epoch = origin.now.epoch;
+            number = length self.now.history + 1 }) }
     {
-        let Ask { origin, text } = ask;
-        // There is no room for an entry whose number no transaction can have.
         let number = (self.history.len() as u64).checked_add(1).ok_or(NoMemory)?;
-        let txn = Txn {
+        Ok(Txn {
             site: origin.site,
             epoch: origin.epoch,
             number,
-        };
-        let execution = Execution {
-            txn,
-            user: origin.user,
-            site: origin.site,
-            stmt,
-        };
-        let outcome = self.database.execute(alloc, execution)?;
+        })
+    }
+
+    fn answer(&mut self, alloc: Global, ask: Ask, stmt: Stmt) -> Result<(), NoMemory>
+        ensures { OnOk result (self.new ≡ spec.answered self.old ask stmt) }
+    {
+        let txn = self.next_txn(&ask.origin)?;
+        let Ask { origin, text } = ask;
+        let outcome = self.database.execute(alloc, execution_of(&txn, &origin, stmt))?;
         let given = Given {
             to: origin,
             reply: reply_of(outcome),
