@@ -44,7 +44,11 @@ fn read(alloc: Global, text: &[u8]) -> Result<Stmt, ParseFault>
     Ok(statement::request(alloc, &mut Cursor::new(tokens.as_slice()))?)
 }
 
-/// The statement that a text spells. (The place of a Syntax is 0 for now.)
+/// The statement that a text spells: a CREATE TABLE of at most 16 columns, an INSERT of tuples of at most 16 values, or a
+/// SELECT of all of a table, and a semicolon or none behind it. Words are read in either case.
+///
+/// `Syntax` says that no request has this text (its place is 0 for now), `NoMemory` nothing of the text. The time goes with
+/// the length of the text.
 pub fn parse(alloc: Global, text: &[u8]) -> Result<Stmt, ParseFault>
     // What is read is spelled so.
     ensures found { IfOk result (λ stmt. Spells text.now stmt) }
