@@ -4,6 +4,7 @@ pub mod ExplainsLaw
 pub mod Fronts
 pub mod Gets
 pub mod Places
+pub mod RunLaws
 pub mod SourceLaws
 pub mod SourceParts
 pub mod Statements

@@ -1,6 +1,6 @@
 //! The program's work, from its words, source and sink to its status.
 
-ghost use Rattle.std.specs.Prelude.{◌≡◌, ◌≢◌, ◌≤◌, ◌⊎◌, codes, IfOk, IfErr, IsTrue, ◌↔◌};
+ghost use Rattle.std.specs.Prelude.{◌≡◌, ◌≢◌, ◌≤◌, ◌⊎◌, codes, IfOk, IfErr, IsErrOf, IsTrue, ◌↔◌};
 ghost use Rattle.std.specs.Io.KnownBytes.{Appends, IsAtEnd, Keeps};
 ghost use Rattle.rs_base.specs.Faults.{Rises, CountsFault};
 ghost use Rattle.rs_base.specs.Streams.{ConsumesAtMost};
@@ -71,6 +71,7 @@ fn find_in(alloc: Global, bytes: &[u8]) -> Result<Owed, Fault>
 
 fn find_owed<S: Source>(alloc: Global, words: &[String], source: &mut S) -> Result<Owed, Fault>
     ensures found { IfOk result (λ owed. spec.Finds words.now (S.left source.old) (S.left source.new) owed.finding owed.text) }
+    ensures replay { IsErrOf result Fault.Failed → spec.IsReplay words.now }
     ensures faults { CountsFault result (S.faults source.old) (S.faults source.new) }
     ensures reads { ConsumesAtMost spec.most_read (S.left source.old) (S.left source.new) }
 {
