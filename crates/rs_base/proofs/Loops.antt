@@ -1,7 +1,6 @@
 -- Loops that build a list in front of what is still to be read. At such a loop the invariant is
 -- `with_front found (read rest) ≡ read whole`.
-use Rattle.std.proofs.Common.{◌≡◌, ℕ, zero, suc, ◌+◌, ◌-◌, ◌<◌, ◌≤◌, Bool, true, false, List, [], ◌∷◌, ◌++◌, drop, Option, Some, None, refl, sym, ap, ◌∙◌, append_assoc, arith}
-use Rattle.std.proofs.lemmas.List.{append-nil}
+use Rattle.std.proofs.Common.{◌≡◌, ℕ, zero, suc, Bool, true, false, List, [], ◌∷◌, ◌++◌, drop, Option, Some, None, refl, sym, ap, ◌∙◌, append_assoc}
 use Rattle.rs_base.specs.declared.fault.ReadFault.{ReadFault}
 use Rattle.rs_base.specs.declared.fault.ReadFault.TheVariants as faults
 use Rattle.rs_base.specs.Reading.{◌>>=◌, Fails, with_front, push_first, separated}

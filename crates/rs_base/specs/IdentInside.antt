@@ -1,6 +1,6 @@
 -- How an identifier lies in its array: its bytes, and zeros after them.
 use Rattle.std.specs.Prelude.{◌≡◌, ℕ, ◌-◌, ◌≤◌, List, ◌++◌, length, take, drop, replicate, IsTrue}
-use Rattle.std.proofs.Common.{sym, ◌∙◌, ap, arith}
+use Rattle.std.proofs.Common.{◌∙◌, ap, arith}
 use Rattle.std.proofs.lemmas.List.{length-take, take-append-drop}
 use Rattle.rs_base.specs.declared.ident.Ident.TheInside.{Inside}
 use Rattle.rs_base.specs.Ident.{is_ident}

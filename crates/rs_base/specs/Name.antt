@@ -1,5 +1,5 @@
 -- Names, what a text's name stands for, and the order of names.
-use Rattle.std.specs.Prelude.{ℕ, Bool, true, false, List, Option, Some, None, unwrap_or}
+use Rattle.std.specs.Prelude.{ℕ, List, Option, Some, None, unwrap_or}
 use Rattle.std.specs.Ordering.{nat_cmp, ordering_then}
 use Rattle.std.specs.Cmp.Lexicographic.{slice_cmp}
 use Rattle.std.specs.declared.cmp.Ordering.{Ordering}
@@ -25,7 +25,7 @@ resolve text user asked = record {
   creator = creator_of text user;
   creator_site = site_of_creator text.creator text.creator_site asked;
   object = text.object;
-  birth = unwrap_or text.birth asked
+  birth = unwrap_or text.birth asked;
 }
 
 -- names by their fields in order: identifiers by bytes, sites by number

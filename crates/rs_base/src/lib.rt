@@ -30,7 +30,9 @@ pub use ident::{Ident, is_name_byte};
 pub use mem_sink::MemSink;
 pub use mem_source::MemSource;
 pub use name::{NameText, Swn};
-pub use print::{print_number, print_origin, print_reply, print_row, print_swn, print_txn, print_value};
+pub use print::{
+    print_number, print_origin, print_reply, print_row, print_swn, print_txn, print_value,
+};
 pub use read_all::read_to_end;
 pub use reply::{Answer, Answers, Denial, Reply};
 pub use sink::Sink;

@@ -73,7 +73,12 @@ pub fn print_origin(alloc: Global, origin: &Origin, out: &mut Bytes) -> Result<(
 }
 
 /// Prints a reply: a line with the request and the class of the reply, then the lines of its answers.
-pub fn print_reply(alloc: Global, to: &Origin, reply: &Reply, out: &mut Bytes) -> Result<(), NoMemory>
+pub fn print_reply(
+    alloc: Global,
+    to: &Origin,
+    reply: &Reply,
+    out: &mut Bytes,
+) -> Result<(), NoMemory>
     ensures ok { OnOk result (out.new ≡ out.old ++ spec.printed_reply to.now reply.now) }
     ensures err { OnErr result (out.new ≡ out.old) }
 {

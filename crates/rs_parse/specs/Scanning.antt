@@ -5,11 +5,6 @@ use Rattle.rs_base.specs.Reading.{◌>>=◌, Fails}
 use Rattle.rs_parse.specs.declared.token.Token.{Token}
 use Rattle.rs_parse.specs.Tokens.{token_at, tokens_behind}
 
--- `Reads` where what is read has no value: what is left behind it
-abbrev pub Passes : {X R : Type 0} → Option R → Result X ReadFault → R → Type 0
-Passes read (Ok x) new = read ≡ Some new
-Passes read (Err e) new = Fails e read
-
 -- the token that stands at the front
 unfoldable pub token_here : List ℕ → Option (Token × List ℕ)
 token_here [] = None

@@ -1,8 +1,7 @@
 //! A place in a list of tokens.
 
 ghost use Rattle.std.specs.Prelude.{◌≡◌, drop, length, if◌then◌else◌};
-ghost use Rattle.rs_base.specs.Reading.{Reads};
-ghost use Rattle.rs_parse.specs.Scanning.{Passes};
+ghost use Rattle.rs_base.specs.Reading.{Reads, Passes};
 ghost use Rattle.rs_parse.specs.Marks as marks;
 ghost use Rattle.rs_parse.specs.Reader as spec;
 
