@@ -127,16 +127,16 @@ module _ (asks : List Ask) (world : World) (ask : Ask) (stmt : Stmt) (is : IsAsk
   answers_next i e given at_entry at_reply =
       elim (get_push world.history entry e i at_entry) [
         | inl p ↦ elim (get_push world.replies given_next given i at_reply) [
-            | inl r ↦ subst (λ (h : List Entry). IsAnswer h e given) (sym (before_next i (omega (arith, p.0)))) (holds.answers i e given p.1 r.1)
-            | inr r ↦ absurd (omega (arith, p.0, r.0, holds.as_many))
-          ]
+          | inl r ↦ subst (λ (h : List Entry). IsAnswer h e given) (sym (before_next i (omega (arith, p.0)))) (holds.answers i e given p.1 r.1)
+          | inr r ↦ absurd (omega (arith, p.0, r.0, holds.as_many))
+        ]
         | inr p ↦ elim (get_push world.replies given_next given i at_reply) [
-            | inl r ↦ absurd (omega (arith, p.0, r.0, holds.as_many))
-            | inr r ↦
-                let whole : take i next.history ≡ world.history = before_next i (omega (arith, p.0)) ∙ take_all i world.history (omega (arith, p.0)) in
-                subst (λ (h : List Entry). IsAnswer h e given) (sym whole)
-                  (subst (λ (x : Entry). IsAnswer world.history x given) p.1 (subst (λ (g : Given). IsAnswer world.history entry g) r.1 answer_next))
-          ]
+          | inl r ↦ absurd (omega (arith, p.0, r.0, holds.as_many))
+          | inr r ↦
+              let whole : take i next.history ≡ world.history = before_next i (omega (arith, p.0)) ∙ take_all i world.history (omega (arith, p.0)) in
+              subst (λ (h : List Entry). IsAnswer h e given) (sym whole)
+              (subst (λ (x : Entry). IsAnswer world.history x given) p.1 (subst (λ (g : Given). IsAnswer world.history entry g) r.1 answer_next))
+        ]
       ]
 
   low_txns_next : (i : ℕ) (e : Entry) → slice_get next.history i ≡ Some e → e.txn.number ≤ length next.history
@@ -155,17 +155,18 @@ module _ (asks : List Ask) (world : World) (ask : Ask) (stmt : Stmt) (is : IsAsk
 
   -- an entry of before has another transaction and another request than the new one
   apart : (i : ℕ) (a : Entry) → slice_get world.history i ≡ Some a → (a.txn ≢ entry.txn) × (a.origin ≢ ask.origin)
-  apart i a at =
-      ((λ same. omega (arith, holds.low_txns i a at, ap (λ (t : Txn). t.number) same)),
-       (λ same. omega (arith, holds.low_numbers i a at, is.number, ap (λ (o : Origin). o.number) same, ap (λ (o : Origin). asked_by o.user asks) same)))
+  apart i a at = (
+    (λ same. omega (arith, holds.low_txns i a at, ap (λ (t : Txn). t.number) same)),
+    (λ same. omega (arith, holds.low_numbers i a at, is.number, ap (λ (o : Origin). o.number) same, ap (λ (o : Origin). asked_by o.user asks) same)),
+  )
 
   distinct_next : (i j : ℕ) (a b : Entry) → i < j → slice_get next.history i ≡ Some a → slice_get next.history j ≡ Some b → (a.txn ≢ b.txn) × (a.origin ≢ b.origin)
   distinct_next i j a b lt at_a at_b =
       elim (get_push world.history entry a i at_a) [
         | inl p ↦ elim (get_push world.history entry b j at_b) [
-            | inl q ↦ holds.distinct i j a b lt p.1 q.1
-            | inr q ↦ subst (λ (x : Entry). (a.txn ≢ x.txn) × (a.origin ≢ x.origin)) q.1 (apart i a p.1)
-          ]
+          | inl q ↦ holds.distinct i j a b lt p.1 q.1
+          | inr q ↦ subst (λ (x : Entry). (a.txn ≢ x.txn) × (a.origin ≢ x.origin)) q.1 (apart i a p.1)
+        ]
         | inr p ↦ absurd (omega (arith, p.0, lt, get_below next.history b j at_b, length_next))
       ]
 

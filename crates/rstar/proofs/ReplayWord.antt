@@ -11,9 +11,10 @@ pub is_replay-one : (words : List (String Global)) (word : String Global) (same 
 is_replay-one [] word same long short at is = absurd (omega arith)
 is_replay-one (w ∷ v ∷ words) word same long short at is = absurd (omega arith)
 is_replay-one (w ∷ []) word same long short at is =
-    let decides = bytes_eq-Decides (string_bytes word) (codes "replay") in
-    ((λ yes. ap (λ (x : String Global). string_bytes x ∷ []) (sym at) ∙ ap (λ (bs : List ℕ). bs ∷ []) (decides.0 (sym is ∙ yes))),
-     (λ replay. is ∙ decides.1 (ap string_bytes at ∙ head_is (string_bytes w) (codes "replay") replay)))
+    let decides = bytes_eq-Decides (string_bytes word) (codes "replay") in (
+      (λ yes. ap (λ (x : String Global). string_bytes x ∷ []) (sym at) ∙ ap (λ (bs : List ℕ). bs ∷ []) (decides.0 (sym is ∙ yes))),
+      (λ replay. is ∙ decides.1 (ap string_bytes at ∙ head_is (string_bytes w) (codes "replay") replay)),
+    )
   where
     head_is : (a b : List ℕ) → a ∷ [] ≡ b ∷ [] → a ≡ b
     head_is a b e = cc

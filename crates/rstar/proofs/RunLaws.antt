@@ -60,6 +60,7 @@ read_front bytes rest within at_end = by_length (below_or_at (length bytes) most
   where
     below_or_at : (n m : ℕ) → n ≤ m → (n < m) ⊎ (n ≡ m)
     below_or_at n m le = grind arith
+
     by_length : (length bytes < most_read) ⊎ (length bytes ≡ most_read) → take most_read (bytes ++ rest) ≡ bytes
     by_length (inl lt) = ap (λ (r : List ℕ). take most_read (bytes ++ r)) (at_end lt) ∙ ap (take most_read) (append-nil bytes) ∙ take_all most_read bytes within
     by_length (inr is) = take_at bytes rest most_read is

@@ -65,7 +65,12 @@ fn print_rows(alloc: Global, rows: &[Row], out: &mut Bytes) -> Result<(), NoMemo
 }
 
 #[tactic(auto, unfolding(crate::specs::ReportText::printed_table_line))]
-fn print_table_line(alloc: Global, name: &Swn, table: &Table, out: &mut Bytes) -> Result<(), NoMemory>
+fn print_table_line(
+    alloc: Global,
+    name: &Swn,
+    table: &Table,
+    out: &mut Bytes,
+) -> Result<(), NoMemory>
     ensures { OnOk result (out.new ≡ out.old ++ spec.printed_table_line name.now table.now) }
 {
     out.extend(b"table ")?;

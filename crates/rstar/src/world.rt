@@ -54,8 +54,11 @@ impl World {
 
     /// The transaction of the next entry. There is no room for an entry whose number no transaction can have.
     fn next_txn(&self, origin: &Origin) -> Result<Txn, NoMemory>
-        ensures { IfOk result (λ txn. txn ≡ record { site = origin.now.site; epoch = origin.now.epoch;
-            number = length self.now.history + 1 }) }
+        ensures { IfOk result (λ txn. txn ≡ record {
+          site = origin.now.site;
+          epoch = origin.now.epoch;
+          number = length self.now.history + 1;
+        }) }
     {
         let number = (self.history.len() as u64).checked_add(1).ok_or(NoMemory)?;
         Ok(Txn {
@@ -70,7 +73,9 @@ impl World {
     {
         let txn = self.next_txn(&ask.origin)?;
         let Ask { origin, text } = ask;
-        let outcome = self.database.execute(alloc, execution_of(&txn, &origin, stmt))?;
+        let outcome = self
+            .database
+            .execute(alloc, execution_of(&txn, &origin, stmt))?;
         let given = Given {
             to: origin,
             reply: reply_of(outcome),

@@ -12,6 +12,6 @@ returns-clause-found g c =
     let bytes = c.in_ok-bytes.bytes in
     let read = c.in_ok-bytes.ensures in
     IfOk-weaker c.find_in.result (λ (owed : Owed). FoundIn c.as_slice.result.now owed.finding owed.text) (λ (owed : Owed). Finds c.args.words.now left after owed.finding owed.text)
-        (λ owed found. finds_read c.args.words.now left after bytes owed.finding owed.text (c.is_replay.ensures.0 (search rules)) read.consumed read.within read.at_end
-            (subst (λ (bs : List ℕ). FoundIn bs owed.finding owed.text) c.as_slice.ensures found))
-        c.find_in.ensures.found
+    (λ owed found. finds_read c.args.words.now left after bytes owed.finding owed.text (c.is_replay.ensures.0 (search rules)) read.consumed read.within read.at_end
+    (subst (λ (bs : List ℕ). FoundIn bs owed.finding owed.text) c.as_slice.ensures found))
+    c.find_in.ensures.found
