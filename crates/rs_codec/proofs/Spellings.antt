@@ -1,10 +1,10 @@
 -- Counts, integers and texts: each has one spelling, which is made of bytes.
-use Rattle.std.proofs.Common.{◌≡◌, ℕ, ◌+◌, ◌*◌, ◌^◌, ◌<◌, ℤ, pos, negsuc, List, ◌++◌, length, take, refl, sym, ap, subst, ◌∙◌, arith, append_assoc, length-append}
+use Rattle.std.proofs.Common.{◌≡◌, ℕ, ◌^◌, ◌<◌, ◌≤◌, ℤ, pos, negsuc, List, ◌++◌, length, take, drop, refl, sym, ap, subst, ◌∙◌, arith, append_assoc, length-append}
 use Rattle.std.specs.Prelude.{FitsSigned}
 use Rattle.std.specs.Int.{w64}
-use Rattle.std.proofs.lemmas.List.{append_cancel_left, take_at}
+use Rattle.std.proofs.lemmas.List.{append_cancel_left, take_at, take-append-drop, length-take}
 use Rattle.std.proofs.lemmas.List.Elements.{All-append}
-use Rattle.rs_codec.specs.Spelling.{IsGroups, IsCount, count_of, IsInt, IsText}
+use Rattle.rs_codec.specs.Spelling.{IsCount, count_of, IsInt, IsText, Takes, NoneBegins}
 use Rattle.rs_codec.specs.Laws.{HasOneSpelling, AreBytes}
 use Rattle.rs_codec.proofs.Groups.{one_groups, each_groups, bytes_of_groups}
 
@@ -44,12 +44,12 @@ same_fronts : (x y r s : List ℕ) → length x ≡ length y → x ++ r ≡ y ++
 same_fronts x y r s len e = sym (take_at x r (length y) len) ∙ ap (take (length y)) e ∙ take_at y s (length y) refl
 
 -- the text behind its count
-behind : (a r text : List ℕ) (p : IsText a text) → a ++ r ≡ p.count ++ (text ++ r)
-behind a r text p = ap (λ (xs : List ℕ). xs ++ r) p.parts ∙ append_assoc p.count text r
+behind_count : (a r text : List ℕ) (p : IsText a text) → a ++ r ≡ p.count ++ (text ++ r)
+behind_count a r text p = ap (λ (xs : List ℕ). xs ++ r) p.parts ∙ append_assoc p.count text r
 
 pub one_text : HasOneSpelling IsText
 one_text a b r s x y p q e =
-    let both : p.count ++ (x ++ r) ≡ q.count ++ (y ++ s) = sym (behind a r x p) ∙ e ∙ behind b s y q in
+    let both : p.count ++ (x ++ r) ≡ q.count ++ (y ++ s) = sym (behind_count a r x p) ∙ e ∙ behind_count b s y q in
     let counts = one_count p.count q.count (x ++ r) (y ++ s) (length x) (length y) p.counted q.counted both in
     let texts : x ++ r ≡ y ++ s = append_cancel_left q.count (x ++ r) (y ++ s) (ap (λ (xs : List ℕ). xs ++ (x ++ r)) (sym counts.0) ∙ both) in
     let same = same_fronts x y r s counts.1 texts in
@@ -62,3 +62,21 @@ each_text text h =
 
 pub bytes_of_text : (bytes text : List ℕ) → IsText bytes text → AreBytes text → AreBytes bytes
 bytes_of_text bytes text p are = subst AreBytes (sym p.parts) (All-append (λ b. b < 256) p.count text (bytes_of_count p.count (length text) p.counted) are)
+
+-- a count stands there, and then fewer bytes than it says
+pub none_short : (bytes behind : List ℕ) (n : ℕ) → Takes IsCount bytes behind n → length behind < n → NoneBegins IsText bytes
+none_short bytes behind n t short text spelling rest p e =
+    let both : t.spelling ++ behind ≡ p.count ++ (text ++ rest) = sym t.parts ∙ e ∙ behind_count spelling rest text p in
+    let same = one_count t.spelling p.count behind (text ++ rest) n (length text) t.spelled p.counted both in
+    let texts : behind ≡ text ++ rest = append_cancel_left p.count behind (text ++ rest) (ap (λ (xs : List ℕ). xs ++ behind) (sym same.0) ∙ both) in
+    omega (arith, same.1, ap length texts, length-append text rest)
+
+-- a count stands there, and then as many bytes as it says
+pub takes_text : (bytes behind text new : List ℕ) (n : ℕ) → Takes IsCount bytes behind n → n ≤ length behind → text ≡ take n behind → new ≡ drop n behind → Takes IsText bytes new text
+takes_text bytes behind text new n t within front back =
+    let len : length text ≡ n = omega (arith, ap length front, length-take n behind) in
+    record {
+      spelling = t.spelling ++ text;
+      spelled = record { count = t.spelling; counted = subst (λ (k : ℕ). IsCount t.spelling k) (sym len) t.spelled; parts = refl };
+      parts = t.parts ∙ ap (λ (xs : List ℕ). t.spelling ++ xs) (sym (take-append-drop n behind) ∙ ap (λ (xs : List ℕ). xs ++ drop n behind) (sym front) ∙ ap (λ (xs : List ℕ). text ++ xs) (sym back)) ∙ sym (append_assoc t.spelling text new);
+    }

@@ -20,6 +20,18 @@ impl<'a> Model for Fields<'a> {
     ghost view = { λ fields. fields.left.now };
 }
 
+fn u32_of(bytes: &[u8; 4]) -> u32
+    ensures { to_be_bytes w32 result ≡ bytes.now }
+{
+    u32::from_be_bytes(*bytes)
+}
+
+fn u64_of(bytes: &[u8; 8]) -> u64
+    ensures { to_be_bytes w64 result ≡ bytes.now }
+{
+    u64::from_be_bytes(*bytes)
+}
+
 /// The number up to a limit whose groups stand at the front, and the bytes behind it.
 fn groups(bytes: &[u8], limit: u64) -> Option<(u64, &[u8])>
     ensures within { IfSome result (λ found. found.0 ≤ limit) }
@@ -28,7 +40,7 @@ fn groups(bytes: &[u8], limit: u64) -> Option<(u64, &[u8])>
 {
     let (first, rest) = bytes.split_first()?;
     let first = u64::from(*first);
-    if limit < first.min(128) {
+    if limit < first {
         return None;
     }
     if first < 128 {
@@ -90,7 +102,7 @@ impl<'a> Fields<'a> {
     {
         let (front, rest) = self.left.split_first_chunk::<4>()?;
         self.left = rest;
-        Some(u32::from_be_bytes(*front))
+        Some(u32_of(front))
     }
 
     /// A number in eight bytes, the highest first.
@@ -102,7 +114,7 @@ impl<'a> Fields<'a> {
     {
         let (front, rest) = self.left.split_first_chunk::<8>()?;
         self.left = rest;
-        Some(u64::from_be_bytes(*front))
+        Some(u64_of(front))
     }
 
     /// A number in as few bytes as it takes. One that is spelled in more bytes, or is above `u64::MAX`, is `None`.

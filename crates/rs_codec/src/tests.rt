@@ -37,7 +37,11 @@ const INTS: [(i64, &[u8]); 9] = [
     (i64::MIN, b"\xFF\xFF\xFF\xFF\xFF\xFF\xFF\xFF\xFF\x01"),
 ];
 
-const TEXTS: [(&[u8], &[u8]); 3] = [(b"", b"\x00"), (b"ab", b"\x02ab"), (b"\x00\xFF", b"\x02\x00\xFF")];
+const TEXTS: [(&[u8], &[u8]); 3] = [
+    (b"", b"\x00"),
+    (b"ab", b"\x02ab"),
+    (b"\x00\xFF", b"\x02\x00\xFF"),
+];
 
 const NO_TEXTS: [&[u8]; 4] = [b"", b"\x03ab", b"\x80\x00", b"\x80\x80"];
 
@@ -100,7 +104,10 @@ fn numbers(rt: HostRuntime) -> Result<(), Fail> {
     put_u32(&mut out, 1)?;
     put_u64(&mut out, 0x0102030405060708)?;
     put_byte(&mut out, 9)?;
-    assert_eq!(rt; out.as_slice(), b"\x00\x00\x00\x01\x01\x02\x03\x04\x05\x06\x07\x08\x09".as_slice());
+    assert_eq!(rt;
+        out.as_slice(),
+        b"\x00\x00\x00\x01\x01\x02\x03\x04\x05\x06\x07\x08\x09".as_slice()
+    );
     let mut fields = Fields::new(out.as_slice());
     assert_eq!(rt; fields.take_u32(), Some(1));
     assert_eq!(rt; fields.take_u64(), Some(0x0102030405060708));
