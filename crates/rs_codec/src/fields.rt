@@ -53,6 +53,7 @@ fn groups(bytes: &[u8], limit: u64) -> Option<(u64, &[u8])>
     Some((first - 128 + 128 * high, rest))
 }
 
+/// The count at the front, and the bytes behind it.
 fn count(bytes: &[u8]) -> Option<(u64, &[u8])>
     ensures found { IfSome result (λ found. Takes IsCount bytes.now found.1.now found.0) }
     ensures none { IfNone result (NoneBegins IsCount bytes.now) }
@@ -69,6 +70,7 @@ fn int_of(count: u64) -> i64
 }
 
 impl<'a> Fields<'a> {
+    /// The fields that these bytes are to be read as.
     pub fn new(bytes: &'a [u8]) -> Fields<'a>
         ensures { result ≡ bytes.now }
     {
