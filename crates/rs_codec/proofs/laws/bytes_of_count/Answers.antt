@@ -1,0 +1,5 @@
+use Rattle.rs_codec.proofs.Spellings.{bytes_of_count}
+use Rattle.rs_codec.proofs.laws.bytes_of_count.Goals as goal
+
+pub returns : goal.returns
+returns c = bytes_of_count

@@ -1,0 +1,5 @@
+use Rattle.rs_codec.proofs.Spellings.{one_count}
+use Rattle.rs_codec.proofs.laws.one_count.Goals as goal
+
+pub returns : goal.returns
+returns c = one_count

@@ -1,0 +1,5 @@
+use Rattle.rs_codec.proofs.Spellings.{one_text}
+use Rattle.rs_codec.proofs.laws.one_text.Goals as goal
+
+pub returns : goal.returns
+returns c = one_text

@@ -1,0 +1,48 @@
+-- How fields are spelled. A byte is itself, and a number of four or eight bytes has its highest byte first (`to_be_bytes`
+-- of std). The others:
+--     IsCount bytes n       a number below 2 ^ 64, in as few bytes as it takes
+--     IsInt bytes z         an integer of 64 bits
+--     IsText bytes text     a text of any bytes
+-- and what is done with a spelling:
+--     Puts IsX old new x    a spelling of x was put at the end of old
+--     Takes IsX old new x   a spelling of x was taken from the front of old
+--     NoneBegins IsX old    old begins with no spelling
+use Rattle.std.specs.Prelude.{◌≡◌, ℕ, ◌+◌, ◌*◌, ◌^◌, ◌<◌, ◌≤◌, ℤ, pos, negsuc, List, [], ◌∷◌, ◌++◌, length}
+
+-- A number in groups of seven bits, the lowest first. A byte below 128 is the last one, and stands for itself. One from
+-- 128 on has seven bits of the number, and the bytes behind it spell what is above these, which isn't 0.
+abbrev pub IsGroups : List ℕ → ℕ → Type 0
+IsGroups [] n = ⊥
+IsGroups (b ∷ []) n = (b < 128) × (n ≡ b)
+IsGroups (b ∷ c ∷ bs) n = (128 ≤ b) × (b < 256) × (high : ℕ) × (0 < high) × (n + 128 ≡ b + 128 * high) × IsGroups (c ∷ bs) high
+
+pub record IsCount (bytes : List ℕ) (n : ℕ) : Type 0 where
+  pub groups : IsGroups bytes n
+  pub below : n < 2 ^ 64
+
+-- 0, -1, 1, -2, 2 .. are counted 0, 1, 2, 3, 4 ..: here negsuc n is -n - 1
+abbrev pub count_of : ℤ → ℕ
+count_of (pos n) = 2 * n
+count_of (negsuc n) = 2 * n + 1
+
+abbrev pub IsInt : List ℕ → ℤ → Type 0
+IsInt bytes z = IsCount bytes (count_of z)
+
+-- the count of its bytes, and then these
+pub record IsText (bytes text : List ℕ) : Type 0 where
+  pub count : List ℕ
+  pub counted : IsCount count (length text)
+  pub parts : bytes ≡ count ++ text
+
+pub record Puts {X : Type 0} (IsX : List ℕ → X → Type 0) (old new : List ℕ) (x : X) : Type 0 where
+  pub spelling : List ℕ
+  pub spelled : IsX spelling x
+  pub parts : new ≡ old ++ spelling
+
+pub record Takes {X : Type 0} (IsX : List ℕ → X → Type 0) (old new : List ℕ) (x : X) : Type 0 where
+  pub spelling : List ℕ
+  pub spelled : IsX spelling x
+  pub parts : old ≡ spelling ++ new
+
+abbrev pub NoneBegins : {X : Type 0} → (List ℕ → X → Type 0) → List ℕ → Type 0
+NoneBegins {X} IsX old = (x : X) (spelling rest : List ℕ) → IsX spelling x → old ≡ spelling ++ rest → ⊥

@@ -1,0 +1,157 @@
+//! Fields taken from the front of bytes. Where none stands there the bytes stay as they were.
+
+ghost use Rattle.std.specs.Prelude.{◌≡◌, ◌<◌, ◌≤◌, ℕ, ℤ, List, [], ◌∷◌, ◌++◌, length, IfSome, IfNone};
+ghost use Rattle.std.specs.Int.{w32, w64, to_be_bytes};
+ghost use Rattle.rs_codec.specs.Spelling.{count_of, IsGroups, IsCount, IsInt, IsText, Takes, NoneBegins};
+
+use std::marker::Model;
+
+/// The bytes that are still to be read. Contracts see it as the list of them.
+#[derive(Drop)]
+pub struct Fields<'a> {
+    left: &'a [u8],
+}
+
+impl<'a> Model for Fields<'a> {
+    ghost use Rattle.std.specs.Prelude.{List, ℕ};
+
+    ghost Value = { List ℕ };
+
+    ghost view = { λ fields. fields.left.now };
+}
+
+fn u32_of(bytes: &[u8; 4]) -> u32
+    ensures { to_be_bytes w32 result ≡ bytes.now }
+{
+    u32::from_be_bytes(*bytes)
+}
+
+fn u64_of(bytes: &[u8; 8]) -> u64
+    ensures { to_be_bytes w64 result ≡ bytes.now }
+{
+    u64::from_be_bytes(*bytes)
+}
+
+/// The number up to a limit whose groups stand at the front, and the bytes behind it.
+fn groups(bytes: &[u8], limit: u64) -> Option<(u64, &[u8])>
+    ensures within { IfSome result (λ found. found.0 ≤ limit) }
+    ensures found { IfSome result (λ found. Takes IsGroups bytes.now found.1.now found.0) }
+    ensures none { IfNone result ((n : ℕ) (spelling rest : List ℕ) → n ≤ limit → IsGroups spelling n → bytes.now ≡ spelling ++ rest → ⊥) }
+{
+    let (first, rest) = bytes.split_first()?;
+    let first = u64::from(*first);
+    if limit < first {
+        return None;
+    }
+    if first < 128 {
+        return Some((first, rest));
+    }
+    let (high, rest) = groups(rest, (limit - (first - 128)) / 128)?;
+    if high == 0 {
+        return None;
+    }
+    Some((first - 128 + 128 * high, rest))
+}
+
+/// The count at the front, and the bytes behind it.
+fn count(bytes: &[u8]) -> Option<(u64, &[u8])>
+    ensures found { IfSome result (λ found. Takes IsCount bytes.now found.1.now found.0) }
+    ensures none { IfNone result (NoneBegins IsCount bytes.now) }
+{
+    groups(bytes, u64::MAX)
+}
+
+/// The integer at a place among 0, -1, 1, -2, 2 and so on.
+fn int_of(count: u64) -> i64
+    ensures { count_of result ≡ count }
+{
+    let half = (count / 2) as i64;
+    if count % 2 == 0 { half } else { -half - 1 }
+}
+
+impl<'a> Fields<'a> {
+    /// The fields that these bytes are to be read as.
+    pub fn new(bytes: &'a [u8]) -> Fields<'a>
+        ensures { result ≡ bytes.now }
+    {
+        Fields { left: bytes }
+    }
+
+    /// The bytes that are left.
+    pub fn rest(&self) -> &'a [u8]
+        ensures { result.now ≡ self.now }
+    {
+        self.left
+    }
+
+    /// A byte as it is.
+    pub fn take_byte(&mut self) -> Option<u8>
+        ensures found { IfSome result (λ byte. self.old ≡ byte ∷ self.new) }
+        ensures none { IfNone result (self.old ≡ []) }
+        ensures stays { IfNone result (self.new ≡ self.old) }
+    {
+        let (byte, rest) = self.left.split_first()?;
+        self.left = rest;
+        Some(*byte)
+    }
+
+    /// A number in four bytes, the highest first.
+    pub fn take_u32(&mut self) -> Option<u32>
+        ensures found { IfSome result (λ n. self.old ≡ to_be_bytes w32 n ++ self.new) }
+        ensures none { IfNone result ((n : ℕ) (rest : List ℕ) → self.old ≡ to_be_bytes w32 n ++ rest → ⊥) }
+        ensures short { IfNone result (length self.old < 4) }
+        ensures stays { IfNone result (self.new ≡ self.old) }
+    {
+        let (front, rest) = self.left.split_first_chunk::<4>()?;
+        self.left = rest;
+        Some(u32_of(front))
+    }
+
+    /// A number in eight bytes, the highest first.
+    pub fn take_u64(&mut self) -> Option<u64>
+        ensures found { IfSome result (λ n. self.old ≡ to_be_bytes w64 n ++ self.new) }
+        ensures none { IfNone result ((n : ℕ) (rest : List ℕ) → self.old ≡ to_be_bytes w64 n ++ rest → ⊥) }
+        ensures short { IfNone result (length self.old < 8) }
+        ensures stays { IfNone result (self.new ≡ self.old) }
+    {
+        let (front, rest) = self.left.split_first_chunk::<8>()?;
+        self.left = rest;
+        Some(u64_of(front))
+    }
+
+    /// A number in as few bytes as it takes. One that is spelled in more bytes, or is above `u64::MAX`, is `None`.
+    pub fn take_count(&mut self) -> Option<u64>
+        ensures found { IfSome result (λ n. Takes IsCount self.old self.new n) }
+        ensures none { IfNone result (NoneBegins IsCount self.old) }
+        ensures stays { IfNone result (self.new ≡ self.old) }
+    {
+        let (n, rest) = count(self.left)?;
+        self.left = rest;
+        Some(n)
+    }
+
+    /// An integer in as few bytes as it takes.
+    pub fn take_int(&mut self) -> Option<i64>
+        ensures found { IfSome result (λ n. Takes IsInt self.old self.new n) }
+        ensures none { IfNone result (NoneBegins IsInt self.old) }
+        ensures stays { IfNone result (self.new ≡ self.old) }
+    {
+        let n = self.take_count()?;
+        Some(int_of(n))
+    }
+
+    /// A count of bytes, and as many bytes behind it: these.
+    pub fn take_text(&mut self) -> Option<&'a [u8]>
+        ensures found { IfSome result (λ text. Takes IsText self.old self.new text.now) }
+        ensures none { IfNone result (NoneBegins IsText self.old) }
+        ensures stays { IfNone result (self.new ≡ self.old) }
+    {
+        let (len, rest) = count(self.left)?;
+        if (rest.len() as u64) < len {
+            return None;
+        }
+        let (text, rest) = rest.split_at(len as usize);
+        self.left = rest;
+        Some(text)
+    }
+}

@@ -1,0 +1,15 @@
+//! How fields are spelled in bytes, and read again: bytes, numbers, integers and texts.
+#![tactic(auto)]
+
+mod fields;
+mod laws;
+mod put;
+#[cfg(test)]
+mod tests;
+
+pub use fields::Fields;
+pub use laws::{
+    bytes_of_count, bytes_of_int, bytes_of_text, each_count, each_int, each_text, one_count,
+    one_int, one_text,
+};
+pub use put::{put_byte, put_count, put_int, put_text, put_u32, put_u64};

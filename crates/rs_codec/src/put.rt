@@ -1,0 +1,98 @@
+//! Fields put at the end of bytes. Where memory is wanting the bytes stay as they were.
+
+ghost use Rattle.std.specs.Prelude.{◌≡◌, ◌≤◌, [], ◌∷◌, ◌++◌, take, OnOk, OnErr};
+ghost use Rattle.std.specs.Int.{w32, w64, to_be_bytes};
+ghost use Rattle.rs_codec.specs.Spelling.{count_of, IsCount, IsInt, IsText, Puts};
+
+use byteorder::{BigEndian, ByteOrder};
+use rs_base::{Bytes, NoMemory};
+use std::alloc::Global;
+
+/// The most bytes that a count takes: groups of seven bits for 64.
+const LONGEST: usize = 10;
+
+/// A byte as it is.
+pub fn put_byte(out: &mut Bytes, byte: u8) -> Result<(), NoMemory>
+    ensures ok { OnOk result (out.new ≡ out.old ++ byte ∷ []) }
+    ensures err { OnErr result (out.new ≡ out.old) }
+{
+    out.push(byte)
+}
+
+/// A number in four bytes, the highest first.
+pub fn put_u32(out: &mut Bytes, n: u32) -> Result<(), NoMemory>
+    ensures ok { OnOk result (out.new ≡ out.old ++ to_be_bytes w32 n) }
+    ensures err { OnErr result (out.new ≡ out.old) }
+{
+    let mut bytes = [0u8; 4];
+    BigEndian::write_u32(&mut bytes, n);
+    out.extend(&bytes)
+}
+
+/// A number in eight bytes, the highest first.
+pub fn put_u64(out: &mut Bytes, n: u64) -> Result<(), NoMemory>
+    ensures ok { OnOk result (out.new ≡ out.old ++ to_be_bytes w64 n) }
+    ensures err { OnErr result (out.new ≡ out.old) }
+{
+    let mut bytes = [0u8; 8];
+    BigEndian::write_u64(&mut bytes, n);
+    out.extend(&bytes)
+}
+
+/// Writes the groups of a number over the first bytes, and answers how many there are.
+fn write_groups(bytes: &mut [u8; LONGEST], n: u64) -> usize
+    ensures within { result ≤ 10 }
+    ensures spelled { IsCount (take result bytes.new) n }
+{
+    let mut rest = n;
+    for at in 0..LONGEST - 1 {
+        if rest < 128 {
+            bytes[at] = rest as u8;
+            return at + 1;
+        }
+        bytes[at] = 128 + (rest % 128) as u8;
+        rest /= 128;
+    }
+    bytes[LONGEST - 1] = rest as u8;
+    LONGEST
+}
+
+/// A number in as few bytes as it takes: one for those below 128, and ten at most.
+pub fn put_count(out: &mut Bytes, n: u64) -> Result<(), NoMemory>
+    ensures ok { OnOk result (Puts IsCount out.old out.new n) }
+    ensures err { OnErr result (out.new ≡ out.old) }
+{
+    let mut bytes = [0u8; LONGEST];
+    let len = write_groups(&mut bytes, n);
+    out.extend(&bytes[..len])
+}
+
+/// The place of an integer among 0, -1, 1, -2, 2 and so on.
+fn count_of(n: i64) -> u64
+    ensures { result ≡ count_of n }
+{
+    if n < 0 {
+        2 * (-(n + 1)) as u64 + 1
+    } else {
+        2 * n as u64
+    }
+}
+
+/// An integer in as few bytes as it takes: one for those from -64 to 63, and ten at most.
+pub fn put_int(out: &mut Bytes, n: i64) -> Result<(), NoMemory>
+    ensures ok { OnOk result (Puts IsInt out.old out.new n) }
+    ensures err { OnErr result (out.new ≡ out.old) }
+{
+    put_count(out, count_of(n))
+}
+
+/// The count of a text's bytes, and then these.
+pub fn put_text(alloc: Global, out: &mut Bytes, text: &[u8]) -> Result<(), NoMemory>
+    ensures ok { OnOk result (Puts IsText out.old out.new text.now) }
+    ensures err { OnErr result (out.new ≡ out.old) }
+{
+    let mut whole = Bytes::new(alloc);
+    put_count(&mut whole, text.len() as u64)?;
+    whole.extend(text)?;
+    out.extend(whole.as_slice())
+}
