@@ -1,0 +1,68 @@
+-- Lines, one at a time, and their ends.
+use Rattle.std.proofs.Common.{◌≡◌, ℕ, zero, suc, ◌+◌, ◌-◌, ◌<◌, ◌≤◌, Bool, true, false, cond, ◌&&◌, not, eqb, ◌≢◌, List, [], ◌∷◌, ◌++◌, length, get_or, take, drop, refl, sym, ap, ◌∙◌, subst, inl, inr, arith}
+use Rattle.std.specs.List.{list_all, prefix_len}
+use Rattle.std.proofs.lemmas.List.{take_more, take_all}
+use Rattle.std.proofs.lemmas.Bool.Decides.{eqb_tells}
+use Rattle.rs_sched.specs.Lines.{onto_first, lines_of, is_return, without_returns, is_before_feed}
+
+-- ---- carriage returns
+
+all_with_return : (front : List ℕ) → list_all is_return (front ++ 13 ∷ []) ≡ list_all is_return front
+all_with_return [] = refl
+all_with_return (b ∷ front) = ap (λ (t : Bool). is_return b && t) (all_with_return front)
+
+and_false : (a : Bool) → (a && false) ≡ false
+and_false true = refl
+and_false false = refl
+
+all_without : (front : List ℕ) (x : ℕ) → is_return x ≡ false → list_all is_return (front ++ x ∷ []) ≡ false
+all_without [] x h = rw h refl
+all_without (b ∷ front) x h = ap (λ (t : Bool). is_return b && t) (all_without front x h) ∙ and_false (is_return b)
+
+-- a carriage return at the end goes
+returns_go : (front : List ℕ) → without_returns (front ++ 13 ∷ []) ≡ without_returns front
+returns_go [] = refl
+returns_go (b ∷ front) = rw (all_with_return front, returns_go front) refl
+
+-- another byte at the end stays, and what stands before it
+returns_stay : (front : List ℕ) (x : ℕ) → is_return x ≡ false → without_returns (front ++ x ∷ []) ≡ front ++ x ∷ []
+returns_stay [] x h = rw h refl
+returns_stay (b ∷ front) x h = rw (all_without (b ∷ front) x h, returns_stay front x h) refl
+
+front_last : (line : List ℕ) → 1 ≤ length line → take (length line - 1) line ++ get_or line (length line - 1) 0 ∷ [] ≡ line
+front_last line h =
+    let more = take_more line (length line - 1) 0 (omega arith) in
+    let all : (length line - 1) + 1 ≡ length line = omega arith in
+    sym more ∙ ap (λ (n : ℕ). take n line) all ∙ take_all (length line) line (omega arith)
+
+-- a line with a carriage return at its end, and one with none
+pub returns-one : (line : List ℕ) → 1 ≤ length line → get_or line (length line - 1) 0 ≡ 13 → without_returns (take (length line - 1) line) ≡ without_returns line
+returns-one line h is =
+    let last = ap (λ (x : ℕ). take (length line - 1) line ++ x ∷ []) (sym is) ∙ front_last line h in
+    sym (returns_go (take (length line - 1) line)) ∙ ap without_returns last
+
+neq_eqb : (a b : ℕ) → a ≢ b → eqb a b ≡ false
+neq_eqb a b h = elim (eqb_tells a b) [ inl same ↦ absurd (h same.1) | inr other ↦ other.0 ]
+
+pub returns-none : (line : List ℕ) → 1 ≤ length line → get_or line (length line - 1) 0 ≢ 13 → without_returns line ≡ line
+returns-none line h is =
+    ap without_returns (sym (front_last line h)) ∙ returns_stay (take (length line - 1) line) (get_or line (length line - 1) 0) (neq_eqb _ _ is) ∙ front_last line h
+
+-- ---- the next line
+
+suc_of : (n : ℕ) → 1 + n ≡ suc n
+suc_of n = omega arith
+
+by_feed : (b : ℕ) (bytes : List ℕ) → onto_first b (lines_of bytes) ≡ take (suc (prefix_len is_before_feed bytes)) (b ∷ bytes) ∷ lines_of (drop 1 (drop (suc (prefix_len is_before_feed bytes)) (b ∷ bytes)))
+    → (test : Bool) → eqb b 10 ≡ test → let n = prefix_len is_before_feed (b ∷ bytes) in lines_of (b ∷ bytes) ≡ take n (b ∷ bytes) ∷ lines_of (drop 1 (drop n (b ∷ bytes)))
+by_feed b bytes h true e = rw e refl
+by_feed b bytes h false e = rw (e, suc_of (prefix_len is_before_feed bytes)) h
+
+lines_next_of : (b : ℕ) (bytes : List ℕ) → let n = prefix_len is_before_feed (b ∷ bytes) in lines_of (b ∷ bytes) ≡ take n (b ∷ bytes) ∷ lines_of (drop 1 (drop n (b ∷ bytes)))
+lines_next_of b [] = by_feed b [] refl (eqb b 10) refl
+lines_next_of b (c ∷ bytes) = by_feed b (c ∷ bytes) (ap (onto_first b) (lines_next_of c bytes)) (eqb b 10) refl
+
+-- the first line, and those behind its line feed
+pub lines_next : (bytes : List ℕ) → 1 ≤ length bytes → let n = prefix_len is_before_feed bytes in lines_of bytes ≡ take n bytes ∷ lines_of (drop 1 (drop n bytes))
+lines_next [] h = absurd (omega arith)
+lines_next (b ∷ bytes) h = lines_next_of b bytes

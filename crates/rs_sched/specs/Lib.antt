@@ -1,0 +1,7 @@
+pub mod Faults
+pub mod Lines
+pub mod Numbers
+pub mod Reader
+pub mod Reading
+pub mod Schedule
+pub mod Spelling
