@@ -3,6 +3,8 @@ use Rattle.std.proofs.Common.{◌≡◌, ℕ, zero, suc, ◌+◌, ◌-◌, ◌<�
 use Rattle.std.specs.List.{list_all, prefix_len}
 use Rattle.std.proofs.lemmas.List.{take_more, take_all}
 use Rattle.std.proofs.lemmas.Bool.Decides.{eqb_tells}
+use Rattle.std.proofs.lemmas.Bool.{and_parts, and_from}
+use Rattle.rs_sched.specs.Spelling.{IsLine}
 use Rattle.rs_sched.specs.Lines.{onto_first, lines_of, is_return, without_returns, is_before_feed}
 
 -- ---- carriage returns
@@ -66,3 +68,49 @@ lines_next_of b (c ∷ bytes) = by_feed b (c ∷ bytes) (ap (onto_first b) (line
 pub lines_next : (bytes : List ℕ) → 1 ≤ length bytes → let n = prefix_len is_before_feed bytes in lines_of bytes ≡ take n bytes ∷ lines_of (drop 1 (drop n bytes))
 lines_next [] h = absurd (omega arith)
 lines_next (b ∷ bytes) h = lines_next_of b bytes
+
+-- ---- parts of a line
+
+all_behind : (p : ℕ → Bool) (front rest : List ℕ) → list_all p (front ++ rest) ≡ true → list_all p rest ≡ true
+all_behind p [] rest all = all
+all_behind p (b ∷ front) rest all = all_behind p front rest (and_parts (p b) (list_all p (front ++ rest)) all).1
+
+returns_behind : (front rest : List ℕ) → without_returns (front ++ rest) ≡ front ++ rest → without_returns rest ≡ rest
+returns_behind [] rest h = h
+returns_behind (b ∷ front) rest h = by_all (list_all is_return (b ∷ (front ++ rest))) h (returns_behind front rest)
+  where
+    by_all : (all : Bool) → cond all [] (b ∷ without_returns (front ++ rest)) ≡ b ∷ (front ++ rest) → (without_returns (front ++ rest) ≡ front ++ rest → without_returns rest ≡ rest) → without_returns rest ≡ rest
+    by_all true e others = absurd cc
+    by_all false e others = others cc
+
+-- what stands at the end of a line is one
+pub suffix_line : (front rest : List ℕ) → IsLine (front ++ rest) → IsLine rest
+suffix_line front rest h = (all_behind is_before_feed front rest h.0, returns_behind front rest h.1)
+
+none_all : (line : List ℕ) → list_all is_return line ≡ false → list_all is_return (without_returns line) ≡ false
+none_all [] e = e
+none_all (b ∷ line) e = by_first (is_return b) refl (none_all line)
+  where
+    by_first : (first : Bool) → is_return b ≡ first → (list_all is_return line ≡ false → list_all is_return (without_returns line) ≡ false) → list_all is_return (without_returns (b ∷ line)) ≡ false
+    by_first false f others = rw (e, f) refl
+    by_first true f others = let left : list_all is_return line ≡ false = rw f at e in rw (e, f) (others left)
+
+-- the carriage returns at the end go at once
+pub returns_once : (line : List ℕ) → without_returns (without_returns line) ≡ without_returns line
+returns_once [] = refl
+returns_once (b ∷ line) = by_all (list_all is_return (b ∷ line)) refl (returns_once line)
+  where
+    by_all : (all : Bool) → list_all is_return (b ∷ line) ≡ all → without_returns (without_returns line) ≡ without_returns line → without_returns (without_returns (b ∷ line)) ≡ without_returns (b ∷ line)
+    by_all true e others = rw e refl
+    by_all false e others = let left : list_all is_return (b ∷ without_returns line) ≡ false = rw e at (none_all (b ∷ line) e) in rw (e, left, others) refl
+
+pub feedless : (line : List ℕ) → list_all is_before_feed line ≡ true → list_all is_before_feed (without_returns line) ≡ true
+feedless [] all = refl
+feedless (b ∷ line) all = by_all (list_all is_return (b ∷ line)) refl (feedless line)
+  where
+    by_all : (test : Bool) → list_all is_return (b ∷ line) ≡ test → (list_all is_before_feed line ≡ true → list_all is_before_feed (without_returns line) ≡ true) → list_all is_before_feed (without_returns (b ∷ line)) ≡ true
+    by_all true e others = rw e refl
+    by_all false e others = let both = and_parts (is_before_feed b) (list_all is_before_feed line) all in rw e (and_from _ _ both.0 (others both.1))
+
+pub line_of_part : (line : List ℕ) → list_all is_before_feed line ≡ true → IsLine (without_returns line)
+line_of_part line all = (feedless line all, returns_once line)

@@ -3,7 +3,7 @@ use Rattle.std.specs.Prelude.{◌≡◌, ℕ, ◌≤◌, List, [], ◌∷◌, le
 use Rattle.rs_sched.specs.declared.event.Event.{Event}
 use Rattle.rs_sched.specs.declared.event.Event.TheVariants as events
 use Rattle.rs_sched.specs.Lines.{lines_of, without_returns, is_comment}
-use Rattle.rs_sched.specs.Spelling.{line_of, IsEvent}
+use Rattle.rs_sched.specs.Spelling.{line_of, IsSiteNo, HasFields, HasText}
 
 -- the site that an event names
 abbrev pub site_of : Event → Option ℕ
@@ -35,11 +35,16 @@ IsSites (events.Restart site) = ⊥
 IsSites (events.Settle count) = ⊥
 IsSites (events.Noise site bytes) = ⊥
 
--- an event behind the sites event
-pub record IsLater (sites : ℕ) (event : Event) : Type 0 where
-  pub event_right : IsEvent event
+-- an event behind the sites event; of the text of an ask nothing is said
+pub record FieldsFit (sites : ℕ) (event : Event) : Type 0 where
+  pub fields : HasFields event
   pub sites_once : IsSites event → ⊥
   pub site_right : IsWithin sites (site_of event)
+
+-- an event behind the sites event
+pub record IsLater (sites : ℕ) (event : Event) : Type 0 where
+  pub fits : FieldsFit sites event
+  pub text : HasText event
 
 abbrev pub AreLater : ℕ → List Event → Type 0
 AreLater sites [] = Unit {0}
@@ -48,7 +53,7 @@ AreLater sites (event ∷ others) = IsLater sites event × AreLater sites others
 -- A valid list begins with its only sites event, and names no site above that.
 abbrev pub IsValid : List Event → Type 0
 IsValid [] = ⊥
-IsValid (events.Sites n ∷ others) = IsEvent (events.Sites n) × AreLater n others
+IsValid (events.Sites n ∷ others) = IsSiteNo n × AreLater n others
 IsValid (_ ∷ others) = ⊥
 
 -- lines with these events in order; comments and empty lines between them, and carriage returns at their ends, don't count

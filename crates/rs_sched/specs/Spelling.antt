@@ -7,7 +7,22 @@ use Rattle.rs_base.specs.Txt.{is_utf8}
 use Rattle.rs_base.specs.declared.txn.Origin.{Origin}
 use Rattle.rs_sched.specs.declared.event.Event.{Event}
 use Rattle.rs_sched.specs.declared.event.Event.TheVariants as events
+use Rattle.rs_sched.specs.declared.word.Word.{Word}
+use Rattle.rs_sched.specs.declared.word.Word.TheVariants as words
 use Rattle.rs_sched.specs.Lines.{is_return, without_returns}
+
+-- the word that a line begins with
+abbrev pub spelling : Word → List ℕ
+spelling words.Sites = codes "sites"
+spelling words.Ask = codes "ask"
+spelling words.Deliver = codes "deliver"
+spelling words.Lose = codes "lose"
+spelling words.Tick = codes "tick"
+spelling words.Stop = codes "stop"
+spelling words.Arm = codes "arm"
+spelling words.Restart = codes "restart"
+spelling words.Settle = codes "settle"
+spelling words.Noise = codes "noise"
 
 abbrev pub hex_digit : ℕ → ℕ
 hex_digit n = if nat_lt n 10 then 48 + n else 87 + n
@@ -93,8 +108,3 @@ HasText (events.Arm site c k j) = Unit {0}
 HasText (events.Restart site) = Unit {0}
 HasText (events.Settle count) = Unit {0}
 HasText (events.Noise site bytes) = Unit {0}
-
--- the event is one that a line may give
-pub record IsEvent (event : Event) : Type 0 where
-  pub fields : HasFields event
-  pub text : HasText event
