@@ -1,5 +1,5 @@
 -- A line, read whole: what is read is right, what is right is read, and the cause that is found is the first that fits.
-use Rattle.std.proofs.Common.{◌≡◌, ℕ, zero, suc, ◌+◌, ◌*◌, ◌^◌, ◌-◌, ◌<◌, ◌≤◌, Bool, true, false, cond, ◌&&◌, ◌⊎◌, not, eqb, leb, ltb, List, [], ◌∷◌, ◌++◌, length, take, drop, Option, Some, None, Result, Ok, Err, IsTrue, codes, decimal, refl, sym, ap, ◌∙◌, subst, inl, inr, arith, append_assoc}
+use Rattle.std.proofs.Common.{◌≡◌, ℕ, suc, ◌+◌, ◌<◌, ◌≤◌, Bool, true, false, cond, eqb, leb, List, [], ◌∷◌, ◌++◌, length, take, drop, Option, Some, None, Result, Ok, Err, IsTrue, codes, refl, sym, ap, ◌∙◌, subst, inl, inr, arith, append_assoc}
 use Rattle.std.specs.Prelude.{bytes_eq}
 use Rattle.std.specs.List.{list_all}
 use Rattle.std.specs.Str.{is_utf8}
@@ -13,11 +13,11 @@ use Rattle.rs_sched.specs.declared.fault.Why.{Why}
 use Rattle.rs_sched.specs.declared.fault.Why.TheVariants as whys
 use Rattle.rs_sched.specs.declared.word.Word.{Word}
 use Rattle.rs_sched.specs.declared.word.Word.TheVariants as words
-use Rattle.rs_sched.specs.Spelling.{spelling, number_field, line_of, IsSiteNo, IsAskText, IsLine, HasText}
+use Rattle.rs_sched.specs.Spelling.{spelling, number_field, line_of, IsSiteNo, IsLine, HasText}
 use Rattle.rs_sched.specs.Schedule.{FieldsFit, IsLater}
-use Rattle.rs_sched.specs.Faults.{BeginsWith, IsSitesLine, IsRightLine, HasRightFields, IsAskOf, Fits, rank, IsCause}
+use Rattle.rs_sched.specs.Faults.{BeginsWith, IsRightLine, HasRightFields, IsAskOf, Fits, rank, IsCause}
 use Rattle.rs_sched.specs.Reader.{is_field_byte, field_len, word_of, later_word_of, of_fields, of_text, of_sites, event_of, later_line, first_line, sites_at, origin_at, deliver_at, lose_at, tick_at, stop_at, arm_at, restart_at, settle_at, noise_at}
-use Rattle.rs_sched.proofs.FieldLaws.{stops, field_taken, field_left}
+use Rattle.rs_sched.proofs.FieldLaws.{stops, field_taken}
 use Rattle.rs_sched.proofs.LineLaws.{suffix_line}
 use Rattle.rs_sched.proofs.EventLaws.{IsOf, IsAsk, deliver_is, deliver_again, lose_is, lose_again, tick_is, tick_again, stop_is, stop_again, arm_is, arm_again, restart_is, restart_again, settle_is, settle_again, settle_none_again, noise_is, noise_again, origin_is, origin_again, sites_is, sites_again}
 
@@ -374,6 +374,7 @@ first_is line event e = by_word (bytes_eq (field line) (codes "sites")) (bytes_e
         let is = sites_is (behind line) given r in
         let parts : line ≡ codes "sites" ++ behind line = sym (take-append-drop (field_len line) line) ∙ ap (λ (f : List ℕ). f ++ behind line) w in
         record { number = is.0; number_right = is.1; is = sym same ∙ is.2; written = parts ∙ is.3 }
+
     by_word : (test : Bool) → (test ≡ true → field line ≡ codes "sites") → cond test (of_sites (sites_at (behind line))) (Err whys.NoSites) ≡ Ok event → IsFirst line event
     by_word false w e = absurd cc
     by_word true w e = by_read (sites_at (behind line)) (w refl) refl e

@@ -1,14 +1,12 @@
 -- The fields behind a word: what is read is written so, and what is written is read.
-use Rattle.std.proofs.Common.{◌≡◌, ℕ, zero, suc, ◌+◌, ◌*◌, ◌^◌, ◌-◌, ◌<◌, ◌≤◌, Bool, true, false, cond, ◌&&◌, ◌⊎◌, not, eqb, leb, ltb, List, [], ◌∷◌, ◌++◌, length, take, drop, Option, Some, None, Result, Ok, Err, IsTrue, codes, decimal, refl, sym, ap, ◌∙◌, subst, inl, inr, arith, append_assoc}
+use Rattle.std.proofs.Common.{◌≡◌, ℕ, ◌^◌, ◌<◌, ◌≤◌, List, [], ◌∷◌, ◌++◌, Some, None, codes, refl, sym, ap, ◌∙◌, subst, arith, append_assoc}
 use Rattle.std.proofs.lemmas.List.{append-nil}
 use Rattle.rs_base.specs.declared.txn.Origin.{Origin}
-use Rattle.rs_base.specs.Ident.{is_ident}
-use Rattle.rs_base.specs.Reading.{◌>>=◌}
 use Rattle.rs_sched.specs.declared.event.Event.{Event}
 use Rattle.rs_sched.specs.declared.event.Event.TheVariants as events
 use Rattle.rs_sched.specs.Spelling.{number_field, line_of, ask_line, hex_of, IsOrigin, IsSiteNo, HasText}
 use Rattle.rs_sched.specs.Schedule.{FieldsFit}
-use Rattle.rs_sched.specs.Reader.{space_at, end_at, number_at, user_at, noise_bytes_at, numbers_at, nth, most, is_end, sites_at, deliver_at, lose_at, tick_at, stop_at, arm_at, restart_at, settle_at, noise_at, origin_at}
+use Rattle.rs_sched.specs.Reader.{space_at, end_at, number_at, user_at, noise_bytes_at, numbers_at, nth, most, sites_at, deliver_at, lose_at, tick_at, stop_at, arm_at, restart_at, settle_at, noise_at, origin_at}
 use Rattle.rs_sched.proofs.NumberLaws.{some_is}
 use Rattle.rs_sched.proofs.FieldLaws.{bind_some, space_is, end_is, IsNumber, number_at_is, number_at_again, user_at_is, user_at_again, AreWithin, fields_of, numbers_are, numbers_again}
 use Rattle.rs_sched.proofs.HexLaws.{noise_bytes_is, noise_bytes_again}
@@ -82,7 +80,8 @@ tick_of sites le [] h = absurd h
 tick_of sites le (a ∷ []) h = absurd h.1
 tick_of sites le (a ∷ b ∷ []) h = record {
   fits = record { fields = (a_site sites a le h.0, h.1.0.above, h.1.0.below); sites_once = λ s. s; site_right = h.0.below };
-  text = tt; written = two (codes "tick") (number_field a) (number_field b);
+  text = tt;
+  written = two (codes "tick") (number_field a) (number_field b);
 }
 tick_of sites le (a ∷ b ∷ c ∷ ns) h = absurd h.1.1
 
@@ -103,7 +102,8 @@ stop_of sites le (a ∷ []) h = absurd h.1
 stop_of sites le (a ∷ b ∷ []) h = absurd h.1.1
 stop_of sites le (a ∷ b ∷ c ∷ []) h = record {
   fits = record { fields = (a_site sites a le h.0, h.1.0.small, h.1.1.0.small); sites_once = λ s. s; site_right = h.0.below };
-  text = tt; written = three (codes "stop") (number_field a) (number_field b) (number_field c);
+  text = tt;
+  written = three (codes "stop") (number_field a) (number_field b) (number_field c);
 }
 stop_of sites le (a ∷ b ∷ c ∷ d ∷ ns) h = absurd h.1.1.1
 
@@ -125,7 +125,8 @@ arm_of sites le (a ∷ b ∷ []) h = absurd h.1.1
 arm_of sites le (a ∷ b ∷ c ∷ []) h = absurd h.1.1.1
 arm_of sites le (a ∷ b ∷ c ∷ d ∷ []) h = record {
   fits = record { fields = (a_site sites a le h.0, h.1.0.above, h.1.0.small, h.1.1.0.small, h.1.1.1.0.small); sites_once = λ s. s; site_right = h.0.below };
-  text = tt; written = four (codes "arm") (number_field a) (number_field b) (number_field c) (number_field d);
+  text = tt;
+  written = four (codes "arm") (number_field a) (number_field b) (number_field c) (number_field d);
 }
 arm_of sites le (a ∷ b ∷ c ∷ d ∷ f ∷ ns) h = absurd h.1.1.1.1
 
@@ -140,7 +141,7 @@ arm_again sites a b c d h =
     let call : IsNumber 1 most b = record { above = h.fields.1; below = omega (arith, h.fields.2); small = h.fields.2 } in
     ap (arm_at sites) (sym (three (number_field a) (number_field b) (number_field c) (number_field d)))
     ∙ numbers_again ((1, sites) ∷ (1, most) ∷ (0, most) ∷ (0, most) ∷ []) (λ ns. events.Arm (nth 0 ns) (nth 1 ns) (nth 2 ns) (nth 3 ns)) (a ∷ b ∷ c ∷ d ∷ [])
-      (site_number sites a h.fields.0 h.site_right, (call, (any c h.fields.3, (any d h.fields.4, tt))))
+    (site_number sites a h.fields.0 h.site_right, (call, (any c h.fields.3, (any d h.fields.4, tt))))
 
 restart_of : (sites : ℕ) → sites ≤ 16 → (ns : List ℕ) → AreWithin ((1, sites) ∷ []) ns → IsOf sites (codes "restart") (fields_of ns) (events.Restart (nth 0 ns))
 restart_of sites le [] h = absurd h
@@ -198,7 +199,8 @@ noise_is sites rest event le e =
     let n = noise_bytes_is site.0.1 noise.0 noise.1 in
     let made : IsOf sites (codes "noise") rest (events.Noise site.0.0 noise.0.0) = record {
       fits = record { fields = (a_site sites site.0.0 le s.0, n.0); sites_once = λ s. s; site_right = s.0.below };
-      text = tt; written = noise_joined (codes "noise") (number_field site.0.0) [] (hex_of noise.0.0) rest site.0.1 noise.0.1 s.1 n.1 (end_is noise.0.1 end.0 end.1);
+      text = tt;
+      written = noise_joined (codes "noise") (number_field site.0.0) [] (hex_of noise.0.0) rest site.0.1 noise.0.1 s.1 n.1 (end_is noise.0.1 end.0 end.1);
     } in
     subst (IsOf sites (codes "noise") rest) (some_is (events.Noise site.0.0 noise.0.0) event end.2) made
 

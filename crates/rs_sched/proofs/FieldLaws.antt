@@ -1,13 +1,13 @@
 -- Fields: what is read is written so, and what is written is read where a space or the end stands behind it.
-use Rattle.std.proofs.Common.{◌≡◌, ℕ, zero, suc, ◌+◌, ◌*◌, ◌^◌, ◌-◌, ◌<◌, ◌≤◌, Bool, true, false, cond, ◌&&◌, ◌||◌, ◌⊎◌, not, eqb, leb, ltb, List, [], ◌∷◌, ◌++◌, length, get_or, take, drop, Option, Some, None, IsTrue, decimal, refl, sym, ap, ◌∙◌, subst, inl, inr, arith, append_assoc}
+use Rattle.std.proofs.Common.{◌≡◌, ℕ, ◌^◌, ◌<◌, ◌≤◌, Bool, true, false, ◌&&◌, ◌⊎◌, not, eqb, leb, List, [], ◌∷◌, ◌++◌, length, take, drop, Option, Some, None, IsTrue, decimal, refl, sym, ap, ◌∙◌, subst, inl, inr, arith}
 use Rattle.std.specs.List.{list_all, prefix_len}
-use Rattle.std.proofs.lemmas.Bool.{and_parts, and_from, eq-eqb, eqb-true, leb-true, le-leb}
+use Rattle.std.proofs.lemmas.Bool.{and_parts, and_from, eqb-true, leb-true, le-leb}
 use Rattle.std.proofs.lemmas.Bool.Decides.{eqb_tells}
-use Rattle.std.proofs.lemmas.List.{take_at, drop_at, take-append-drop, append-nil}
+use Rattle.std.proofs.lemmas.List.{take_at, drop_at, take-append-drop}
 use Rattle.rs_base.specs.Ident.{is_ident, is_name_byte, begins_with_letter, are_name_bytes}
 use Rattle.rs_base.specs.Reading.{◌>>=◌}
 use Rattle.rs_sched.specs.declared.event.Event.{Event}
-use Rattle.rs_sched.specs.Numbers.{is_digit, are_digits, number_of}
+use Rattle.rs_sched.specs.Numbers.{is_digit, number_of}
 use Rattle.rs_sched.specs.Spelling.{number_field}
 use Rattle.rs_sched.specs.Reader.{is_field_byte, field_len, space_at, end_at, number_at, user_at, numbers_at}
 use Rattle.rs_sched.proofs.NumberLaws.{chosen, some_is, number_is, decimal_digits, number_again}

@@ -1,10 +1,10 @@
 -- Bytes in base 16.
-use Rattle.std.proofs.Common.{◌≡◌, ℕ, zero, suc, ◌+◌, ◌-◌, ◌*◌, ◌/◌, ◌%◌, ◌<◌, ◌≤◌, Bool, true, false, cond, ◌&&◌, ◌⊎◌, not, eqb, leb, ltb, IsTrue, codes, List, [], ◌∷◌, ◌++◌, length, get_or, take, drop, Option, Some, None, refl, sym, ap, ◌∙◌, subst, append_assoc, inl, inr, arith}
+use Rattle.std.proofs.Common.{◌≡◌, ℕ, ◌+◌, ◌-◌, ◌*◌, ◌/◌, ◌%◌, ◌<◌, ◌≤◌, Bool, true, false, cond, ◌&&◌, ◌⊎◌, not, eqb, leb, ltb, IsTrue, codes, List, [], ◌∷◌, ◌++◌, length, get_or, take, drop, Option, Some, None, refl, sym, ap, ◌∙◌, subst, append_assoc, inl, inr, arith}
 use Rattle.std.proofs.lemmas.List.{take_all, take-append-drop}
 use Rattle.rs_base.specs.Reading.{◌>>=◌}
 use Rattle.std.specs.Prelude.{flat_map, bytes_eq}
 use Rattle.std.specs.List.{list_all}
-use Rattle.std.proofs.lemmas.Bool.{and_parts, and_from, eqb-true, leb-true, le-leb, ltb-true, lt-ltb}
+use Rattle.std.proofs.lemmas.Bool.{and_parts, and_from, leb-true, le-leb, ltb-true, lt-ltb}
 use Rattle.std.proofs.lemmas.Bool.Decides.{eqb_tells}
 use Rattle.std.proofs.lemmas.Slice.Eq.{bytes_eq-Decides}
 use Rattle.rs_sched.specs.Numbers.{hex_value, hex_pair, bytes_of_hex, noise_of, with_bytes}
@@ -55,9 +55,9 @@ hex_value_is b n e =
     elim (cases_of (leb 48 b && leb b 57) (Some (b - 48)) (cond (leb 97 b && leb b 102) (Some (b - 87)) None) (Some n) e) [
       | inl h ↦ low h.0 (some_is _ _ h.1)
       | inr h ↦ elim (cases_of (leb 97 b && leb b 102) (Some (b - 87)) None (Some n) h.1) [
-          | inl k ↦ high k.0 (some_is _ _ k.1)
-          | inr k ↦ absurd (none k.1)
-        ]
+        | inl k ↦ high k.0 (some_is _ _ k.1)
+        | inr k ↦ absurd (none k.1)
+      ]
     ]
   where
     low : (leb 48 b && leb b 57) ≡ true → b - 48 ≡ n → (n < 16) × (b ≡ hex_digit n)
@@ -67,6 +67,7 @@ hex_value_is b n e =
         let below = leb-true b 57 both.1 in
         let lt : n < 10 = omega arith in
         (omega arith, rw (lt-ltb n 10 lt) (omega arith))
+
     high : (leb 97 b && leb b 102) ≡ true → b - 87 ≡ n → (n < 16) × (b ≡ hex_digit n)
     high t is =
         let both = and_parts (leb 97 b) (leb b 102) t in
@@ -74,6 +75,7 @@ hex_value_is b n e =
         let below = leb-true b 102 both.1 in
         let ge : 10 ≤ n = omega arith in
         (omega arith, rw (not_lt n 10 ge) (omega arith))
+
     none : None ≡ Some n → ⊥
     none e = cc
 

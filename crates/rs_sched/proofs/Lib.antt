@@ -4,5 +4,6 @@ pub mod FieldLaws
 pub mod HexLaws
 pub mod LineLaws
 pub mod NumberLaws
+pub mod PrintLaws
 pub mod ReadLoop
 pub mod ScheduleLaws

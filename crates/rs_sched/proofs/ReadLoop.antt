@@ -1,12 +1,10 @@
 -- The loop over lines: what was found, in front of what is still read.
-use Rattle.std.proofs.Common.{◌≡◌, ℕ, zero, suc, ◌+◌, ◌-◌, ◌<◌, ◌≤◌, Bool, true, false, cond, List, [], ◌∷◌, ◌++◌, length, take, drop, Option, Some, None, Result, Ok, Err, refl, sym, ap, ◌∙◌, subst, append_assoc, length-drop, arith}
+use Rattle.std.proofs.Common.{◌≡◌, ℕ, ◌+◌, ◌≤◌, true, false, cond, List, [], ◌∷◌, ◌++◌, length, take, drop, Option, Result, Ok, Err, refl, sym, ap, ◌∙◌, append_assoc, length-drop, arith}
 use Rattle.std.specs.List.{prefix_len}
 use Rattle.rs_sched.specs.declared.event.Event.{Event}
 use Rattle.rs_sched.specs.declared.fault.Why.{Why}
 use Rattle.rs_sched.specs.declared.fault.SchedFault.{SchedFault}
 use Rattle.rs_sched.specs.declared.fault.SchedFault.TheVariants as faults
-use Rattle.rs_sched.specs.declared.fault.LineFault.{LineFault}
-use Rattle.rs_sched.specs.declared.fault.LineFault.TheVariants as line_faults
 use Rattle.rs_sched.specs.Lines.{lines_of, without_returns, is_comment, is_before_feed}
 use Rattle.rs_sched.specs.Reader.{lines_at, line_at, further, sites_after, with_events}
 use Rattle.rs_sched.proofs.LineLaws.{lines_next}

@@ -1,5 +1,5 @@
 -- All lines: what is read is a schedule, what is a schedule is read, and a refusal says the first bad line and its cause.
-use Rattle.std.proofs.Common.{◌≡◌, ℕ, zero, suc, ◌+◌, ◌*◌, ◌^◌, ◌-◌, ◌<◌, ◌≤◌, Bool, true, false, cond, ◌&&◌, ◌⊎◌, not, eqb, leb, ltb, List, [], ◌∷◌, ◌++◌, length, take, drop, Option, Some, None, Result, Ok, Err, IsTrue, codes, decimal, refl, sym, ap, ◌∙◌, subst, inl, inr, arith, append_assoc}
+use Rattle.std.proofs.Common.{◌≡◌, ℕ, ◌+◌, ◌≤◌, Bool, true, false, cond, not, eqb, ltb, List, [], ◌∷◌, ◌++◌, length, Option, Some, None, Result, Ok, Err, IsTrue, refl, sym, ap, subst, inl, inr, arith}
 use Rattle.std.specs.List.{list_all}
 use Rattle.std.proofs.lemmas.Bool.{ltb-true, ltb-false, and_from}
 use Rattle.rs_sched.specs.declared.event.Event.{Event}
@@ -9,12 +9,14 @@ use Rattle.rs_sched.specs.declared.fault.Why.TheVariants as whys
 use Rattle.rs_sched.specs.declared.fault.SchedFault.{SchedFault}
 use Rattle.rs_sched.specs.declared.fault.SchedFault.TheVariants as faults
 use Rattle.rs_sched.specs.Lines.{onto_first, lines_of, without_returns, is_comment, is_before_feed}
-use Rattle.rs_sched.specs.Spelling.{line_of, IsSiteNo, IsLine}
+use Rattle.rs_sched.specs.Spelling.{line_of, IsLine}
 use Rattle.rs_sched.specs.Schedule.{IsLater, AreLater, AreLines, IsValid, IsSchedule}
-use Rattle.rs_sched.specs.Faults.{IsRightLine, IsCause, sites_of, IsBegun, IsBadLine, HasNoLine, HasTooMany, IsFault}
+use Rattle.rs_sched.specs.Faults.{IsRightLine, IsCause, sites_of, IsBegun, IsFault}
 use Rattle.rs_sched.specs.Reader.{lines_at, line_at, at_end, further, sites_after, with_events, events_of}
+use Rattle.std.specs.Prelude.{IfOk, IfErr}
+use Rattle.rs_sched.specs.Reading.{GivesSchedule, FailsSchedule, TellsFault}
 use Rattle.rs_sched.proofs.LineLaws.{line_of_part}
-use Rattle.rs_sched.proofs.CauseLaws.{IsRead, IsFirst, later_is, later_right, later_cause, later_wrong, first_is, first_right, first_cause, first_wrong}
+use Rattle.rs_sched.proofs.CauseLaws.{later_is, later_right, later_cause, later_wrong, first_is, first_right, first_cause, first_wrong}
 
 not_ltb : (a b : ℕ) → b ≤ a → ltb a b ≡ false
 not_ltb a b h = by_test (ltb a b) refl
@@ -202,3 +204,194 @@ lines_again (line ∷ lines) sites before (event ∷ given) completes (inr h) =
 pub events_again : (bytes : List ℕ) (given : List Event) → IsSchedule bytes given → events_of bytes ≡ Ok given
 unfolding events_of
 events_again bytes given h = rw (not_ltb 16777216 (length bytes) h.short) (lines_again (lines_of bytes) None 0 given h.valid h.lines)
+
+-- Bytes are a schedule in one way.
+pub schedule_once : (bytes : List ℕ) (given others : List Event) → IsSchedule bytes given → IsSchedule bytes others → given ≡ others
+schedule_once bytes given others h k = let e = events_again bytes given h in let f = events_again bytes others k in cc
+
+-- ---- what a refusal says
+
+-- one of the lines is bad
+record BadAmong (sites : Option ℕ) (before : ℕ) (lines : List (List ℕ)) (at : ℕ) (why : Why) : Type 0 where
+  front : List (List ℕ)
+  line : List ℕ
+  behind : List (List ℕ)
+  parted : lines ≡ front ++ line ∷ behind
+  place : at ≡ before + length front + 1
+  given : List Event
+  begun : Continues sites given
+  written : AreLines front given
+  no_comment : is_comment (without_returns line) ≡ false
+  not_right : ¬ IsRightLine (known sites given) (without_returns line)
+  cause : IsCause (known sites given) (without_returns line) why
+
+-- no event stands in them, and one was to come
+record NoneAmong (sites : Option ℕ) (before : ℕ) (lines : List (List ℕ)) (at : ℕ) (why : Why) : Type 0 where
+  unknown : sites ≡ None
+  comments : AreLines lines []
+  place : at ≡ before + length lines + 1
+  cause : why ≡ whys.NoSites
+
+data Failed (sites : Option ℕ) (before : ℕ) (lines : List (List ℕ)) (fault : SchedFault) : Type 0 where
+  bad : (at : ℕ) (why : Why) → fault ≡ faults.BadLine at why → BadAmong sites before lines at why → Failed sites before lines fault
+  none : (at : ℕ) (why : Why) → fault ≡ faults.BadLine at why → NoneAmong sites before lines at why → Failed sites before lines fault
+
+end_failed : (sites : Option ℕ) (before : ℕ) (fault : SchedFault) → at_end sites before ≡ Err fault → Failed sites before [] fault
+end_failed (Some sites) before fault e = absurd cc
+end_failed None before fault e =
+    let made : NoneAmong None before [] (before + 1) whys.NoSites = record { unknown = refl; comments = tt; place = omega arith; cause = refl } in
+    let is : fault ≡ faults.BadLine (before + 1) whys.NoSites = cc in
+    none (before + 1) whys.NoSites is made
+
+-- a comment stands in front
+comment_failed : (sites : Option ℕ) (before : ℕ) (line : List ℕ) (lines : List (List ℕ)) (fault : SchedFault) → IsTrue (is_comment (without_returns line)) → Failed sites (before + 1) lines fault → Failed sites before (line ∷ lines) fault
+comment_failed sites before line lines fault comment (bad at why is h) = bad at why is (record {
+  front = line ∷ h.front;
+  line = h.line;
+  behind = h.behind;
+  parted = ap (λ (ls : List (List ℕ)). line ∷ ls) h.parted;
+  place = omega (arith, h.place);
+  given = h.given;
+  begun = h.begun;
+  written = comment_more line h.front h.given comment h.written;
+  no_comment = h.no_comment;
+  not_right = h.not_right;
+  cause = h.cause;
+})
+comment_failed sites before line lines fault comment (none at why is h) = none at why is (record {
+  unknown = h.unknown;
+  comments = (comment, h.comments);
+  place = omega (arith, h.place);
+  cause = h.cause;
+})
+
+known_none : (sites : Option ℕ) (line : List ℕ) (event : Event) → Few sites → IsLine line → line_at sites line ≡ Ok event → sites_after sites event ≡ None → ⊥
+known_none None line event few right e unknown = let first = first_is line event e in let same = ap (sites_after None) first.is in cc
+known_none (Some sites) line event few right e unknown = cc
+
+-- an event stands in front
+event_failed : (sites : Option ℕ) (before : ℕ) (line : List ℕ) (lines : List (List ℕ)) (event : Event) (fault : SchedFault) → (sites_after sites event ≡ None → ⊥) → Follows sites (without_returns line) event
+    → Failed (sites_after sites event) (before + 1) lines fault → Failed sites before (line ∷ lines) fault
+event_failed sites before line lines event fault some follows (bad at why is h) = bad at why is (record {
+  front = line ∷ h.front;
+  line = h.line;
+  behind = h.behind;
+  parted = ap (λ (ls : List (List ℕ)). line ∷ ls) h.parted;
+  place = omega (arith, h.place);
+  given = event ∷ h.given;
+  begun = follows.begins h.given h.begun;
+  written = inr (follows.written, h.written);
+  no_comment = h.no_comment;
+  not_right = subst (λ (s : Option ℕ). ¬ IsRightLine s (without_returns h.line)) (sym (follows.knows h.given)) h.not_right;
+  cause = subst (λ (s : Option ℕ). IsCause s (without_returns h.line) why) (sym (follows.knows h.given)) h.cause;
+})
+event_failed sites before line lines event fault some follows (none at why is h) = absurd (some h.unknown)
+
+line_cause : (sites : Option ℕ) (line : List ℕ) (why : Why) → Few sites → line_at sites line ≡ Err why → IsCause (known sites []) line why
+line_cause None line why few e = first_cause line why e
+line_cause (Some sites) line why few e = later_cause sites line why few e
+
+line_wrong : (sites : Option ℕ) (line : List ℕ) (why : Why) → line_at sites line ≡ Err why → ¬ IsRightLine (known sites []) line
+line_wrong None line why e = first_wrong line why e
+line_wrong (Some sites) line why e = later_wrong sites line why e
+
+none_begun : (sites : Option ℕ) → Continues sites []
+none_begun None = tt
+none_begun (Some sites) = tt
+
+with_err : (event : Event) (read : Result (List Event) SchedFault) (fault : SchedFault) → with_events (event ∷ []) read ≡ Err fault → read ≡ Err fault
+with_err event (Err other) fault e = e
+with_err event (Ok others) fault e = absurd cc
+
+lines_failed : (lines : List (List ℕ)) (sites : Option ℕ) (before : ℕ) (fault : SchedFault) → Few sites → Feedless lines → lines_at sites before lines ≡ Err fault → Failed sites before lines fault
+lines_failed [] sites before fault few feeds e = end_failed sites before fault e
+lines_failed (line ∷ lines) sites before fault few feeds e = by_comment (is_comment (without_returns line)) refl e (lines_failed lines)
+  where
+    by_line : (read : Result Event Why) → line_at sites (without_returns line) ≡ read → is_comment (without_returns line) ≡ false
+        → further (before + 1) read (λ event. lines_at (sites_after sites event) (before + 1) lines) ≡ Err fault
+        → ((sites : Option ℕ) (before : ℕ) (fault : SchedFault) → Few sites → Feedless lines → lines_at sites before lines ≡ Err fault → Failed sites before lines fault) → Failed sites before (line ∷ lines) fault
+    by_line (Err why) r c e others =
+        let is : fault ≡ faults.BadLine (before + 1) why = cc in
+        let made : BadAmong sites before (line ∷ lines) (before + 1) why = record {
+          front = [];
+          line = line;
+          behind = lines;
+          parted = refl;
+          place = omega arith;
+          given = [];
+          begun = none_begun sites;
+          written = tt;
+          no_comment = c;
+          not_right = line_wrong sites (without_returns line) why r;
+          cause = line_cause sites (without_returns line) why few r;
+        } in
+        bad (before + 1) why is made
+    by_line (Ok event) r c e others =
+        let right = line_of_part line feeds.0 in
+        let follows = line_follows sites (without_returns line) event few right r in
+        let more = others (sites_after sites event) (before + 1) fault follows.few feeds.1 (with_err event (lines_at (sites_after sites event) (before + 1) lines) fault e) in
+        event_failed sites before line lines event fault (known_none sites (without_returns line) event few right r) follows more
+
+    by_comment : (comment : Bool) → is_comment (without_returns line) ≡ comment
+        → cond comment (lines_at sites (before + 1) lines) (further (before + 1) (line_at sites (without_returns line)) (λ event. lines_at (sites_after sites event) (before + 1) lines)) ≡ Err fault
+        → ((sites : Option ℕ) (before : ℕ) (fault : SchedFault) → Few sites → Feedless lines → lines_at sites before lines ≡ Err fault → Failed sites before lines fault) → Failed sites before (line ∷ lines) fault
+    by_comment true c e others = comment_failed sites before line lines fault c (others sites (before + 1) fault few feeds.1 e)
+    by_comment false c e others = by_line (line_at sites (without_returns line)) refl c e others
+
+not_true : (b : Bool) → b ≡ false → ¬ IsTrue b
+not_true true e = absurd cc
+not_true false e = λ h. cc
+
+fault_of : (bytes : List ℕ) (at : ℕ) (why : Why) → length bytes ≤ 16777216 → Failed None 0 (lines_of bytes) (faults.BadLine at why) → IsFault bytes at why
+fault_of bytes at why short (bad k w is h) =
+    let same : k ≡ at = cc in
+    let also : w ≡ why = cc in
+    let made : IsFault bytes k w = inr (inl (record {
+      short = short;
+      before = h.front;
+      line = h.line;
+      behind = h.behind;
+      parted = h.parted;
+      place = omega (arith, h.place);
+      given = h.given;
+      begun = h.begun;
+      given_right = h.written;
+      no_comment = not_true (is_comment (without_returns h.line)) h.no_comment;
+      not_right = h.not_right;
+      cause = h.cause;
+    })) in
+    subst (λ (n : ℕ). IsFault bytes n why) same (subst (IsFault bytes k) also made)
+fault_of bytes at why short (none k w is h) =
+    let same : k ≡ at = cc in
+    let also : w ≡ why = cc in
+    let made : IsFault bytes k w = inr (inr (record { short = short; comments = h.comments; place = omega (arith, h.place); cause = h.cause })) in
+    subst (λ (n : ℕ). IsFault bytes n why) same (subst (IsFault bytes k) also made)
+
+-- A refusal says the first bad line, and the first cause that fits it.
+pub fault_is : (bytes : List ℕ) (at : ℕ) (why : Why) → events_of bytes ≡ Err (faults.BadLine at why) → IsFault bytes at why
+unfolding events_of
+fault_is bytes at why e = by_length (ltb 16777216 (length bytes)) refl e
+  where
+    by_length : (long : Bool) → ltb 16777216 (length bytes) ≡ long → cond long (Err (faults.BadLine 0 whys.TooLong)) (lines_at None 0 (lines_of bytes)) ≡ Err (faults.BadLine at why) → IsFault bytes at why
+    by_length true l e =
+        let same : 0 ≡ at = cc in
+        let also : whys.TooLong ≡ why = cc in
+        inl (record { long = ltb-true _ _ l; place = sym same; cause = sym also })
+    by_length false l e = fault_of bytes at why (ltb-false 16777216 (length bytes) l) (lines_failed (lines_of bytes) None 0 (faults.BadLine at why) tt (lines_feedless bytes) e)
+
+-- ---- the clauses of the call
+
+pub parse_found : (bytes : List ℕ) (result : Result (List Event) SchedFault) → GivesSchedule result (events_of bytes) → IfOk result (λ given. IsSchedule bytes given)
+parse_found bytes (Ok given) e = events_are bytes given e
+parse_found bytes (Err fault) e = tt
+
+pub parse_only : (bytes : List ℕ) (result : Result (List Event) SchedFault) → GivesSchedule result (events_of bytes) → (given : List Event) → IsSchedule bytes given → GivesSchedule result (Ok given)
+parse_only bytes result e given h = subst (GivesSchedule result) (events_again bytes given h) e
+
+tells : (bytes : List ℕ) (fault : SchedFault) → FailsSchedule fault (events_of bytes) → TellsFault bytes fault
+tells bytes (faults.BadLine at why) e = fault_is bytes at why e
+tells bytes faults.NoMemory e = tt
+
+pub parse_fault : (bytes : List ℕ) (result : Result (List Event) SchedFault) → GivesSchedule result (events_of bytes) → IfErr result (λ fault. TellsFault bytes fault)
+parse_fault bytes (Ok given) e = tt
+parse_fault bytes (Err fault) e = tells bytes fault e

@@ -1,5 +1,5 @@
 -- What a function of this crate gives, against what reading gives. Want of memory says nothing of what was read.
-use Rattle.std.specs.Prelude.{◌≡◌, List, Result, Ok, Err}
+use Rattle.std.specs.Prelude.{◌≡◌, ℕ, List, Result, Ok, Err}
 use Rattle.rs_base.specs.declared.fault.ReadFault.{ReadFault}
 use Rattle.rs_base.specs.declared.fault.ReadFault.TheVariants as reads
 use Rattle.rs_sched.specs.declared.event.Event.{Event}
@@ -9,6 +9,7 @@ use Rattle.rs_sched.specs.declared.fault.SchedFault.{SchedFault}
 use Rattle.rs_sched.specs.declared.fault.SchedFault.TheVariants as faults
 use Rattle.rs_sched.specs.declared.fault.LineFault.{LineFault}
 use Rattle.rs_sched.specs.declared.fault.LineFault.TheVariants as lines
+use Rattle.rs_sched.specs.Faults.{IsFault}
 
 -- fields that are not those of the word
 abbrev pub of_read : ReadFault → LineFault
@@ -30,3 +31,7 @@ FailsSchedule faults.NoMemory read = Unit {0}
 abbrev pub GivesSchedule : Result (List Event) SchedFault → Result (List Event) SchedFault → Type 0
 GivesSchedule (Ok events) read = read ≡ Ok events
 GivesSchedule (Err fault) read = FailsSchedule fault read
+
+abbrev pub TellsFault : List ℕ → SchedFault → Type 0
+TellsFault bytes (faults.BadLine line why) = IsFault bytes line why
+TellsFault bytes faults.NoMemory = Unit {0}

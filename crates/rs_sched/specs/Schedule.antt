@@ -1,5 +1,5 @@
 -- Which bytes are a schedule, and of which events.
-use Rattle.std.specs.Prelude.{◌≡◌, ℕ, ◌≤◌, List, [], ◌∷◌, length, Option, Some, None, IsTrue, ◌⊎◌}
+use Rattle.std.specs.Prelude.{◌≡◌, ℕ, ◌≤◌, List, [], ◌∷◌, ◌++◌, length, flat_map, codes, Option, Some, None, IsTrue, ◌⊎◌}
 use Rattle.rs_sched.specs.declared.event.Event.{Event}
 use Rattle.rs_sched.specs.declared.event.Event.TheVariants as events
 use Rattle.rs_sched.specs.Lines.{lines_of, without_returns, is_comment}
@@ -69,3 +69,7 @@ pub record IsSchedule (bytes : List ℕ) (given : List Event) : Type 0 where
   pub short : length bytes ≤ 16777216
   pub lines : AreLines (lines_of bytes) given
   pub valid : IsValid given
+
+-- the events as lines, each with its line feed
+abbrev pub text_of : List Event → List ℕ
+text_of given = flat_map (λ event. line_of event ++ codes "\n") given

@@ -9,7 +9,7 @@ use Rattle.rs_sched.specs.declared.event.Event.{Event}
 use Rattle.rs_sched.specs.declared.event.Event.TheVariants as events
 use Rattle.rs_sched.specs.declared.word.Word.{Word}
 use Rattle.rs_sched.specs.declared.word.Word.TheVariants as words
-use Rattle.rs_sched.specs.Lines.{is_return, without_returns}
+use Rattle.rs_sched.specs.Lines.{without_returns}
 
 -- the word that a line begins with
 abbrev pub spelling : Word → List ℕ

@@ -6,6 +6,7 @@ mod event_reader;
 mod fault;
 mod fields;
 mod hex;
+pub mod laws;
 mod line_reader;
 mod lines;
 mod number;

@@ -86,11 +86,7 @@ fn first_line(line: &[u8]) -> Result<Event, LineFault>
 }
 
 /// The event of a line behind a `sites` line of so many sites, or of the first line.
-pub fn event_of_line(
-    alloc: Global,
-    sites: Option<SiteNo>,
-    line: &[u8],
-) -> Result<Event, LineFault>
+pub fn event_of_line(alloc: Global, sites: Option<SiteNo>, line: &[u8]) -> Result<Event, LineFault>
     ensures { GivesLine result (spec.line_at sites line.now) }
 {
     match sites {

@@ -81,7 +81,13 @@ fn put_settle(out: &mut Bytes, count: Option<u64>) -> Result<(), NoMemory>
     }
 }
 
-fn put_arm(out: &mut Bytes, site: SiteNo, call: u64, writes: u64, bytes: u64) -> Result<(), NoMemory>
+fn put_arm(
+    out: &mut Bytes,
+    site: SiteNo,
+    call: u64,
+    writes: u64,
+    bytes: u64,
+) -> Result<(), NoMemory>
     ensures { OnOk result (out.new ≡ out.old ++ spec.arm_line site call writes bytes) }
 {
     out.extend(b"arm")?;

@@ -64,14 +64,26 @@ const REFUSED: [(&[u8], u64, Why); 67] = [
     (b"sites 2\nask 1 ann 1 1", 2, Why::BadFields),
     (b"sites 2\nask 3 ann 1 1 x", 2, Why::BadFields),
     (b"sites 2\nask 1 Ann 1 1 x", 2, Why::BadFields),
-    (b"sites 2\nask 1 abcdefghijklmnopqrstuvwxy 1 1 x", 2, Why::BadFields),
+    (
+        b"sites 2\nask 1 abcdefghijklmnopqrstuvwxy 1 1 x",
+        2,
+        Why::BadFields,
+    ),
     (b"sites 2\nask 1  1 1 x", 2, Why::BadFields),
     (b"sites 2\nask 1 ann 4294967296 1 x", 2, Why::BadFields),
-    (b"sites 2\nask 1 ann 1 18446744073709551616 x", 2, Why::BadFields),
+    (
+        b"sites 2\nask 1 ann 1 18446744073709551616 x",
+        2,
+        Why::BadFields,
+    ),
     (b"sites 2\nask 1 ann 01 1 \xFF", 2, Why::BadFields),
     (b"sites 2\nask 1 ann 1 1 \xFF", 2, Why::NotUtf8),
     (b"sites 2\r\n#\r\n\r\nask 1 ann 1 1 \xC3\r", 4, Why::NotUtf8),
-    (b"sites 2\nask 1 ann 1 1 x\nask 1 ann 1 1 \xE2\x82", 3, Why::NotUtf8),
+    (
+        b"sites 2\nask 1 ann 1 1 x\nask 1 ann 1 1 \xE2\x82",
+        3,
+        Why::NotUtf8,
+    ),
 ];
 
 /// Schedules that are printed as they were read.
@@ -85,9 +97,18 @@ const KEPT: [&[u8]; 4] = [
 /// Schedules with what they are printed as.
 const PLAIN: [(&[u8], &[u8]); 4] = [
     (b"sites 1", b"sites 1\n"),
-    (b"\r\n# x\n\nsites 1\r\r\n#y\nsettle\r", b"sites 1\nsettle\n"),
-    (b"sites 1\nask 1 a 1 1 x\ry\r\r\n\n", b"sites 1\nask 1 a 1 1 x\ry\n"),
-    (b"sites 1\nask 1 a 1 1 \r\nsettle 7\n\n", b"sites 1\nask 1 a 1 1 \nsettle 7\n"),
+    (
+        b"\r\n# x\n\nsites 1\r\r\n#y\nsettle\r",
+        b"sites 1\nsettle\n",
+    ),
+    (
+        b"sites 1\nask 1 a 1 1 x\ry\r\r\n\n",
+        b"sites 1\nask 1 a 1 1 x\ry\n",
+    ),
+    (
+        b"sites 1\nask 1 a 1 1 \r\nsettle 7\n\n",
+        b"sites 1\nask 1 a 1 1 \nsettle 7\n",
+    ),
 ];
 
 fn is_refused(alloc: Global, bytes: &[u8], at: u64, cause: Why) -> bool {
@@ -131,7 +152,11 @@ fn ask_of(alloc: Global, len: usize, end: &[u8]) -> Result<Vec<u8>, AllocError> 
 #[test]
 fn refuses(rt: HostRuntime) {
     for case in &REFUSED {
-        assert!(rt; is_refused(rt.alloc(), case.0, case.1, case.2), "{:?}", case.0);
+        assert!(rt;
+            is_refused(rt.alloc(), case.0, case.1, case.2),
+            "{:?}",
+            case.0
+        );
     }
 }
 
@@ -171,7 +196,8 @@ fn limits_bytes(rt: HostRuntime) -> Result<(), Fail> {
 
 #[test]
 fn reads_each_kind(rt: HostRuntime) -> Result<(), Fail> {
-    let text = b"sites 4\nask 3 ann 5 6 x y\ndeliver 7\nlose 8\ntick 2 9\nstop 1 10 11\narm 4 12 13 14\nrestart 2\nsettle\nsettle 15\nnoise 3 0aff";
+    let text =
+        b"sites 4\nask 3 ann 5 6 x y\ndeliver 7\nlose 8\ntick 2 9\nstop 1 10 11\narm 4 12 13 14\nrestart 2\nsettle\nsettle 15\nnoise 3 0aff";
     let events = parse_schedule(rt.alloc(), text)?;
     assert_eq!(rt; events.len(), 11);
     let site = SiteNo::new(3).ok_or("no site")?;
@@ -183,7 +209,9 @@ fn reads_each_kind(rt: HostRuntime) -> Result<(), Fail> {
         number: 6,
     };
     assert!(rt; matches!(events.get(0), Some(Event::Sites(last)) if last.number() == 4));
-    assert!(rt; matches!(events.get(1), Some(Event::Ask { origin, text }) if *origin == asked && text.as_slice() == b"x y".as_slice()));
+    assert!(rt;
+        matches!(events.get(1), Some(Event::Ask { origin, text }) if *origin == asked && text.as_slice() == b"x y".as_slice())
+    );
     assert!(rt; matches!(events.get(2), Some(Event::Deliver(7))));
     assert!(rt; matches!(events.get(3), Some(Event::Lose(8))));
     assert!(rt; matches!(events.get(4), Some(Event::Tick(at, 9)) if at.number() == 2));
@@ -192,7 +220,9 @@ fn reads_each_kind(rt: HostRuntime) -> Result<(), Fail> {
     assert!(rt; matches!(events.get(7), Some(Event::Restart(at)) if at.number() == 2));
     assert!(rt; matches!(events.get(8), Some(Event::Settle(None))));
     assert!(rt; matches!(events.get(9), Some(Event::Settle(Some(15)))));
-    assert!(rt; matches!(events.get(10), Some(Event::Noise(at, bytes)) if at.number() == 3 && bytes.as_slice() == [10, 255].as_slice()));
+    assert!(rt;
+        matches!(events.get(10), Some(Event::Noise(at, bytes)) if at.number() == 3 && bytes.as_slice() == [10, 255].as_slice())
+    );
     Ok(())
 }
 

@@ -1,4 +1,4 @@
-use Rattle.std.proofs.Common.{◌≡◌, sym, ◌∙◌}
+use Rattle.std.proofs.Common.{sym, ◌∙◌}
 use Rattle.rs_sched.specs.Numbers.{bytes_of_hex}
 use Rattle.rs_sched.proofs.HexLaws.{hex_more}
 use Rattle.rs_sched.proofs.hex.bytes_of_hex.Goals as goal

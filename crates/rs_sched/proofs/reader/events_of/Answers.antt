@@ -1,4 +1,4 @@
-use Rattle.std.proofs.Common.{◌≡◌, ◌≤◌, sym, ◌∙◌, length, arith}
+use Rattle.std.proofs.Common.{◌≤◌, sym, ◌∙◌, length, arith}
 use Rattle.rs_sched.proofs.ReadLoop.{Taken, taken_smaller, comment_passed, event_read, line_fails}
 use Rattle.rs_sched.proofs.reader.events_of.Goals as goal
 
