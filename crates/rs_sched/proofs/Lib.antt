@@ -1,0 +1,9 @@
+pub mod CauseLaws
+pub mod EventLaws
+pub mod FieldLaws
+pub mod HexLaws
+pub mod LineLaws
+pub mod NumberLaws
+pub mod PrintLaws
+pub mod ReadLoop
+pub mod ScheduleLaws

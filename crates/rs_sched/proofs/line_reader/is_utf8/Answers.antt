@@ -1,0 +1,15 @@
+use Rattle.std.proofs.Common.{◌≡◌, Bool, true, false, sym, refl}
+use Rattle.std.specs.Str.{is_utf8}
+use Rattle.std.proofs.lemmas.Str.{IsUtf8-from_is_utf8, is_utf8-from_IsUtf8}
+use Rattle.rs_sched.proofs.line_reader.is_utf8.Goals as goal
+
+-- a test that isn't true is false
+false_from_not : (b : Bool) → ((b ≡ true) → ⊥) → false ≡ b
+false_from_not true h = absurd (h refl)
+false_from_not false h = refl
+
+pub returns-in-Ok : goal.returns-in-Ok
+returns-in-Ok c = sym (is_utf8-from_IsUtf8 c.args.bytes.now c.in-Ok.ensures.cases.1)
+
+pub returns-in-Err : goal.returns-in-Err
+returns-in-Err c = false_from_not (is_utf8 c.args.bytes.now) (λ e. c.in-Err.ensures.cases.0 (IsUtf8-from_is_utf8 c.args.bytes.now e))

@@ -1,0 +1,12 @@
+-- What holds of every schedule.
+use Rattle.std.specs.Prelude.{◌≡◌, ℕ, ◌≤◌, List, length}
+use Rattle.rs_sched.specs.declared.event.Event.{Event}
+use Rattle.rs_sched.specs.Schedule.{IsValid, IsSchedule, text_of}
+
+-- a valid list, printed event after event, is a schedule of that list
+abbrev pub PrintedIsSchedule : Type 0
+PrintedIsSchedule = (given : List Event) → IsValid given → length (text_of given) ≤ 16777216 → IsSchedule (text_of given) given
+
+-- bytes are a schedule of one list
+abbrev pub ScheduleOnce : Type 0
+ScheduleOnce = (bytes : List ℕ) (given others : List Event) → IsSchedule bytes given → IsSchedule bytes others → given ≡ others

@@ -1,0 +1,22 @@
+//! Schedules: what happens to a world of sites, as lines of text.
+#![tactic(auto)]
+
+mod event;
+mod event_reader;
+mod fault;
+mod fields;
+mod hex;
+pub mod laws;
+mod line_reader;
+mod lines;
+mod number;
+mod print;
+mod reader;
+#[cfg(test)]
+mod tests;
+mod word;
+
+pub use event::{Event, Events};
+pub use fault::{SchedFault, Why};
+pub use print::print_event;
+pub use reader::parse_schedule;

@@ -1,0 +1,85 @@
+//! The lines of a text.
+
+ghost use Rattle.std.specs.Prelude.{◌≡◌, ◌≤◌, length, take, drop};
+ghost use Rattle.std.specs.List.{prefix_len};
+ghost use Rattle.rs_sched.specs.Lines as spec;
+
+use std::marker::Model;
+
+/// The bytes that are still to be parted into lines.
+#[derive(Drop)]
+pub struct Lines<'a> {
+    left: &'a [u8],
+}
+
+impl<'a> Model for Lines<'a> {
+    ghost use Rattle.std.specs.Prelude.{List, ℕ};
+
+    ghost Value = { List ℕ };
+
+    ghost view = { λ lines. lines.left.now };
+}
+
+fn line_len(bytes: &[u8]) -> usize
+    ensures value { result ≡ prefix_len spec.is_before_feed bytes.now }
+    ensures within { result ≤ length bytes.now }
+{
+    bytes.iter().take_while(|byte| **byte != b'\n').count()
+}
+
+fn behind_feed(rest: &[u8]) -> &[u8]
+    ensures { result.now ≡ drop 1 rest.now }
+{
+    match rest {
+        [] => rest,
+        [_, behind @ ..] => behind,
+    }
+}
+
+impl<'a> Lines<'a> {
+    pub fn new(bytes: &'a [u8]) -> Lines<'a>
+        ensures { result ≡ bytes.now }
+    {
+        Lines { left: bytes }
+    }
+
+    pub fn len(&self) -> usize
+        ensures { result ≡ length self.now }
+    {
+        self.left.len()
+    }
+
+    /// The next line, where there is one, with the carriage returns at its end.
+    pub fn next(&mut self) -> &'a [u8]
+        ensures line { result.now ≡ take (prefix_len spec.is_before_feed self.old) self.old }
+        ensures rest { self.new ≡ drop 1 (drop (prefix_len spec.is_before_feed self.old) self.old) }
+    {
+        let (line, rest) = self.left.split_at(line_len(self.left));
+        self.left = behind_feed(rest);
+        line
+    }
+}
+
+/// The line without the carriage returns at its end.
+pub fn without_returns(line: &[u8]) -> &[u8]
+    ensures { result.now ≡ spec.without_returns line.now }
+{
+    let mut left = line;
+    while let [front @ .., last] = left {
+        if *last != b'\r' {
+            return left;
+        }
+        left = front;
+    }
+    left
+}
+
+/// The line gives no event: it is empty, or begins with `#`.
+pub fn is_comment(line: &[u8]) -> bool
+    ensures { result ≡ spec.is_comment line.now }
+{
+    match line {
+        [] => true,
+        [first, ..] => *first == b'#',
+    }
+}

@@ -1,0 +1,100 @@
+//! A schedule, read whole.
+
+ghost use Rattle.std.specs.Prelude.{◌≡◌, List, None, Ok, IfOk, IfErr};
+ghost use Rattle.rs_sched.specs.declared.event.Event.{Event};
+ghost use Rattle.rs_sched.specs.Schedule.{IsSchedule};
+ghost use Rattle.rs_sched.specs.Reader as spec;
+ghost use Rattle.rs_sched.specs.Reading.{GivesSchedule, TellsFault};
+
+use crate::event::{Event, Events};
+use crate::fault::{LineFault, SchedFault, Why};
+use crate::line_reader::event_of_line;
+use crate::lines::{Lines, is_comment, without_returns};
+use rs_base::SiteNo;
+use sqlite_items::Items;
+use std::alloc::Global;
+
+/// How many bytes a schedule has at most.
+const MOST_BYTES: usize = 16_777_216;
+
+fn sites_after(sites: Option<SiteNo>, event: &Event) -> Option<SiteNo>
+    ensures { result ≡ spec.sites_after sites event.now }
+{
+    match sites {
+        Some(_) => sites,
+        None => match event {
+            Event::Sites(last) => Some(*last),
+            Event::Ask { .. } => None,
+            Event::Deliver(_) => None,
+            Event::Lose(_) => None,
+            Event::Tick(_, _) => None,
+            Event::Stop(_, _, _) => None,
+            Event::Arm(_, _, _, _) => None,
+            Event::Restart(_) => None,
+            Event::Settle(_) => None,
+            Event::Noise(_, _) => None,
+        },
+    }
+}
+
+fn events_of(alloc: Global, bytes: &[u8]) -> Result<Events, SchedFault>
+    ensures { GivesSchedule result (spec.lines_at None 0 (spec.lines_of bytes.now)) }
+{
+    let mut events = Items::new(alloc);
+    let mut sites = None;
+    let mut line = 0u64;
+    let mut lines = Lines::new(bytes);
+    while lines.len() != 0 {
+        let text = without_returns(lines.next());
+        line += 1;
+        if is_comment(text) {
+            continue;
+        }
+        match event_of_line(alloc, sites, text) {
+            Ok(event) => {
+                sites = sites_after(sites, &event);
+                events.push(event)?;
+            }
+            Err(LineFault::Bad(why)) => return Err(SchedFault::BadLine { line, why }),
+            Err(LineFault::NoMemory) => return Err(SchedFault::NoMemory),
+        }
+    }
+    if sites.is_none() {
+        return Err(SchedFault::BadLine {
+            line: line + 1,
+            why: Why::NoSites,
+        });
+    }
+    Ok(events)
+}
+
+#[tactic(auto, unfolding(crate::specs::Reader::events_of))]
+fn read(alloc: Global, bytes: &[u8]) -> Result<Events, SchedFault>
+    ensures exact { GivesSchedule result (spec.events_of bytes.now) }
+{
+    if MOST_BYTES < bytes.len() {
+        return Err(SchedFault::BadLine {
+            line: 0,
+            why: Why::TooLong,
+        });
+    }
+    events_of(alloc, bytes)
+}
+
+/// The events of a schedule of at most 16,777,216 bytes: one on each line, in order, but for empty lines and those that
+/// begin with `#`.
+///
+/// `BadLine` says the first line that is wrong, from 1, and the first cause that fits it; line 0 says that the bytes are
+/// too many. `NoMemory` says nothing of the bytes. The time goes with their number.
+pub fn parse_schedule(alloc: Global, bytes: &[u8]) -> Result<Events, SchedFault>
+    // What is read is a schedule of the events that are given.
+    ensures found { IfOk result (λ given. IsSchedule bytes.now given) }
+    // What is a schedule is read, unless memory is wanting.
+    ensures only { (given : List Event) → IsSchedule bytes.now given → GivesSchedule result (Ok given) }
+    // A refusal says the first bad line, and the first cause that fits it.
+    ensures fault { IfErr result (λ fault. TellsFault bytes.now fault) }
+    // Which events or which fault it is.
+    ensures exact { GivesSchedule result (spec.events_of bytes.now) }
+{
+    read(alloc, bytes)
+}
