@@ -52,25 +52,26 @@ impl World {
         }
     }
 
-    /// The transaction of the next entry.
-    fn next_txn(&self, origin: &Origin) -> Txn
-        ensures { result ≡ record {
+    /// The transaction of the next entry. There is no room for an entry whose number no transaction can have.
+    fn next_txn(&self, origin: &Origin) -> Result<Txn, NoMemory>
+        ensures { IfOk result (λ txn. txn ≡ record {
           site = origin.now.site;
           epoch = origin.now.epoch;
           number = length self.now.history + 1;
-        } }
+        }) }
     {
-        Txn {
+        let number = (self.history.len() as u64).checked_add(1).ok_or(NoMemory)?;
+        Ok(Txn {
             site: origin.site,
             epoch: origin.epoch,
-            number: self.history.as_slice().len() as u64 + 1,
-        }
+            number,
+        })
     }
 
     fn answer(&mut self, alloc: Global, ask: Ask, stmt: Stmt) -> Result<(), NoMemory>
         ensures { OnOk result (self.new ≡ spec.answered self.old ask stmt) }
     {
-        let txn = self.next_txn(&ask.origin);
+        let txn = self.next_txn(&ask.origin)?;
         let Ask { origin, text } = ask;
         let outcome = self
             .database
