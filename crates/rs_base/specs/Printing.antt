@@ -6,11 +6,16 @@ use Rattle.rs_base.specs.declared.value.Value.{Value}
 use Rattle.rs_base.specs.declared.value.Value.TheVariants as values
 use Rattle.rs_base.specs.declared.name.Swn.{Swn}
 use Rattle.rs_base.specs.declared.txn.Txn.{Txn}
+use Rattle.rs_base.specs.declared.txn.Enlist.{Enlist}
 use Rattle.rs_base.specs.declared.txn.Origin.{Origin}
+use Rattle.rs_base.specs.declared.lock.Resource.{Resource}
+use Rattle.rs_base.specs.declared.lock.Resource.TheVariants as resources
 use Rattle.rs_base.specs.declared.reply.Denial.{Denial}
 use Rattle.rs_base.specs.declared.reply.Denial.TheVariants as denials
 use Rattle.rs_base.specs.declared.reply.Answer.{Answer}
 use Rattle.rs_base.specs.declared.reply.Answer.TheVariants as answers
+use Rattle.rs_base.specs.declared.reply.Reason.{Reason}
+use Rattle.rs_base.specs.declared.reply.Reason.TheVariants as reasons
 use Rattle.rs_base.specs.declared.reply.Reply.{Reply}
 use Rattle.rs_base.specs.declared.reply.Reply.TheVariants as replies
 
@@ -37,6 +42,10 @@ printed_row row = join_with_byte 44 (map printed_value row) ++ codes "\n"
 -- site.epoch.number
 abbrev pub printed_txn : Txn → List ℕ
 printed_txn txn = decimal txn.site ++ codes "." ++ decimal txn.epoch ++ codes "." ++ decimal txn.number
+
+-- site.epoch.number
+abbrev pub printed_enlist : Enlist → List ℕ
+printed_enlist enlist = decimal enlist.site ++ codes "." ++ decimal enlist.epoch ++ codes "." ++ decimal enlist.number
 
 -- creator@site.object@birth site
 abbrev pub printed_swn : Swn → List ℕ
@@ -72,10 +81,32 @@ printed_denial denials.Overflow = codes "14 Overflow"
 printed_denial denials.TooManyRows = codes "15 TooManyRows"
 printed_denial denials.TableFull = codes "16 TableFull"
 
+-- what is locked
+abbrev pub printed_resource : Resource → List ℕ
+printed_resource (resources.Table name) = codes "table " ++ printed_swn name
+printed_resource (resources.Birth name) = codes "birth " ++ printed_swn name
+printed_resource (resources.Program user program) = codes "program " ++ user ++ codes " " ++ program
+printed_resource (resources.Synonyms user) = codes "synonyms " ++ user
+
+-- the number and the name of a reason, and what it rests on
+abbrev pub printed_reason : Reason → List ℕ
+printed_reason (reasons.LockBudget site what holder) = codes "1 LockBudget site " ++ decimal site ++ codes " " ++ printed_resource what ++ codes " holder " ++ printed_enlist holder
+printed_reason (reasons.NoAnswer site) = codes "2 NoAnswer site " ++ decimal site
+printed_reason (reasons.SiteLost site) = codes "3 SiteLost site " ++ decimal site
+
+abbrev pub printed_line : List ℕ → List ℕ
+printed_line line = line ++ codes "\n"
+
 -- what a reply says: the class, and for each answer of a done request its lines
 abbrev pub printed_class : Reply → List ℕ
 printed_class (replies.Done answered) = codes "done " ++ decimal (length answered) ++ codes "\n" ++ flat_map printed_answer answered
 printed_class (replies.Denied cause) = codes "denied " ++ printed_denial cause ++ codes "\n"
+printed_class (replies.Failed reason) = codes "failed " ++ printed_reason reason ++ codes "\n"
+printed_class (replies.Shown lines) = codes "shown " ++ decimal (length lines) ++ codes "\n" ++ flat_map printed_line lines
+printed_class (replies.Syntax place) = codes "syntax " ++ decimal place ++ codes "\n"
+printed_class (replies.OldEpoch epoch) = codes "oldepoch " ++ decimal epoch ++ codes "\n"
+printed_class (replies.OldRequest last) = codes "oldrequest " ++ decimal last ++ codes "\n"
+printed_class (replies.Gap last) = codes "gap " ++ decimal last ++ codes "\n"
 
 abbrev pub printed_reply : Origin → Reply → List ℕ
 printed_reply to reply = codes "reply " ++ printed_origin to ++ codes " " ++ printed_class reply

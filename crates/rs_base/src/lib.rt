@@ -5,9 +5,11 @@
 mod bytes;
 mod fault;
 mod ident;
+mod lock;
 mod mem_sink;
 mod mem_source;
 mod name;
+mod peer;
 mod print;
 mod put;
 mod read_all;
@@ -27,20 +29,22 @@ mod write_all;
 pub use bytes::Bytes;
 pub use fault::{Failed, Fault, NoMemory, ReadFault};
 pub use ident::{Ident, is_name_byte};
+pub use lock::{HeldLocks, Mode, Resource};
 pub use mem_sink::MemSink;
 pub use mem_source::MemSource;
 pub use name::{NameText, Swn};
+pub use peer::{Datagrams, Peer};
 pub use print::{
     print_number, print_origin, print_reply, print_row, print_swn, print_txn, print_value,
 };
 pub use read_all::read_to_end;
-pub use reply::{Answer, Answers, Denial, Reply};
+pub use reply::{Answer, Answers, Denial, Lines, Reason, Reply};
 pub use sink::Sink;
 pub use site_no::SiteNo;
 pub use source::Source;
 pub use std_stream::{StdSink, StdSource};
 pub use sure::{SureSink, SureSource};
-pub use txn::{Origin, Txn};
+pub use txn::{Enlist, Origin, Txn};
 pub use txt::{Txt, TxtFault};
-pub use value::{Kind, Row, Rows, Value, copy_row};
+pub use value::{Kind, NumberedRows, Row, Rows, Value, copy_row};
 pub use write_all::write_whole;

@@ -1,15 +1,17 @@
 //! Texts put at the end of bytes, part by part. Where memory is wanting, a part of the text may stand there.
 
-ghost use Rattle.std.specs.Prelude.{◌≡◌, ◌++◌, length, take, flat_map, map, decimal, OnOk};
+ghost use Rattle.std.specs.Prelude.{◌≡◌, ◌++◌, length, take, flat_map, map, decimal, codes, OnOk};
 ghost use Rattle.std.specs.List.{join_with_byte};
 ghost use Rattle.std.specs.Fmt.{signed_decimal};
 ghost use Rattle.rs_base.specs.Printing as spec;
 
 use crate::bytes::Bytes;
 use crate::fault::NoMemory;
+use crate::lock::Resource;
 use crate::name::Swn;
-use crate::reply::{Answer, Denial, Reply};
-use crate::txn::{Origin, Txn};
+use crate::reply::{Answer, Denial, Reason, Reply};
+use crate::txn::{Enlist, Origin, Txn};
+use crate::site_no::SiteNo;
 use crate::value::{Row, Value};
 use itoa::Buffer;
 
@@ -114,6 +116,16 @@ pub fn txn(out: &mut Bytes, txn: &Txn) -> Result<(), NoMemory>
     number(out, txn.number)
 }
 
+fn enlist(out: &mut Bytes, enlist: &Enlist) -> Result<(), NoMemory>
+    ensures { OnOk result (out.new ≡ out.old ++ spec.printed_enlist enlist.now) }
+{
+    number(out, u64::from(enlist.site.number()))?;
+    out.extend(b".")?;
+    number(out, u64::from(enlist.epoch))?;
+    out.extend(b".")?;
+    number(out, enlist.number)
+}
+
 pub fn swn(out: &mut Bytes, name: &Swn) -> Result<(), NoMemory>
     ensures { OnOk result (out.new ≡ out.old ++ spec.printed_swn name.now) }
 {
@@ -189,14 +201,94 @@ fn denial_text(cause: Denial) -> &'static [u8]
     }
 }
 
+fn resource(out: &mut Bytes, what: &Resource) -> Result<(), NoMemory>
+    ensures { OnOk result (out.new ≡ out.old ++ spec.printed_resource what.now) }
+{
+    match what {
+        Resource::Table(name) => {
+            out.extend(b"table ")?;
+            swn(out, name)
+        }
+        Resource::Birth(name) => {
+            out.extend(b"birth ")?;
+            swn(out, name)
+        }
+        Resource::Program(user, program) => {
+            out.extend(b"program ")?;
+            out.extend(user.as_bytes())?;
+            out.extend(b" ")?;
+            out.extend(program.as_bytes())
+        }
+        Resource::Synonyms(user) => {
+            out.extend(b"synonyms ")?;
+            out.extend(user.as_bytes())
+        }
+    }
+}
+
+fn site(out: &mut Bytes, site: SiteNo) -> Result<(), NoMemory>
+    ensures { OnOk result (out.new ≡ out.old ++ decimal site) }
+{
+    number(out, u64::from(site.number()))
+}
+
+fn reason(out: &mut Bytes, reason: &Reason) -> Result<(), NoMemory>
+    ensures { OnOk result (out.new ≡ out.old ++ spec.printed_reason reason.now) }
+{
+    match reason {
+        Reason::LockBudget {
+            site: at,
+            what,
+            holder,
+        } => {
+            out.extend(b"1 LockBudget site ")?;
+            site(out, *at)?;
+            out.extend(b" ")?;
+            resource(out, what)?;
+            out.extend(b" holder ")?;
+            enlist(out, holder)
+        }
+        Reason::NoAnswer { site: at } => {
+            out.extend(b"2 NoAnswer site ")?;
+            site(out, *at)
+        }
+        Reason::SiteLost { site: at } => {
+            out.extend(b"3 SiteLost site ")?;
+            site(out, *at)
+        }
+    }
+}
+
+fn line(out: &mut Bytes, line: &[u8]) -> Result<(), NoMemory>
+    ensures { OnOk result (out.new ≡ out.old ++ spec.printed_line line.now) }
+{
+    out.extend(line)?;
+    out.extend(b"\n")
+}
+
+fn lines(out: &mut Bytes, lines: &[Bytes]) -> Result<(), NoMemory>
+    ensures { OnOk result (out.new ≡ out.old ++ flat_map spec.printed_line lines.now) }
+{
+    for each in lines {
+        line(out, each.as_slice())?;
+    }
+    Ok(())
+}
+
+fn counted(out: &mut Bytes, class: &[u8], n: u64) -> Result<(), NoMemory>
+    ensures { OnOk result (out.new ≡ out.old ++ class.now ++ decimal n ++ codes "\n") }
+{
+    out.extend(class)?;
+    number(out, n)?;
+    out.extend(b"\n")
+}
+
 fn class(out: &mut Bytes, reply: &Reply) -> Result<(), NoMemory>
     ensures { OnOk result (out.new ≡ out.old ++ spec.printed_class reply.now) }
 {
     match reply {
         Reply::Done(answered) => {
-            out.extend(b"done ")?;
-            number(out, answered.len() as u64)?;
-            out.extend(b"\n")?;
+            counted(out, b"done ", answered.len() as u64)?;
             answers(out, answered.as_slice())
         }
         Reply::Denied(cause) => {
@@ -204,6 +296,19 @@ fn class(out: &mut Bytes, reply: &Reply) -> Result<(), NoMemory>
             out.extend(denial_text(*cause))?;
             out.extend(b"\n")
         }
+        Reply::Failed(cause) => {
+            out.extend(b"failed ")?;
+            reason(out, cause)?;
+            out.extend(b"\n")
+        }
+        Reply::Shown(shown) => {
+            counted(out, b"shown ", shown.len() as u64)?;
+            lines(out, shown.as_slice())
+        }
+        Reply::Syntax(place) => counted(out, b"syntax ", u64::from(*place)),
+        Reply::OldEpoch(epoch) => counted(out, b"oldepoch ", u64::from(*epoch)),
+        Reply::OldRequest(last) => counted(out, b"oldrequest ", *last),
+        Reply::Gap(last) => counted(out, b"gap ", *last),
     }
 }
 

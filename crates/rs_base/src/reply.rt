@@ -1,5 +1,9 @@
 //! What a site answers.
 
+use crate::bytes::Bytes;
+use crate::lock::Resource;
+use crate::site_no::SiteNo;
+use crate::txn::Enlist;
 use crate::value::Rows;
 use sqlite_items::Items;
 
@@ -37,6 +41,24 @@ pub enum Answer {
 
 pub type Answers = Items<Answer>;
 
+/// Why an execution failed. It isn't in the history and never will be.
+#[derive(Clone, Copy, Debug, PartialEq, Eq)]
+pub enum Reason {
+    /// A lock at a site was waited for in vain, since another held it.
+    LockBudget {
+        site: SiteNo,
+        what: Resource,
+        holder: Enlist,
+    },
+    /// A site gave no answer.
+    NoAnswer { site: SiteNo },
+    /// A site lost its part.
+    SiteLost { site: SiteNo },
+}
+
+/// Lines of text, without their line feeds.
+pub type Lines = Items<Bytes>;
+
 /// What a request is answered.
 #[derive(Debug, Drop)]
 pub enum Reply {
@@ -44,4 +66,16 @@ pub enum Reply {
     Done(Answers),
     /// The execution is committed and changed nothing.
     Denied(Denial),
+    /// The execution isn't in the history and never will be.
+    Failed(Reason),
+    /// What the request asked to see; it isn't in the history.
+    Shown(Lines),
+    /// The text is no request; the place of its first byte that can't stand there.
+    Syntax(u32),
+    /// The request was asked of another epoch than the site's; the site's epoch.
+    OldEpoch(u32),
+    /// The request's number is below the user's last; the last.
+    OldRequest(u64),
+    /// The request's number is too far above the user's last, or the last isn't answered yet; the last.
+    Gap(u64),
 }

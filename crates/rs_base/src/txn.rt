@@ -1,4 +1,4 @@
-//! What names a transaction, and what names a request.
+//! What names a transaction, a part of one, and a request.
 
 use crate::ident::Ident;
 use crate::site_no::SiteNo;
@@ -6,6 +6,14 @@ use crate::site_no::SiteNo;
 /// A transaction: the site that was asked, the epoch in which it was asked, and a number within these.
 #[derive(Clone, Copy, Debug, PartialEq, Eq, PartialOrd, Ord)]
 pub struct Txn {
+    pub site: SiteNo,
+    pub epoch: u32,
+    pub number: u64,
+}
+
+/// An enlistment: the part of a transaction at a site. The site, its epoch, and a number within these.
+#[derive(Clone, Copy, Debug, PartialEq, Eq, PartialOrd, Ord)]
+pub struct Enlist {
     pub site: SiteNo,
     pub epoch: u32,
     pub number: u64,

@@ -27,6 +27,9 @@ pub type Row = Items<Value>;
 
 pub type Rows = Items<Row>;
 
+/// Rows, each with its number in its table.
+pub type NumberedRows = Items<(u64, Row)>;
+
 impl Value {
     pub fn kind(&self) -> Kind
         ensures { result ≡ spec.kind_of self.now }

@@ -1,0 +1,26 @@
+//! What transactions lock.
+
+use crate::ident::Ident;
+use crate::name::Swn;
+use sqlite_items::Items;
+
+/// What is locked: a table at the site that stores it, the entry of a name at its birth site, a user's program, or all
+/// synonyms of a user.
+#[derive(Clone, Copy, Debug, PartialEq, Eq, PartialOrd, Ord)]
+pub enum Resource {
+    Table(Swn),
+    Birth(Swn),
+    /// A user, and the name of the program.
+    Program(Ident, Ident),
+    Synonyms(Ident),
+}
+
+/// How it is locked: for reading, which others may do too, or for writing alone.
+#[derive(Clone, Copy, Debug, PartialEq, Eq, PartialOrd, Ord)]
+pub enum Mode {
+    Read,
+    Write,
+}
+
+/// What is held, and in which mode.
+pub type HeldLocks = Items<(Resource, Mode)>;
