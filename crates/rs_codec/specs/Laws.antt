@@ -1,5 +1,6 @@
 -- What holds of a kind of spelling.
-use Rattle.std.specs.Prelude.{◌≡◌, ℕ, ◌<◌, List, ◌++◌, All}
+use Rattle.std.specs.Prelude.{◌≡◌, ◌↔◌, ℕ, ◌<◌, List, ◌++◌, Option, Some, All}
+use Rattle.rs_codec.specs.Spelling.{Takes}
 
 -- Each value has one spelling, and no spelling begins another.
 abbrev pub HasOneSpelling : {X : Type 0} → (List ℕ → X → Type 0) → Type 0
@@ -12,3 +13,11 @@ IsSpelled {X} IsX InRange = (x : X) → InRange x → (bytes : List ℕ) × IsX 
 -- The numbers of a list are bytes.
 abbrev pub AreBytes : List ℕ → Type 0
 AreBytes bytes = All (λ b. b < 256) bytes
+
+-- Each value of these is spelled as the function says.
+abbrev pub IsWrittenBy : {X : Type 0} → (List ℕ → X → Type 0) → (X → Type 0) → (X → List ℕ) → Type 0
+IsWrittenBy {X} IsX InRange x_bytes = (x : X) → InRange x → IsX (x_bytes x) x
+
+-- The function reads just what is spelled at the front of bytes, whatever stands behind it.
+abbrev pub IsReadBy : {X : Type 0} → (List ℕ → X → Type 0) → (List ℕ → Option (X × List ℕ)) → Type 0
+IsReadBy {X} IsX x_at = (bytes rest : List ℕ) (x : X) → Takes IsX bytes rest x ↔ (x_at bytes ≡ Some (x, rest))

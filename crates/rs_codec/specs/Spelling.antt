@@ -1,5 +1,9 @@
 -- How fields are spelled. A byte is itself, and a number of four or eight bytes has its highest byte first (`to_be_bytes`
--- of std). The others:
+-- of std):
+--     IsByte bytes n        a number below 256
+--     IsU32 bytes n         a number below 2 ^ 32
+--     IsU64 bytes n         a number below 2 ^ 64
+-- The others:
 --     IsCount bytes n       a number below 2 ^ 64, in as few bytes as it takes
 --     IsInt bytes z         an integer of 64 bits
 --     IsText bytes text     a text of any bytes
@@ -8,6 +12,16 @@
 --     Takes IsX old new x   a spelling of x was taken from the front of old
 --     NoneBegins IsX old    old begins with no spelling
 use Rattle.std.specs.Prelude.{◌≡◌, ℕ, ◌+◌, ◌*◌, ◌^◌, ◌<◌, ◌≤◌, ℤ, pos, negsuc, List, [], ◌∷◌, ◌++◌, length}
+use Rattle.std.specs.Int.{w32, w64, to_be_bytes}
+
+abbrev pub IsByte : List ℕ → ℕ → Type 0
+IsByte bytes n = (n < 256) × (bytes ≡ n ∷ [])
+
+abbrev pub IsU32 : List ℕ → ℕ → Type 0
+IsU32 bytes n = (n < 2 ^ 32) × (bytes ≡ to_be_bytes w32 n)
+
+abbrev pub IsU64 : List ℕ → ℕ → Type 0
+IsU64 bytes n = (n < 2 ^ 64) × (bytes ≡ to_be_bytes w64 n)
 
 -- A number in groups of seven bits, the lowest first. A byte below 128 is the last one, and stands for itself. One from
 -- 128 on has seven bits of the number, and the bytes behind it spell what is above these, which isn't 0.

@@ -1,0 +1,4 @@
+pub mod Limits
+pub mod Message
+pub mod Reader
+pub mod Written

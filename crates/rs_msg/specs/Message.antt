@@ -1,0 +1,45 @@
+-- How messages are spelled: the byte 0x52, a byte for the kind, the fields, and nothing behind them.
+--     1 Ask      user (a text), epoch (four bytes), number (eight), part (four), text (a text)
+--     2 Reply    origin, part (four bytes), parts (four), bytes (a text)
+-- where an origin is its site (a byte), user (a text), epoch (four bytes) and number (eight). Numbers have their highest
+-- byte first, and a text is the count of its bytes and then these. Beyond the limits nothing is spelled.
+use Rattle.std.specs.Prelude.{◌≡◌, ℕ, List, ◌∷◌, ◌++◌}
+use Rattle.std.specs.Int.{w32, w64, to_be_bytes}
+use Rattle.rs_base.specs.declared.txn.Origin.{Origin}
+use Rattle.rs_codec.specs.Spelling.{IsText}
+use Rattle.rs_msg.specs.declared.message.Ask.{Ask}
+use Rattle.rs_msg.specs.declared.message.ReplyPart.{ReplyPart}
+use Rattle.rs_msg.specs.declared.message.Message.{Message}
+use Rattle.rs_msg.specs.declared.message.Message.TheVariants as messages
+use Rattle.rs_msg.specs.Limits.{IsAskWithin, IsOriginWithin, IsReplyWithin}
+
+-- what each message begins with
+abbrev pub mark : ℕ
+mark = 82
+
+pub record IsAsk (bytes : List ℕ) (ask : Ask) : Type 0 where
+  pub within : IsAskWithin ask
+  pub user : List ℕ
+  pub user_is : IsText user ask.user
+  pub text : List ℕ
+  pub text_is : IsText text ask.text
+  pub parts : bytes ≡ user ++ to_be_bytes w32 ask.epoch ++ to_be_bytes w64 ask.number ++ to_be_bytes w32 ask.part ++ text
+
+pub record IsOrigin (bytes : List ℕ) (origin : Origin) : Type 0 where
+  pub within : IsOriginWithin origin
+  pub user : List ℕ
+  pub user_is : IsText user origin.user
+  pub parts : bytes ≡ origin.site ∷ user ++ to_be_bytes w32 origin.epoch ++ to_be_bytes w64 origin.number
+
+pub record IsReply (bytes : List ℕ) (reply : ReplyPart) : Type 0 where
+  pub within : IsReplyWithin reply
+  pub origin : List ℕ
+  pub origin_is : IsOrigin origin reply.origin
+  pub said : List ℕ
+  pub said_is : IsText said reply.bytes
+  pub parts : bytes ≡ origin ++ to_be_bytes w32 reply.part ++ to_be_bytes w32 reply.parts ++ said
+
+-- the whole of a datagram
+abbrev pub IsMessage : List ℕ → Message → Type 0
+IsMessage bytes (messages.Ask ask) = (fields : List ℕ) × IsAsk fields ask × (bytes ≡ mark ∷ 1 ∷ fields)
+IsMessage bytes (messages.Reply reply) = (fields : List ℕ) × IsReply fields reply × (bytes ≡ mark ∷ 2 ∷ fields)

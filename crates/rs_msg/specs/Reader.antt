@@ -1,0 +1,82 @@
+-- The message that bytes spell, or None: read from the left, field by field.
+use Rattle.std.specs.Prelude.{ℕ, ◌==◌, ◌&&◌, nat_le, List, [], ◌∷◌, length, Option, Some, None, if◌then◌else◌}
+use Rattle.rs_base.specs.Ident.{is_ident}
+use Rattle.rs_base.specs.Reading.{◌>>=◌}
+use Rattle.rs_base.specs.declared.txn.Origin.{Origin}
+use Rattle.rs_codec.specs.Reader.{byte_at, u32_at, u64_at, text_at}
+use Rattle.rs_msg.specs.declared.message.Ask.{Ask}
+use Rattle.rs_msg.specs.declared.message.ReplyPart.{ReplyPart}
+use Rattle.rs_msg.specs.declared.message.Message.{Message}
+use Rattle.rs_msg.specs.declared.message.Message.TheVariants as messages
+use Rattle.rs_msg.specs.Limits.{ask_limit}
+use Rattle.rs_msg.specs.Message.{mark}
+
+-- ---- fields
+
+-- a text that is an identifier
+unfoldable pub user_at : List ℕ → Option (List ℕ × List ℕ)
+user_at bytes = do
+  text ← text_at bytes
+  if is_ident text.0 then Some text else None
+
+-- a text of at most so many bytes
+unfoldable pub short_text_at : ℕ → List ℕ → Option (List ℕ × List ℕ)
+short_text_at limit bytes = do
+  text ← text_at bytes
+  if nat_le (length text.0) limit then Some text else None
+
+-- a byte from 1 to 16
+unfoldable pub site_at : List ℕ → Option (ℕ × List ℕ)
+site_at bytes = do
+  site ← byte_at bytes
+  if nat_le 1 site.0 && nat_le site.0 16 then Some site else None
+
+unfoldable pub origin_at : List ℕ → Option (Origin × List ℕ)
+origin_at bytes = do
+  site ← site_at bytes
+  user ← user_at site.1
+  epoch ← u32_at user.1
+  number ← u64_at epoch.1
+  Some (record { site = site.0; user = user.0; epoch = epoch.0; number = number.0 }, number.1)
+
+-- ---- kinds
+
+unfoldable pub ask_at : List ℕ → Option (Ask × List ℕ)
+ask_at bytes = do
+  user ← user_at bytes
+  epoch ← u32_at user.1
+  number ← u64_at epoch.1
+  part ← u32_at number.1
+  text ← short_text_at ask_limit part.1
+  Some (record { user = user.0; epoch = epoch.0; number = number.0; part = part.0; text = text.0 }, text.1)
+
+unfoldable pub reply_at : List ℕ → Option (ReplyPart × List ℕ)
+reply_at bytes = do
+  origin ← origin_at bytes
+  part ← u32_at origin.1
+  parts ← u32_at part.1
+  said ← text_at parts.1
+  Some (record { origin = origin.0; part = part.0; parts = parts.0; bytes = said.0 }, said.1)
+
+-- ---- messages
+
+-- the fields of a message of this kind
+abbrev pub fields_at : ℕ → List ℕ → Option (Message × List ℕ)
+fields_at kind bytes =
+    if kind == 1 then ask_at bytes >>= λ ask. Some (messages.Ask ask.0, ask.1)
+    else (if kind == 2 then reply_at bytes >>= λ reply. Some (messages.Reply reply.0, reply.1)
+    else None)
+
+-- the mark, the kind and the fields
+unfoldable pub message_at : List ℕ → Option (Message × List ℕ)
+message_at bytes = do
+  first ← byte_at bytes
+  if first.0 == mark then byte_at first.1 >>= λ kind. fields_at kind.0 kind.1 else None
+
+-- and nothing behind them
+abbrev pub alone : Message × List ℕ → Option Message
+alone (message, []) = Some message
+alone (message, b ∷ bytes) = None
+
+unfoldable pub message_of : List ℕ → Option Message
+message_of bytes = message_at bytes >>= alone

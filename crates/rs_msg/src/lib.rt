@@ -1,0 +1,8 @@
+//! The messages of sites and clients: how each is spelled in a datagram, and read again.
+#![tactic(auto)]
+
+mod laws;
+mod message;
+
+pub use message::{Ask, Message, ReplyPart};
+pub use laws::{ask_fits, each_message, one_spelling, read_message, reply_fits, written_is_read};
