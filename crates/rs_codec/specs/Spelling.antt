@@ -7,7 +7,8 @@
 --     Puts IsX old new x    a spelling of x was put at the end of old
 --     Takes IsX old new x   a spelling of x was taken from the front of old
 --     NoneBegins IsX old    old begins with no spelling
-use Rattle.std.specs.Prelude.{◌≡◌, ℕ, ◌+◌, ◌*◌, ◌^◌, ◌<◌, ◌≤◌, ℤ, pos, negsuc, List, [], ◌∷◌, ◌++◌, length}
+use Rattle.std.specs.Prelude.{◌≡◌, ℕ, ◌+◌, ◌*◌, ◌^◌, ◌<◌, ◌≤◌, ℤ, List, [], ◌∷◌, ◌++◌, length}
+pub use Rattle.rs_base.specs.Sizes.{count_of}
 
 -- A number in groups of seven bits, the lowest first. A byte below 128 is the last one, and stands for itself. One from
 -- 128 on has seven bits of the number, and the bytes behind it spell what is above these, which isn't 0.
@@ -20,11 +21,7 @@ pub record IsCount (bytes : List ℕ) (n : ℕ) : Type 0 where
   pub groups : IsGroups bytes n
   pub below : n < 2 ^ 64
 
--- 0, -1, 1, -2, 2 .. are counted 0, 1, 2, 3, 4 ..: here negsuc n is -n - 1
-abbrev pub count_of : ℤ → ℕ
-count_of (pos n) = 2 * n
-count_of (negsuc n) = 2 * n + 1
-
+-- an integer is spelled as its count
 abbrev pub IsInt : List ℕ → ℤ → Type 0
 IsInt bytes z = IsCount bytes (count_of z)
 
