@@ -1,8 +1,8 @@
 -- What each table keeps: how large it is, and that its columns have names of their own.
-use Rattle.std.proofs.Common.{◌≡◌, ◌≢◌, ℕ, ◌+◌, ◌≤◌, true, false, ◌&&◌, ◌||◌, not, cond, Bool, List, [], ◌∷◌, ◌++◌, length, nat_le, All, AllPairs, refl, sym, ap, ◌∙◌, arith, leb-true, Option, Some, None}
+use Rattle.std.proofs.Common.{◌≡◌, ◌≢◌, ℕ, ◌≤◌, true, false, ◌&&◌, ◌||◌, not, cond, Bool, List, [], ◌∷◌, ◌++◌, length, nat_le, All, AllPairs, refl, sym, ◌∙◌, arith, leb-true, Some}
 use Rattle.std.specs.Prelude.{IfSome, bytes_eq}
 use Rattle.std.specs.BTreeMap.{is_at}
-use Rattle.std.specs.List.{list_all, list_any}
+use Rattle.std.specs.List.{list_all}
 use Rattle.std.specs.Map.{lookup, values_of}
 use Rattle.std.proofs.lemmas.List.Elements.{All-nil, All-cons, All-append, All-head, All-tail, All-weaker}
 use Rattle.std.proofs.lemmas.List.Kept.{AllPairs-cons}
@@ -18,7 +18,7 @@ use Rattle.rs_ast.specs.declared.stmt.ColDef.{ColDef}
 use Rattle.rs_mean.specs.declared.table.Table.{Table}
 use Rattle.rs_mean.specs.Columns.{has_name, names_differ}
 use Rattle.rs_mean.specs.Database.{Database, table_named}
-use Rattle.rs_mean.specs.Laws.{EachTable, IsWithin, HasDistinctColumns}
+use Rattle.rs_mean.specs.Laws.{EachTable, IsWithin}
 use Rattle.rs_mean.specs.Limits.{max_row_bytes, max_rows, max_table_bytes, rows_size, fits_row, fits_rows}
 use Rattle.rs_mean.specs.Meaning.{fits_table, with_rows}
 

@@ -72,7 +72,7 @@ module _ (txn : Txn) (name : Swn) (columns : List ColDef) (db : Database) (found
       → (given ≡ answers.Ok ∷ []) × (found ≡ None) × (table_named name (create txn name columns db found).0 ≡ Some (new_table txn name columns))
   create_makes given e =
       let puts = changed_puts name (new_table txn name columns) answers.Ok db (create_denial columns found) given e in
-      (puts.0.0, (not_found columns found puts.0.1).1, puts.1)
+      (puts.0, (not_found columns found puts.1).1, puts.2)
 
   create_within : EachTable IsWithin db → EachTable IsWithin (create txn name columns db found).0
   create_within each =
@@ -110,7 +110,7 @@ module _ (name : Swn) (rows : List (List Value)) (db : Database) where
   insert_appends None given e = absurd cc
   insert_appends (Some table) given e =
       let puts = changed_puts name (with_rows rows table) answer_of_insert db (insert_denial rows table) given e in
-      (puts.0.0, refl, puts.1)
+      (puts.0, refl, puts.2)
 
   -- what each table keeps, and the table with the rows too
   insert_each : (P : Table → Type 0) → ((table : Table) → P table → insert_denial rows table ≡ None → P (with_rows rows table)) → EachTable P db

@@ -1,5 +1,5 @@
 -- What holds of every execution, whatever the database.
-use Rattle.std.specs.Prelude.{◌≡◌, ◌≤◌, All, AllPairs, List, [], ◌∷◌, ◌++◌, length, Some, None, Ok, Err, IsSome, ◌≢◌}
+use Rattle.std.specs.Prelude.{◌≡◌, ◌≤◌, All, AllPairs, List, [], ◌∷◌, length, Some, None, Ok, Err, IsSome, ◌≢◌}
 use Rattle.std.specs.Option.{option_map}
 use Rattle.std.specs.List.Sorted.{IsSorted, IsPermutation}
 use Rattle.std.specs.Map.{values_of}

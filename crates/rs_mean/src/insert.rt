@@ -112,12 +112,7 @@ impl Database {
     }
 
     /// Appends the rows, in their order, unless they are denied, in time proportional to them and to a look-up.
-    pub(crate) fn insert(
-        &mut self,
-        alloc: Global,
-        name: &Swn,
-        rows: Rows,
-    ) -> Result<(), NoMemory>
+    pub(crate) fn insert(&mut self, alloc: Global, name: &Swn, rows: Rows) -> Result<(), NoMemory>
         ensures ok { OnOk result (self.new ≡ (spec.insert name.now rows self.old (table_named name.now self.old)).0) }
         ensures err { OnErr result (self.new ≡ self.old) }
     {

@@ -53,8 +53,7 @@ impl StoredRows {
     pub fn has_room(&self, more: &[Row]) -> bool
         ensures { result ≡ spec.fits_rows (self.now ++ more.now) }
     {
-        self.rows.len() <= MAX_ROWS
-            && more.len() <= MAX_ROWS - self.rows.len()
+        self.rows.len().saturating_add(more.len()) <= MAX_ROWS
             && self.bytes.saturating_add(rows_size(more)) <= MAX_TABLE_BYTES
     }
 
