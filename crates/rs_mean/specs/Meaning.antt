@@ -42,7 +42,7 @@ unless_denied (Some cause) db change = (db, denied cause)
 
 -- ---- CREATE TABLE
 
--- It is denied where two columns have one name, or else where a table has the name.
+-- why it is denied, if it is: two columns have one name, or else a table has the name
 abbrev pub create_denial : List ColDef → Option Table → Option Denial
 create_denial columns found =
     if not (names_differ columns) then Some denials.TwoColumns
@@ -78,7 +78,8 @@ fits_columns columns row = pointwise fits_column row columns
 abbrev pub fits_table : Table → List (List Value) → Bool
 fits_table table rows = list_all fits_row rows && fits_rows (table.rows ++ rows)
 
--- It is denied as a whole where a row doesn't fit the columns, or else where the table has no room for the rows.
+-- why the rows are denied as a whole, if they are: one doesn't fit the columns, or else one is too large or the table has
+-- no room for them
 abbrev pub insert_denial : List (List Value) → Table → Option Denial
 insert_denial rows table =
     if not (list_all (fits_columns table.columns) rows) then Some denials.WrongType

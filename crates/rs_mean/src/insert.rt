@@ -93,7 +93,8 @@ impl Table {
 
 impl Database {
     /// What an INSERT would answer, in time proportional to its rows and to a look-up. It is denied as a whole where
-    /// no table has the name, where a row doesn't fit the columns, or else where the table has no room for the rows.
+    /// no table has the name, where a row doesn't fit the columns, or else where a row is too large or the table has no
+    /// room for the rows.
     pub(crate) fn outcome_of_insert(
         &self,
         alloc: Global,
