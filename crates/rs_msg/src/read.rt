@@ -7,13 +7,10 @@ ghost use Rattle.rs_msg.specs.Message.{IsMessage};
 ghost use Rattle.rs_msg.specs.Reader as reader;
 
 use crate::put::{ASK, MARK, REPLY};
-use crate::message::{Ask, Message, ReplyPart};
+use crate::message::{ASK_LIMIT, Ask, Message, ReplyPart};
 use rs_base::{Bytes, Ident, Origin, ReadFault, SiteNo};
 use rs_codec::Fields;
 use std::alloc::Global;
-
-/// The most bytes of a request's text.
-const ASK_LIMIT: usize = 8192;
 
 #[tactic(auto, unfolding(crate::specs::Reader::user_at))]
 fn read_user(fields: &mut Fields<'_>) -> Result<Ident, ReadFault>
