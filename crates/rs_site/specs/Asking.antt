@@ -1,0 +1,112 @@
+-- What a site does with an ask.
+use Rattle.std.specs.Prelude.{ℕ, ◌+◌, ◌*◌, Bool, ◌&&◌, not, ◌==◌, nat_lt, List, [], ◌∷◌, length, Option, Some, None, Ok, Err, if◌then◌else◌}
+use Rattle.rs_base.specs.declared.peer.Peer.{Peer}
+use Rattle.rs_base.specs.declared.txn.Txn.{Txn}
+use Rattle.rs_base.specs.declared.txn.Origin.{Origin}
+use Rattle.rs_base.specs.declared.reply.Reply.{Reply}
+use Rattle.rs_base.specs.declared.reply.Reply.TheVariants as replies
+use Rattle.rs_base.specs.Printing.{printed_reply}
+use Rattle.rs_ast.specs.declared.stmt.Stmt.{Stmt}
+use Rattle.rs_parse.specs.Parsing.{statement_of}
+use Rattle.rs_mean.specs.declared.execution.Execution.{Execution}
+use Rattle.rs_mean.specs.Meaning.{Outcome, meaning}
+use Rattle.rs_msg.specs.declared.message.Ask.{Ask}
+use Rattle.rs_site.specs.declared.session.Session.{Session}
+use Rattle.rs_site.specs.declared.outs.Outs.{Outs}
+use Rattle.rs_site.specs.Sessions.{with_session, may_go_on}
+use Rattle.rs_site.specs.State.{SiteState, next_txn}
+
+-- ---- what comes out of a step
+
+abbrev pub nothing : Outs
+nothing = record { sends = []; replies = []; decided = [] }
+
+-- changes nothing and sends nothing
+abbrev pub quiet : SiteState → SiteState × Outs
+quiet site = (site, nothing)
+
+-- a part of a reply is told to a peer
+abbrev pub tells : Peer → Origin → ℕ → Reply → Outs
+tells to origin part reply = record { sends = []; replies = (record { to = to; origin = origin; part = part; reply = reply }) ∷ []; decided = [] }
+
+-- how many bytes a part of a reply has, but for the last
+abbrev pub part_size : ℕ
+part_size = 30000
+
+-- the printed reply has this part, counted from 0
+abbrev pub has_part : Origin → Reply → ℕ → Bool
+has_part origin reply part = nat_lt (part * part_size) (length (printed_reply origin reply))
+
+-- the kept reply is told again, if there is one, and it has this part
+abbrev pub again : SiteState → Peer → Origin → ℕ → Option Reply → SiteState × Outs
+again site from origin part None = quiet site
+again site from origin part (Some reply) = if has_part origin reply part then (site, tells from origin part reply) else quiet site
+
+-- ---- an ask that is taken
+
+-- the execution of a statement by this transaction for the user of this request
+abbrev pub execution_of : Txn → Origin → Stmt → Execution
+execution_of txn origin stmt = record { txn = txn; user = origin.user; site = origin.site; stmt = stmt }
+
+-- the reply that reports an outcome
+abbrev pub reply_of : Outcome → Reply
+reply_of (Ok answered) = replies.Done answered
+reply_of (Err cause) = replies.Denied cause
+
+-- the site remembers that it took this request of its user, and what it answered
+abbrev pub remembering : SiteState → Origin → Reply → SiteState
+remembering site origin reply = record site { sessions = with_session origin.user (record { last = origin.number; reply = Some reply }) site.sessions }
+
+-- The statement is executed by the next transaction, and its outcome told.
+abbrev pub executed : SiteState → Peer → Origin → List ℕ → Stmt → SiteState × Outs
+executed site from origin text stmt =
+    let m = meaning site.database (execution_of (next_txn site) origin stmt) in
+    (record (remembering site origin (reply_of m.1)) { begun = site.begun + 1; database = m.0 },
+     record (tells from origin 0 (reply_of m.1)) { decided = (record { txn = next_txn site; origin = origin; text = text }) ∷ [] })
+
+-- the number of the last transaction of an epoch
+abbrev pub last_number : ℕ
+last_number = 18446744073709551615
+
+-- A text that is no request is told so. A statement for which the epoch has no transaction left is dropped.
+abbrev pub taken_as : SiteState → Peer → Origin → List ℕ → Option Stmt → SiteState × Outs
+taken_as site from origin text None = (remembering site origin (replies.Syntax 0), tells from origin 0 (replies.Syntax 0))
+taken_as site from origin text (Some stmt) = if site.begun == last_number then quiet site else executed site from origin text stmt
+
+abbrev pub taken : SiteState → Peer → Origin → List ℕ → SiteState × Outs
+taken site from origin text = taken_as site from origin text (statement_of text)
+
+-- ---- by the session of the user
+
+abbrev pub refused : SiteState → Peer → Origin → Reply → SiteState × Outs
+refused site from origin reply = (site, tells from origin 0 reply)
+
+-- In the site's epoch: a number below the last is old. The last is given its reply again, whatever its text. The next
+-- one is taken, once the last is answered. All else is a gap.
+abbrev pub by_number : SiteState → Peer → Origin → List ℕ → Session → SiteState × Outs
+by_number site from origin text session =
+    if nat_lt origin.number session.last then refused site from origin (replies.OldRequest session.last)
+    else (if origin.number == session.last then again site from origin 0 session.reply
+    else (if origin.number == session.last + 1 && may_go_on session then taken site from origin text
+    else refused site from origin (replies.Gap session.last)))
+
+-- the first part of a reply is asked for
+abbrev pub on_first : SiteState → Peer → Origin → List ℕ → SiteState × Outs
+on_first site from origin text =
+    if origin.epoch == site.epoch then by_number site from origin text (site.sessions origin.user)
+    else refused site from origin (replies.OldEpoch site.epoch)
+
+-- A further part is asked for: of the reply to the user's last request in this epoch.
+abbrev pub on_further : SiteState → Peer → Origin → ℕ → SiteState × Outs
+on_further site from origin part =
+    if origin.epoch == site.epoch && origin.number == (site.sessions origin.user).last
+    then again site from origin part (site.sessions origin.user).reply
+    else quiet site
+
+abbrev pub origin_of : SiteState → Ask → Origin
+origin_of site ask = record { site = site.me; user = ask.user; epoch = ask.epoch; number = ask.number }
+
+abbrev pub on_ask : SiteState → Peer → Ask → SiteState × Outs
+on_ask site from ask =
+    if ask.part == 0 then on_first site from (origin_of site ask) ask.text
+    else on_further site from (origin_of site ask) ask.part

@@ -1,0 +1,29 @@
+-- Datagrams that a site drops: they change nothing, and nothing is sent.
+use Rattle.std.specs.Prelude.{◌≡◌, ℕ, ◌<◌, List, length, Some, None, IsTrue, ◌⊎◌}
+use Rattle.rs_base.specs.declared.reply.Reply.{Reply}
+use Rattle.rs_msg.specs.declared.message.Ask.{Ask}
+use Rattle.rs_msg.specs.declared.message.Message.{Message}
+use Rattle.rs_msg.specs.declared.message.Message.TheVariants as messages
+use Rattle.rs_msg.specs.Message.{IsMessage}
+use Rattle.rs_site.specs.Asking.{has_part, origin_of}
+use Rattle.rs_site.specs.State.{SiteState}
+use Rattle.rs_site.specs.Step.{most_bytes}
+
+-- a further part that the site has: of the reply that it keeps for the user's last request in its epoch
+pub record HasFurther (site : SiteState) (ask : Ask) : Type 0 where
+  pub epoch : ask.epoch ≡ site.epoch
+  pub number : ask.number ≡ (site.sessions ask.user).last
+  pub reply : Reply
+  pub kept : (site.sessions ask.user).reply ≡ Some reply
+  pub part : IsTrue (has_part (origin_of site ask) reply ask.part)
+
+-- No rule is for the message: a reply, or an ask of a further part that the site doesn't have.
+abbrev pub FitsNoRule : SiteState → Message → Type 0
+FitsNoRule site (messages.Reply part) = Unit {0}
+FitsNoRule site (messages.Ask ask) = (0 < ask.part) × (HasFurther site ask → ⊥)
+
+-- it is too long, no message, or one that no rule is for
+abbrev pub IsDropped : SiteState → List ℕ → Type 0
+IsDropped site bytes = (most_bytes < length bytes)
+    ⊎ ((message : Message) → IsMessage bytes message → ⊥)
+    ⊎ ((message : Message) × IsMessage bytes message × FitsNoRule site message)

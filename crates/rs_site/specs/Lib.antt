@@ -1,0 +1,6 @@
+pub mod Asking
+pub mod Dropped
+pub mod Sessions
+pub mod State
+pub mod Step
+pub mod Truth

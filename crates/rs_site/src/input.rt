@@ -1,0 +1,12 @@
+//! What comes to a site.
+
+use rs_base::{Bytes, Peer};
+
+/// One input of a site.
+#[derive(Debug, Drop)]
+pub enum Input {
+    /// A datagram, and the peer that sent it.
+    Datagram(Peer, Bytes),
+    /// Time passes.
+    Tick,
+}

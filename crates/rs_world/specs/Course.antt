@@ -1,0 +1,120 @@
+-- The course of events: what the world is after each. An event is a list of happenings, and the world is a fold of them.
+use Rattle.std.specs.Prelude.{ℕ, ◌+◌, ◌-◌, List, [], ◌∷◌, ◌++◌, map, fold, flat_map, replicate, set, Option, Some, None}
+use Rattle.std.specs.List.{slice_get, range_with_len}
+use Rattle.rs_base.specs.declared.peer.Peer.{Peer}
+use Rattle.rs_base.specs.declared.peer.Peer.TheVariants as peers
+use Rattle.rs_base.specs.declared.txn.Origin.{Origin}
+use Rattle.rs_msg.specs.declared.message.Message.{Message}
+use Rattle.rs_msg.specs.declared.message.Message.TheVariants as messages
+use Rattle.rs_msg.specs.Reader.{message_of}
+use Rattle.rs_msg.specs.Written.{message_bytes}
+use Rattle.rs_site.specs.declared.input.Input.{Input}
+use Rattle.rs_site.specs.declared.input.Input.TheVariants as inputs
+use Rattle.rs_site.specs.declared.outs.Outs.{Outs}
+use Rattle.rs_site.specs.declared.outs.Told.{Told}
+use Rattle.rs_site.specs.State.{SiteState, opened}
+use Rattle.rs_site.specs.Step.{site_step}
+use Rattle.rs_sched.specs.declared.event.Event.{Event}
+use Rattle.rs_sched.specs.declared.event.Event.TheVariants as events
+use Rattle.rs_world.specs.declared.report.Given.{Given}
+use Rattle.rs_world.specs.declared.report.Report.{Report}
+use Rattle.rs_world.specs.declared.report.SiteView.{SiteView}
+use Rattle.rs_world.specs.declared.world.Datagram.{Datagram}
+use Rattle.rs_world.specs.declared.world.World.{World}
+
+-- before the first event there is no site, and nothing was sent
+abbrev pub start : World
+start = record { sites = []; sent = []; delivered = 0; replies = []; history = [] }
+
+-- ---- a site takes an input
+
+-- a datagram to a site is numbered and kept; a client's is its reply
+abbrev pub sent_by : ℕ → Peer × List ℕ → List Datagram
+sent_by site (peers.Site to, bytes) = (record { from = peers.Site site; to = to; bytes = bytes }) ∷ []
+sent_by site (peers.Client port, bytes) = []
+
+abbrev pub given_of : Told → Given
+given_of told = record { origin = told.origin; reply = told.reply }
+
+-- what came out of a step of this site
+abbrev pub after_outs : World → ℕ → Outs → World
+after_outs world site outs = record world {
+  sent = world.sent ++ flat_map (sent_by site) outs.sends;
+  replies = world.replies ++ map given_of outs.replies;
+  history = world.history ++ outs.decided;
+}
+
+abbrev pub stepped : World → ℕ → Input → Option SiteState → World
+stepped world number input None = world
+stepped world number input (Some site) =
+    let step = site_step site input in
+    after_outs (record world { sites = set world.sites (number - 1) step.0 }) number step.1
+
+-- the site of this number takes an input, where there is one
+abbrev pub taken_by : World → ℕ → Input → World
+taken_by world number input = stepped world number input (slice_get world.sites (number - 1))
+
+-- ---- happenings
+
+pub data Happening : Type 0 where
+  Open : (last : ℕ) → Happening  -- sites 1 to this one are opened
+  Post : (origin : Origin) → (text : List ℕ) → Happening  -- a client's ask is sent
+  Deliver : Happening  -- the first datagram that wasn't delivered yet is, if there is one
+  Noise : (site : ℕ) → (bytes : List ℕ) → Happening  -- a site is given bytes that are no message
+
+-- the datagram of a client's ask of a first part
+abbrev pub ask_datagram : Origin → List ℕ → Datagram
+ask_datagram origin text = record {
+  from = peers.Client 0;
+  to = origin.site;
+  bytes = message_bytes (messages.Ask (record { user = origin.user; epoch = origin.epoch; number = origin.number; part = 0; text = text }));
+}
+
+abbrev pub delivered : World → Option Datagram → World
+delivered world None = world
+delivered world (Some datagram) = taken_by (record world { delivered = world.delivered + 1 }) datagram.to (inputs.Datagram datagram.from datagram.bytes)
+
+abbrev pub heard : World → ℕ → List ℕ → Option Message → World
+heard world site bytes None = taken_by world site (inputs.Datagram (peers.Client 0) bytes)
+heard world site bytes (Some message) = world
+
+abbrev pub happen : World → Happening → World
+happen world (Open last) = record world { sites = map (λ me. opened me last) (range_with_len 1 last) }
+happen world (Post origin text) = record world { sent = world.sent ++ ask_datagram origin text ∷ [] }
+happen world Deliver = delivered world (slice_get world.sent world.delivered)
+happen world (Noise site bytes) = heard world site bytes (message_of bytes)
+
+-- ---- events
+
+-- as many deliveries as a settle without a count makes at most
+unfoldable pub deliveries : List Happening
+deliveries = replicate 16777216 Deliver
+
+-- Deliveries by number, losses, ticks, stops, arms and restarts aren't played yet.
+abbrev pub happenings_of : Event → List Happening
+happenings_of (events.Sites last) = Open last ∷ []
+happenings_of (events.Ask origin text) = Post origin text ∷ []
+happenings_of (events.Settle None) = deliveries
+happenings_of (events.Noise site bytes) = Noise site bytes ∷ []
+happenings_of (events.Settle (Some n)) = []
+happenings_of (events.Deliver k) = []
+happenings_of (events.Lose k) = []
+happenings_of (events.Tick site n) = []
+happenings_of (events.Stop site k j) = []
+happenings_of (events.Arm site c k j) = []
+happenings_of (events.Restart site) = []
+
+abbrev pub world_step : World → Event → World
+world_step world event = fold happen world (happenings_of event)
+
+abbrev pub course : List Event → World
+course given = fold world_step start given
+
+-- ---- the report of a world
+
+abbrev pub view_of : SiteState → SiteView
+view_of site = record { site = site.me; epoch = site.epoch; tables = site.database }
+
+-- no stored section ran
+abbrev pub report_of : World → Report
+report_of world = record { replies = world.replies; history = world.history; runs = 0; sites = map view_of world.sites }

@@ -1,0 +1,101 @@
+-- The report explains the events: all committed executions stand in one serial history, each once and after whatever was
+-- reported before it was asked; each answer is its meaning over the database of the executions before it; what the site
+-- shows is the database of the whole history; each refusal is true.
+use Rattle.std.specs.Prelude.{◌≡◌, ◌≢◌, ℕ, ◌+◌, ◌<◌, List, [], ◌∷◌, ◌++◌, length, take, Option, Some, None, Err, ◌⊎◌}
+use Rattle.std.specs.List.{slice_get, Contains}
+use Rattle.rs_base.specs.declared.txn.Origin.{Origin}
+use Rattle.rs_base.specs.declared.reply.Denial.{Denial}
+use Rattle.rs_base.specs.declared.reply.Reply.{Reply}
+use Rattle.rs_base.specs.declared.reply.Reply.TheVariants as replies
+use Rattle.rs_parse.specs.Parsing.{statement_of}
+use Rattle.rs_mean.specs.Database.{IsInOrder}
+use Rattle.rs_mean.specs.Meaning.{Outcome}
+use Rattle.rs_sched.specs.declared.event.Event.{Event}
+use Rattle.rs_site.specs.Asking.{reply_of}
+use Rattle.rs_site.specs.State.{SiteState}
+use Rattle.rs_site.specs.Truth.{IsTrueReply}
+use Rattle.rs_site.specs.declared.outs.Decided.{Decided}
+use Rattle.rs_world.specs.declared.report.Given.{Given}
+use Rattle.rs_world.specs.declared.report.Report.{Report}
+use Rattle.rs_world.specs.Course.{Happening, Post, course, report_of}
+use Rattle.rs_world.specs.History.{database_of, outcome_behind}
+use Rattle.rs_world.specs.Moments.{happenings, world_after, Hears, Takes}
+
+-- the reply tells what became of a request that was taken
+abbrev pub IsFinal : Reply → Type 0
+IsFinal (replies.Done answered) = Unit {0}
+IsFinal (replies.Denied cause) = Unit {0}
+IsFinal (replies.Failed reason) = Unit {0}
+IsFinal (replies.Shown lines) = Unit {0}
+IsFinal (replies.Syntax place) = Unit {0}
+IsFinal (replies.OldEpoch epoch) = ⊥
+IsFinal (replies.OldRequest last) = ⊥
+IsFinal (replies.Gap last) = ⊥
+
+-- the reply tells that the request is committed
+abbrev pub IsCommitted : Reply → Type 0
+IsCommitted (replies.Done answered) = Unit {0}
+IsCommitted (replies.Denied cause) = Unit {0}
+IsCommitted (replies.Failed reason) = ⊥
+IsCommitted (replies.Shown lines) = ⊥
+IsCommitted (replies.Syntax place) = ⊥
+IsCommitted (replies.OldEpoch epoch) = ⊥
+IsCommitted (replies.OldRequest last) = ⊥
+IsCommitted (replies.Gap last) = ⊥
+
+-- The history has the entry of this reply's request at this place, and the reply is its meaning over the database of the
+-- entries before it.
+pub record IsMeaningAt (history : List Decided) (i : ℕ) (given : Given) : Type 0 where
+  pub entry : Decided
+  pub there : slice_get history i ≡ Some entry
+  pub origin : entry.origin ≡ given.origin
+  pub outcome : Outcome
+  pub meaning : outcome_behind (take i history) entry ≡ Some outcome
+  pub reply : given.reply ≡ reply_of outcome
+
+-- The reply of this place was given when the site heard its request, and is true by what the site was then.
+pub record IsGivenTruly (events : List Event) (place : ℕ) (given : Given) : Type 0 where
+  pub before : List Happening
+  pub site : SiteState
+  pub text : List ℕ
+  pub hears : Hears events before site given.origin text
+  pub number : length (world_after before).replies ≡ place
+  pub true : IsTrueReply site given.origin given.reply
+
+-- the request was taken with a text that is no request
+pub record IsNoRequest (events : List Event) (origin : Origin) : Type 0 where
+  pub text : List ℕ
+  pub takes : Takes events origin text
+  pub no_request : statement_of text ≡ None
+
+pub record Explains (events : List Event) (report : Report) : Type 0 where
+  -- the report is that of the last state of the course
+  pub from_last_state : report ≡ report_of (course events)
+  -- no two entries have one transaction or one request
+  pub entries_distinct : (i j : ℕ) (a b : Decided) → i < j → slice_get report.history i ≡ Some a → slice_get report.history j ≡ Some b → (a.txn ≢ b.txn) × (a.origin ≢ b.origin)
+  -- each entry was asked, and taken by its site, with its text
+  pub entries_asked : (i : ℕ) (entry : Decided) → slice_get report.history i ≡ Some entry → Takes events entry.origin entry.text
+  -- the history at each moment is a front of the last
+  pub history_grows : (before behind : List Happening) → happenings events ≡ before ++ behind → (more : List Decided) × (report.history ≡ (world_after before).history ++ more)
+  -- each reply that tells of a committed request is the meaning of its entry over the database of the entries before it
+  pub answers_are_meaning : (k : ℕ) (given : Given) → slice_get report.replies k ≡ Some given → IsCommitted given.reply → (i : ℕ) × IsMeaningAt report.history i given
+  -- an entry that was denied changed nothing
+  pub denied_changes_nothing : (i : ℕ) (entry : Decided) (cause : Denial) → slice_get report.history i ≡ Some entry → outcome_behind (take i report.history) entry ≡ Some (Err cause) → database_of (take (i + 1) report.history) ≡ database_of (take i report.history)
+  -- an entry whose reply was given before the request of another was asked stands before that
+  pub after_what_was_reported : (before behind : List Happening) (k i j : ℕ) (given : Given) (a b : Decided)
+      → happenings events ≡ before ++ behind
+      → slice_get (world_after before).replies k ≡ Some given → IsCommitted given.reply
+      → slice_get report.history i ≡ Some a → a.origin ≡ given.origin
+      → slice_get report.history j ≡ Some b → ((text : List ℕ) → Contains before (Post b.origin text) → ⊥)
+      → i < j
+  -- each reply was true when it was given
+  pub refusals_true : (k : ℕ) (given : Given) → slice_get report.replies k ≡ Some given → IsGivenTruly events k given
+  -- a text that was told to be no request is none, at its first byte
+  pub syntax_true : (k place : ℕ) (given : Given) → slice_get report.replies k ≡ Some given → given.reply ≡ replies.Syntax place → (place ≡ 0) × IsNoRequest events given.origin
+  -- what a request is told again is what it was told first
+  pub told_again_the_same : (k l : ℕ) (a b : Given) → slice_get report.replies k ≡ Some a → slice_get report.replies l ≡ Some b → a.origin ≡ b.origin → IsFinal a.reply → IsFinal b.reply → a.reply ≡ b.reply
+  -- no stored section ran
+  pub runs_stand : report.runs ≡ 0
+  -- the one site shows the database of the whole history, its tables in order of names
+  pub stores_agree : report.sites ≡ (record { site = 1; epoch = 1; tables = database_of report.history }) ∷ []
+  pub tables_in_order : IsInOrder (database_of report.history)

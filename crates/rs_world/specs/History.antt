@@ -1,0 +1,24 @@
+-- A history: the list of committed executions, in their serial order, and the database that it builds.
+use Rattle.std.specs.Prelude.{List, fold, Option, Some, None}
+use Rattle.rs_ast.specs.declared.stmt.Stmt.{Stmt}
+use Rattle.rs_parse.specs.Parsing.{statement_of}
+use Rattle.rs_mean.specs.Database.{Database, empty}
+use Rattle.rs_mean.specs.Meaning.{Outcome, meaning}
+use Rattle.rs_site.specs.Asking.{execution_of}
+use Rattle.rs_site.specs.declared.outs.Decided.{Decided}
+
+abbrev pub effect_of : Database → Decided → Option Stmt → Database × Option Outcome
+effect_of db entry None = (db, None)
+effect_of db entry (Some stmt) = let m = meaning db (execution_of entry.txn entry.origin stmt) in (m.0, Some m.1)
+
+-- What an entry does to a database, and its outcome there. A text that is no request does nothing and has none.
+abbrev pub effect : Database → Decided → Database × Option Outcome
+effect db entry = effect_of db entry (statement_of entry.text)
+
+-- the database that a history builds from the empty one
+abbrev pub database_of : List Decided → Database
+database_of history = fold (λ db entry. (effect db entry).0) empty history
+
+-- the outcome of an entry behind this history
+abbrev pub outcome_behind : List Decided → Decided → Option Outcome
+outcome_behind history entry = (effect (database_of history) entry).1

@@ -1,0 +1,6 @@
+pub mod Accepted
+pub mod Course
+pub mod Explains
+pub mod History
+pub mod Moments
+pub mod ReportText
