@@ -100,25 +100,31 @@ length_ident bytes is =
 pub written_message : (m : Message) → IsWithin m → IsMessage (message_bytes m) m
 unfolding ask_bytes origin_bytes reply_bytes
 written_message (messages.Ask ask) w =
-    let small : length ask.user < 2 ^ 64 = omega (arith, length_ident ask.user w.user) in
-    (ask_bytes ask, record {
-      within = w;
-      user = text_bytes ask.user;
-      user_is = written_text ask.user small;
-      text = text_bytes ask.text;
-      text_is = written_text ask.text (omega (arith, w.text));
-      parts = refl;
-    }, refl)
+    let small : length ask.user < 2 ^ 64 = omega (arith, length_ident ask.user w.user) in (
+      ask_bytes ask,
+      record {
+        within = w;
+        user = text_bytes ask.user;
+        user_is = written_text ask.user small;
+        text = text_bytes ask.text;
+        text_is = written_text ask.text (omega (arith, w.text));
+        parts = refl;
+      },
+      refl,
+    )
 written_message (messages.Reply reply) w =
-    let small : length reply.origin.user < 2 ^ 64 = omega (arith, length_ident reply.origin.user w.origin.user) in
-    (reply_bytes reply, record {
-      within = w;
-      origin = origin_bytes reply.origin;
-      origin_is = record { within = w.origin; user = text_bytes reply.origin.user; user_is = written_text reply.origin.user small; parts = refl };
-      said = text_bytes reply.bytes;
-      said_is = written_text reply.bytes w.bytes;
-      parts = refl;
-    }, refl)
+    let small : length reply.origin.user < 2 ^ 64 = omega (arith, length_ident reply.origin.user w.origin.user) in (
+      reply_bytes reply,
+      record {
+        within = w;
+        origin = origin_bytes reply.origin;
+        origin_is = record { within = w.origin; user = text_bytes reply.origin.user; user_is = written_text reply.origin.user small; parts = refl };
+        said = text_bytes reply.bytes;
+        said_is = written_text reply.bytes w.bytes;
+        parts = refl;
+      },
+      refl,
+    )
 
 pub written_read : (m : Message) → IsWithin m → message_of (message_bytes m) ≡ Some m
 written_read m w = forth (message_bytes m) m (written_message m w)
