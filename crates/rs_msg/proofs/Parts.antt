@@ -1,7 +1,7 @@
 -- The fields of messages: what is read is what is spelled, and nothing is spelled in two ways.
-use Rattle.std.proofs.Common.{◌≡◌, ℕ, ◌^◌, ◌<◌, ◌≤◌, Bool, cond, true, false, ◌&&◌, leb, ltb, List, [], ◌∷◌, ◌++◌, length, Option, Some, None, refl, sym, ap, subst, ◌∙◌, arith, append_assoc}
+use Rattle.std.proofs.Common.{◌≡◌, ℕ, ◌^◌, ◌<◌, ◌≤◌, Bool, cond, true, ◌&&◌, leb, List, [], ◌∷◌, ◌++◌, length, Option, Some, None, refl, sym, ap, subst, ◌∙◌, arith, append_assoc}
 use Rattle.std.specs.Int.{w32, w64, to_be_bytes}
-use Rattle.std.proofs.lemmas.Bool.{and_parts, and_from, leb-true, le-leb, ltb-true, lt-ltb}
+use Rattle.std.proofs.lemmas.Bool.{and_parts, and_from, leb-true, le-leb}
 use Rattle.std.proofs.lemmas.Option.{same_Some, cond_some}
 use Rattle.rs_base.specs.Ident.{is_ident}
 use Rattle.rs_base.specs.Reading.{◌>>=◌}
@@ -9,7 +9,7 @@ use Rattle.rs_base.specs.declared.txn.Origin.{Origin}
 use Rattle.rs_codec.specs.Spelling.{IsByte, IsU32, IsU64, IsText, Takes}
 use Rattle.rs_codec.specs.Laws.{IsReadBy, IsSpelledOnce}
 use Rattle.rs_codec.specs.Reader.{byte_at, u32_at, u64_at, text_at}
-use Rattle.rs_codec.proofs.Readers.{bind_some, bind_at, chosen, read_by, read_again, byte_read, u32_read, u64_read, text_read}
+use Rattle.rs_codec.proofs.Readers.{bind_some, bind_at, read_by, read_again, byte_read, u32_read, u64_read, text_read}
 use Rattle.rs_codec.proofs.Writers.{once_text}
 use Rattle.rs_msg.specs.declared.message.Ask.{Ask}
 use Rattle.rs_msg.specs.declared.message.ReplyPart.{ReplyPart}
