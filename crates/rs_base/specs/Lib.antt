@@ -6,5 +6,6 @@ pub mod Value
 pub mod Faults
 pub mod Printing
 pub mod Reading
+pub mod Sizes
 pub mod MemStreams
 pub mod Streams

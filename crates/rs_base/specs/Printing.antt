@@ -88,25 +88,36 @@ printed_resource (resources.Birth name) = codes "birth " ++ printed_swn name
 printed_resource (resources.Program user program) = codes "program " ++ user ++ codes " " ++ program
 printed_resource (resources.Synonyms user) = codes "synonyms " ++ user
 
+unfoldable pub printed_holder : Enlist → List ℕ
+printed_holder holder = codes " holder " ++ printed_enlist holder
+
+-- where a lock was waited for, on what, and who holds it
+unfoldable pub printed_wait : ℕ → Resource → Enlist → List ℕ
+printed_wait site what holder = codes "site " ++ decimal site ++ codes " " ++ printed_resource what ++ printed_holder holder
+
 -- the number and the name of a reason, and what it rests on
 abbrev pub printed_reason : Reason → List ℕ
-printed_reason (reasons.LockBudget site what holder) = codes "1 LockBudget site " ++ decimal site ++ codes " " ++ printed_resource what ++ codes " holder " ++ printed_enlist holder
+printed_reason (reasons.LockBudget site what holder) = codes "1 LockBudget " ++ printed_wait site what holder
 printed_reason (reasons.NoAnswer site) = codes "2 NoAnswer site " ++ decimal site
 printed_reason (reasons.SiteLost site) = codes "3 SiteLost site " ++ decimal site
 
 abbrev pub printed_line : List ℕ → List ℕ
 printed_line line = line ++ codes "\n"
 
+-- a class and its number
+unfoldable pub printed_counted : List ℕ → ℕ → List ℕ
+printed_counted class n = class ++ decimal n ++ codes "\n"
+
 -- what a reply says: the class, and for each answer of a done request its lines
 abbrev pub printed_class : Reply → List ℕ
-printed_class (replies.Done answered) = codes "done " ++ decimal (length answered) ++ codes "\n" ++ flat_map printed_answer answered
+printed_class (replies.Done answered) = printed_counted (codes "done ") (length answered) ++ flat_map printed_answer answered
 printed_class (replies.Denied cause) = codes "denied " ++ printed_denial cause ++ codes "\n"
 printed_class (replies.Failed reason) = codes "failed " ++ printed_reason reason ++ codes "\n"
-printed_class (replies.Shown lines) = codes "shown " ++ decimal (length lines) ++ codes "\n" ++ flat_map printed_line lines
-printed_class (replies.Syntax place) = codes "syntax " ++ decimal place ++ codes "\n"
-printed_class (replies.OldEpoch epoch) = codes "oldepoch " ++ decimal epoch ++ codes "\n"
-printed_class (replies.OldRequest last) = codes "oldrequest " ++ decimal last ++ codes "\n"
-printed_class (replies.Gap last) = codes "gap " ++ decimal last ++ codes "\n"
+printed_class (replies.Shown lines) = printed_counted (codes "shown ") (length lines) ++ flat_map printed_line lines
+printed_class (replies.Syntax place) = printed_counted (codes "syntax ") place
+printed_class (replies.OldEpoch epoch) = printed_counted (codes "oldepoch ") epoch
+printed_class (replies.OldRequest last) = printed_counted (codes "oldrequest ") last
+printed_class (replies.Gap last) = printed_counted (codes "gap ") last
 
 abbrev pub printed_reply : Origin → Reply → List ℕ
 printed_reply to reply = codes "reply " ++ printed_origin to ++ codes " " ++ printed_class reply

@@ -232,6 +232,25 @@ fn site(out: &mut Bytes, site: SiteNo) -> Result<(), NoMemory>
     number(out, u64::from(site.number()))
 }
 
+#[tactic(auto, unfolding(crate::specs::Printing::printed_holder))]
+fn holder(out: &mut Bytes, holder: &Enlist) -> Result<(), NoMemory>
+    ensures { OnOk result (out.new ≡ out.old ++ spec.printed_holder holder.now) }
+{
+    out.extend(b" holder ")?;
+    enlist(out, holder)
+}
+
+#[tactic(auto, unfolding(crate::specs::Printing::printed_wait))]
+fn wait(out: &mut Bytes, at: SiteNo, what: &Resource, held_by: &Enlist) -> Result<(), NoMemory>
+    ensures { OnOk result (out.new ≡ out.old ++ spec.printed_wait at what.now held_by.now) }
+{
+    out.extend(b"site ")?;
+    site(out, at)?;
+    out.extend(b" ")?;
+    resource(out, what)?;
+    holder(out, held_by)
+}
+
 fn reason(out: &mut Bytes, reason: &Reason) -> Result<(), NoMemory>
     ensures { OnOk result (out.new ≡ out.old ++ spec.printed_reason reason.now) }
 {
@@ -241,12 +260,8 @@ fn reason(out: &mut Bytes, reason: &Reason) -> Result<(), NoMemory>
             what,
             holder,
         } => {
-            out.extend(b"1 LockBudget site ")?;
-            site(out, *at)?;
-            out.extend(b" ")?;
-            resource(out, what)?;
-            out.extend(b" holder ")?;
-            enlist(out, holder)
+            out.extend(b"1 LockBudget ")?;
+            wait(out, *at, what, holder)
         }
         Reason::NoAnswer { site: at } => {
             out.extend(b"2 NoAnswer site ")?;
@@ -275,8 +290,9 @@ fn lines(out: &mut Bytes, lines: &[Bytes]) -> Result<(), NoMemory>
     Ok(())
 }
 
+#[tactic(auto, unfolding(crate::specs::Printing::printed_counted))]
 fn counted(out: &mut Bytes, class: &[u8], n: u64) -> Result<(), NoMemory>
-    ensures { OnOk result (out.new ≡ out.old ++ class.now ++ decimal n ++ codes "\n") }
+    ensures { OnOk result (out.new ≡ out.old ++ spec.printed_counted class.now n) }
 {
     out.extend(class)?;
     number(out, n)?;

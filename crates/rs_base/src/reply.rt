@@ -1,11 +1,15 @@
 //! What a site answers.
 
+ghost use Rattle.std.specs.Prelude.{◌≡◌, IfOk, take};
+
 use crate::bytes::Bytes;
+use crate::fault::NoMemory;
 use crate::lock::Resource;
 use crate::site_no::SiteNo;
 use crate::txn::Enlist;
-use crate::value::Rows;
+use crate::value::{Row, Rows, copy_row};
 use sqlite_items::Items;
+use std::alloc::Global;
 
 /// Why an execution was denied. It is committed and changed nothing.
 #[derive(Clone, Copy, Debug, PartialEq, Eq)]
@@ -78,4 +82,63 @@ pub enum Reply {
     OldRequest(u64),
     /// The request's number is too far above the user's last, or the last isn't answered yet; the last.
     Gap(u64),
+}
+
+fn copy_rows(alloc: Global, rows: &[Row]) -> Result<Rows, NoMemory>
+    ensures { IfOk result (λ copy. copy ≡ rows.now) }
+{
+    let mut copy = Rows::new(alloc);
+    for row in rows {
+        copy.push(copy_row(alloc, row.as_slice())?)?;
+    }
+    Ok(copy)
+}
+
+impl Answer {
+    pub fn copy(&self, alloc: Global) -> Result<Answer, NoMemory>
+        ensures { IfOk result (λ copy. copy ≡ self.now) }
+    {
+        match self {
+            Answer::Ok => Ok(Answer::Ok),
+            Answer::Changed(n) => Ok(Answer::Changed(*n)),
+            Answer::Rows(rows) => Ok(Answer::Rows(copy_rows(alloc, rows.as_slice())?)),
+        }
+    }
+}
+
+fn copy_answers(alloc: Global, answers: &[Answer]) -> Result<Answers, NoMemory>
+    ensures { IfOk result (λ copy. copy ≡ answers.now) }
+{
+    let mut copy = Answers::new(alloc);
+    for answer in answers {
+        copy.push(answer.copy(alloc)?)?;
+    }
+    Ok(copy)
+}
+
+fn copy_lines(alloc: Global, lines: &[Bytes]) -> Result<Lines, NoMemory>
+    ensures { IfOk result (λ copy. copy ≡ lines.now) }
+{
+    let mut copy = Lines::new(alloc);
+    for line in lines {
+        copy.push(line.copy(alloc)?)?;
+    }
+    Ok(copy)
+}
+
+impl Reply {
+    pub fn copy(&self, alloc: Global) -> Result<Reply, NoMemory>
+        ensures { IfOk result (λ copy. copy ≡ self.now) }
+    {
+        match self {
+            Reply::Done(answers) => Ok(Reply::Done(copy_answers(alloc, answers.as_slice())?)),
+            Reply::Denied(denial) => Ok(Reply::Denied(*denial)),
+            Reply::Failed(reason) => Ok(Reply::Failed(*reason)),
+            Reply::Shown(lines) => Ok(Reply::Shown(copy_lines(alloc, lines.as_slice())?)),
+            Reply::Syntax(place) => Ok(Reply::Syntax(*place)),
+            Reply::OldEpoch(epoch) => Ok(Reply::OldEpoch(*epoch)),
+            Reply::OldRequest(last) => Ok(Reply::OldRequest(*last)),
+            Reply::Gap(last) => Ok(Reply::Gap(*last)),
+        }
+    }
 }
