@@ -7,6 +7,11 @@ use Rattle.rs_site.specs.declared.session.Session.{Session}
 abbrev pub fresh : Session
 fresh = record { last = 0; reply = None }
 
+-- the session that is kept, or a fresh one
+abbrev pub session_in : Option Session → Session
+session_in None = fresh
+session_in (Some session) = session
+
 -- a session for each user
 abbrev pub Book : Type 0
 Book = List ℕ → Session

@@ -1,7 +1,6 @@
 //! A site: a state, and one step over one input.
 #![tactic(auto)]
 
-mod ask;
 mod input;
 mod outs;
 mod session;

@@ -20,3 +20,26 @@ pub struct Session {
 pub struct Sessions {
     by_user: BTreeMap<Ident, Session>,
 }
+
+impl Model for Sessions {
+    ghost use Rattle.std.specs.Map.{lookup};
+    ghost use Rattle.std.specs.BTreeMap.{is_at};
+    ghost use Rattle.std.specs.Cmp.Lexicographic.{slice_cmp};
+    ghost use Rattle.std.specs.Ordering.{nat_cmp};
+    ghost use Rattle.rs_site.specs.Sessions.{Book, session_in};
+
+    ghost Value = { Book };
+
+    ghost view = { λ it. λ user. session_in (lookup (is_at (slice_cmp nat_cmp user)) it.by_user.entries) };
+}
+
+impl Sessions {
+    /// No user was ever taken.
+    pub fn new(alloc: Global) -> Sessions
+        ensures { result ≡ spec.all_fresh }
+    {
+        Sessions {
+            by_user: BTreeMap::new(alloc),
+        }
+    }
+}
