@@ -1,6 +1,6 @@
 //! What a site keeps of its users.
 
-ghost use Rattle.std.specs.Prelude.{◌≡◌, OnOk, OnErr, IfOk};
+ghost use Rattle.std.specs.Prelude.{◌≡◌, Some, OnOk, OnErr, IfOk};
 ghost use Rattle.std.specs.BTreeMap.{is_at};
 ghost use Rattle.std.specs.Cmp.Lexicographic.{slice_cmp};
 ghost use Rattle.std.specs.Map.{set_value, remove_entry};
@@ -33,6 +33,12 @@ impl Model for Sessions {
     ghost Value = { Book };
 
     ghost view = { λ it. it.by_user.entries };
+}
+
+fn write(kept: &mut Session, session: Session)
+    ensures { kept.new ≡ session }
+{
+    *kept = session;
 }
 
 impl Sessions {
@@ -92,13 +98,14 @@ impl Sessions {
         }
     }
 
-    /// Puts this session in place of the user's that is kept, if there is one.
+    /// Puts this session in place of the user's that is kept.
     fn put_in_place(&mut self, user: &Ident, session: Session)
-        ensures { self.new ≡ set_value (is_at (slice_cmp nat_cmp user.now)) self.old session }
+        ensures { (kept : Session) → spec.kept_of user.now self.old ≡ Some kept → self.new ≡ set_value (is_at (slice_cmp nat_cmp user.now)) self.old session }
     {
-        if let Some(kept) = self.by_user.get_mut(user) {
-            *kept = session;
-        }
+        let Some(kept) = self.by_user.get_mut(user) else {
+            return;
+        };
+        write(kept, session);
     }
 
     /// Keeps no session of the user.
