@@ -43,7 +43,7 @@ pub second_of_pair : {A B : Type 0} (x y : A × B) → ◌≡◌ {A = Option (A 
 second_of_pair x y e = ap (λ p. p.1) (same_Some x y e)
 
 -- one of two
-either : {A : Type 0} (test : Bool) (x y : Option A) (z : A) → cond test x y ≡ Some z → ((test ≡ true) × (x ≡ Some z)) ⊎ ((test ≡ false) × (y ≡ Some z))
+pub either : {A : Type 0} (test : Bool) (x y : Option A) (z : A) → cond test x y ≡ Some z → ((test ≡ true) × (x ≡ Some z)) ⊎ ((test ≡ false) × (y ≡ Some z))
 either true x y z e = inl (refl, e)
 either false x y z e = inr (refl, e)
 
@@ -65,7 +65,19 @@ module _ {X : Type 0} (IsX : List ℕ → X → Type 0) (x_at : List ℕ → Opt
   pub read_again : IsReadBy IsX x_at → (spelling rest : List ℕ) (x : X) → IsX spelling x → x_at (spelling ++ rest) ≡ Some (x, rest)
   read_again reads spelling rest x is = (reads (spelling ++ rest) rest x).0 (record { spelling = spelling; spelled = is; parts = refl })
 
--- ---- numbers of four and eight bytes
+-- ---- numbers of one, four and eight bytes
+
+byte_back : (bytes rest : List ℕ) (x : ℕ) → byte_at bytes ≡ Some (x, rest) → Takes IsByte bytes rest x
+byte_back [] rest x e = absurd cc
+byte_back (b ∷ bytes) rest x e =
+    let c = cond_some (ltb b 256) (b, bytes) (x, rest) e in
+    subst (λ (p : ℕ × List ℕ). Takes IsByte (b ∷ bytes) p.1 p.0) c.1 (record { spelling = b ∷ []; spelled = (ltb-true b 256 c.0, refl); parts = refl })
+
+byte_forth : (spelling rest : List ℕ) (x : ℕ) → IsByte spelling x → byte_at (spelling ++ rest) ≡ Some (x, rest)
+byte_forth spelling rest x is = ap (λ (bs : List ℕ). byte_at (bs ++ rest)) is.1 ∙ rw (lt-ltb x 256 is.0) refl
+
+pub byte_read : IsReadBy IsByte byte_at
+byte_read = read_by IsByte byte_at byte_forth byte_back
 
 spelled_back : (bytes front tail spelling rest : List ℕ) (n x : ℕ) → bytes ≡ front ++ tail → if_spelled front spelling n tail ≡ Some (x, rest) → (x ≡ n) × (bytes ≡ spelling ++ rest)
 spelled_back bytes front tail spelling rest n x parts e =

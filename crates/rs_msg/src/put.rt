@@ -1,7 +1,7 @@
 //! The bytes of a message.
 
-ghost use Rattle.std.specs.Prelude.{◌≡◌, [], ◌∷◌, ◌++◌, OnOk, OnErr};
-ghost use Rattle.rs_msg.specs.Limits.{HasRoom};
+ghost use Rattle.std.specs.Prelude.{◌≡◌, ◌≤◌, [], ◌∷◌, ◌++◌, length, OnOk, OnErr};
+ghost use Rattle.rs_msg.specs.Limits.{ask_limit, HasRoom, IsAskWithin, IsOriginWithin, IsReplyWithin, IsWithin};
 ghost use Rattle.rs_msg.specs.Message.{IsMessage};
 ghost use Rattle.rs_msg.specs.Written as written;
 
@@ -21,7 +21,9 @@ pub const REPLY: u8 = 2;
 
 #[tactic(auto, unfolding(crate::specs::Written::ask_bytes))]
 fn put_ask(alloc: Global, out: &mut Bytes, ask: &Ask) -> Result<(), NoMemory>
-    ensures { OnOk result (out.new ≡ out.old ++ written.ask_bytes ask.now) }
+    requires { length ask.now.text ≤ ask_limit }
+    ensures ok { OnOk result (out.new ≡ out.old ++ written.ask_bytes ask.now) }
+    ensures within { OnOk result (IsAskWithin ask.now) }
 {
     put_text(alloc, out, ask.user.as_bytes())?;
     put_u32(out, ask.epoch)?;
@@ -32,7 +34,8 @@ fn put_ask(alloc: Global, out: &mut Bytes, ask: &Ask) -> Result<(), NoMemory>
 
 #[tactic(auto, unfolding(crate::specs::Written::origin_bytes))]
 fn put_origin(alloc: Global, out: &mut Bytes, origin: &Origin) -> Result<(), NoMemory>
-    ensures { OnOk result (out.new ≡ out.old ++ written.origin_bytes origin.now) }
+    ensures ok { OnOk result (out.new ≡ out.old ++ written.origin_bytes origin.now) }
+    ensures within { OnOk result (IsOriginWithin origin.now) }
 {
     put_byte(out, origin.site.number() as u8)?;
     put_text(alloc, out, origin.user.as_bytes())?;
@@ -42,7 +45,8 @@ fn put_origin(alloc: Global, out: &mut Bytes, origin: &Origin) -> Result<(), NoM
 
 #[tactic(auto, unfolding(crate::specs::Written::reply_bytes))]
 fn put_reply(alloc: Global, out: &mut Bytes, reply: &ReplyPart) -> Result<(), NoMemory>
-    ensures { OnOk result (out.new ≡ out.old ++ written.reply_bytes reply.now) }
+    ensures ok { OnOk result (out.new ≡ out.old ++ written.reply_bytes reply.now) }
+    ensures within { OnOk result (IsReplyWithin reply.now) }
 {
     put_origin(alloc, out, &reply.origin)?;
     put_u32(out, reply.part)?;
@@ -58,7 +62,9 @@ fn put_kind(out: &mut Bytes, kind: u8) -> Result<(), NoMemory>
 }
 
 fn put_message(alloc: Global, out: &mut Bytes, message: &Message) -> Result<(), NoMemory>
-    ensures { OnOk result (out.new ≡ out.old ++ written.message_bytes message.now) }
+    requires { HasRoom message.now }
+    ensures ok { OnOk result (out.new ≡ out.old ++ written.message_bytes message.now) }
+    ensures within { OnOk result (IsWithin message.now) }
 {
     match message {
         Message::Ask(ask) => {

@@ -6,17 +6,14 @@ ghost use Rattle.rs_msg.specs.declared.message.Message.{Message};
 ghost use Rattle.rs_msg.specs.Message.{IsMessage};
 ghost use Rattle.rs_msg.specs.Reader as reader;
 
-use crate::encode::{ASK, MARK, REPLY};
-use crate::message::{Ask, Message, ReplyPart};
+use crate::put::{ASK, MARK, REPLY};
+use crate::message::{ASK_LIMIT, Ask, Message, ReplyPart};
 use rs_base::{Bytes, Ident, Origin, ReadFault, SiteNo};
 use rs_codec::Fields;
 use std::alloc::Global;
 
-/// The most bytes of a request's text.
-const ASK_LIMIT: usize = 8192;
-
 #[tactic(auto, unfolding(crate::specs::Reader::user_at))]
-fn user(fields: &mut Fields<'_>) -> Result<Ident, ReadFault>
+fn read_user(fields: &mut Fields<'_>) -> Result<Ident, ReadFault>
     ensures { Reads (reader.user_at fields.old) result fields.new }
 {
     let text = fields.take_text().ok_or(ReadFault::Malformed)?;
@@ -24,7 +21,7 @@ fn user(fields: &mut Fields<'_>) -> Result<Ident, ReadFault>
 }
 
 #[tactic(auto, unfolding(crate::specs::Reader::short_text_at))]
-fn short_text(alloc: Global, fields: &mut Fields<'_>, limit: usize) -> Result<Bytes, ReadFault>
+fn read_short_text(alloc: Global, fields: &mut Fields<'_>, limit: usize) -> Result<Bytes, ReadFault>
     ensures { Reads (reader.short_text_at limit fields.old) result fields.new }
 {
     let text = fields.take_text().ok_or(ReadFault::Malformed)?;
@@ -35,7 +32,7 @@ fn short_text(alloc: Global, fields: &mut Fields<'_>, limit: usize) -> Result<By
 }
 
 #[tactic(auto, unfolding(crate::specs::Reader::site_at))]
-fn site(fields: &mut Fields<'_>) -> Result<SiteNo, ReadFault>
+fn read_site(fields: &mut Fields<'_>) -> Result<SiteNo, ReadFault>
     ensures { Reads (reader.site_at fields.old) result fields.new }
 {
     let number = fields.read_byte()?;
@@ -43,11 +40,11 @@ fn site(fields: &mut Fields<'_>) -> Result<SiteNo, ReadFault>
 }
 
 #[tactic(auto, unfolding(crate::specs::Reader::origin_at))]
-fn origin(fields: &mut Fields<'_>) -> Result<Origin, ReadFault>
+fn read_origin(fields: &mut Fields<'_>) -> Result<Origin, ReadFault>
     ensures { Reads (reader.origin_at fields.old) result fields.new }
 {
-    let site = site(fields)?;
-    let user = user(fields)?;
+    let site = read_site(fields)?;
+    let user = read_user(fields)?;
     let epoch = fields.read_u32()?;
     let number = fields.read_u64()?;
     Ok(Origin {
@@ -59,14 +56,14 @@ fn origin(fields: &mut Fields<'_>) -> Result<Origin, ReadFault>
 }
 
 #[tactic(auto, unfolding(crate::specs::Reader::ask_at))]
-fn ask(alloc: Global, fields: &mut Fields<'_>) -> Result<Ask, ReadFault>
+fn read_ask(alloc: Global, fields: &mut Fields<'_>) -> Result<Ask, ReadFault>
     ensures { Reads (reader.ask_at fields.old) result fields.new }
 {
-    let user = user(fields)?;
+    let user = read_user(fields)?;
     let epoch = fields.read_u32()?;
     let number = fields.read_u64()?;
     let part = fields.read_u32()?;
-    let text = short_text(alloc, fields, ASK_LIMIT)?;
+    let text = read_short_text(alloc, fields, ASK_LIMIT)?;
     Ok(Ask {
         user,
         epoch,
@@ -77,10 +74,10 @@ fn ask(alloc: Global, fields: &mut Fields<'_>) -> Result<Ask, ReadFault>
 }
 
 #[tactic(auto, unfolding(crate::specs::Reader::reply_at))]
-fn reply(alloc: Global, fields: &mut Fields<'_>) -> Result<ReplyPart, ReadFault>
+fn read_reply(alloc: Global, fields: &mut Fields<'_>) -> Result<ReplyPart, ReadFault>
     ensures { Reads (reader.reply_at fields.old) result fields.new }
 {
-    let origin = origin(fields)?;
+    let origin = read_origin(fields)?;
     let part = fields.read_u32()?;
     let parts = fields.read_u32()?;
     let bytes = fields.read_text(alloc)?;
@@ -92,20 +89,20 @@ fn reply(alloc: Global, fields: &mut Fields<'_>) -> Result<ReplyPart, ReadFault>
     })
 }
 
-fn fields_of(alloc: Global, fields: &mut Fields<'_>, kind: u8) -> Result<Message, ReadFault>
+fn read_fields(alloc: Global, fields: &mut Fields<'_>, kind: u8) -> Result<Message, ReadFault>
     ensures { Reads (reader.fields_at kind fields.old) result fields.new }
 {
     if kind == ASK {
-        Ok(Message::Ask(ask(alloc, fields)?))
+        Ok(Message::Ask(read_ask(alloc, fields)?))
     } else if kind == REPLY {
-        Ok(Message::Reply(reply(alloc, fields)?))
+        Ok(Message::Reply(read_reply(alloc, fields)?))
     } else {
         Err(ReadFault::Malformed)
     }
 }
 
 #[tactic(auto, unfolding(crate::specs::Reader::message_at))]
-fn message(alloc: Global, fields: &mut Fields<'_>) -> Result<Message, ReadFault>
+fn read_message(alloc: Global, fields: &mut Fields<'_>) -> Result<Message, ReadFault>
     ensures { Reads (reader.message_at fields.old) result fields.new }
 {
     let first = fields.read_byte()?;
@@ -113,15 +110,15 @@ fn message(alloc: Global, fields: &mut Fields<'_>) -> Result<Message, ReadFault>
         return Err(ReadFault::Malformed);
     }
     let kind = fields.read_byte()?;
-    fields_of(alloc, fields, kind)
+    read_fields(alloc, fields, kind)
 }
 
 #[tactic(auto, unfolding(crate::specs::Reader::message_of))]
-fn whole(alloc: Global, bytes: &[u8]) -> Result<Message, ReadFault>
+fn read_whole(alloc: Global, bytes: &[u8]) -> Result<Message, ReadFault>
     ensures { Gives (λ message. message) result (reader.message_of bytes.now) }
 {
     let mut fields = Fields::new(bytes);
-    let message = message(alloc, &mut fields)?;
+    let message = read_message(alloc, &mut fields)?;
     match fields.rest() {
         [] => Ok(message),
         [_, ..] => Err(ReadFault::Malformed),
@@ -134,5 +131,5 @@ pub fn decode(alloc: Global, bytes: &[u8]) -> Result<Message, ReadFault>
     ensures only { (message : Message) → IsMessage bytes.now message → Gives (λ m. m) result (Some message) }
     ensures exact { Gives (λ message. message) result (reader.message_of bytes.now) }
 {
-    whole(alloc, bytes)
+    read_whole(alloc, bytes)
 }
