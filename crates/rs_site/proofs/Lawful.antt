@@ -1,11 +1,10 @@
 -- The laws of steps.
-use Rattle.std.proofs.Common.{◌≡◌, ℕ, ◌+◌, ◌*◌, ◌≤◌, Bool, true, false, cond, ◌&&◌, ◌==◌, List, [], ◌∷◌, length, Option, Some, None, Ordering, Less, Equal, Greater, is_eq, refl, sym, ap, ◌∙◌, subst, arith, nat_lt, inl, inr, ◌⊎◌, rules}
+use Rattle.std.proofs.Common.{◌≡◌, ℕ, ◌+◌, ◌≤◌, Bool, true, false, cond, ◌&&◌, ◌==◌, List, [], ◌∷◌, length, Some, Less, Equal, Greater, is_eq, refl, sym, ap, ◌∙◌, subst, arith, nat_lt, inl, inr, ◌⊎◌, rules}
 use Rattle.std.proofs.lemmas.Bool.Decides.{nat_tests}
 use Rattle.std.proofs.lemmas.Grind.{common_steps}
 use Rattle.std.proofs.lemmas.Map.Lookups.{exact_bytes}
 use Rattle.std.specs.Cmp.Lexicographic.{slice_cmp, nat_list_cmp_total}
 use Rattle.std.specs.Ordering.{nat_cmp}
-use Rattle.rs_base.specs.Printing.{printed_reply}
 use Rattle.rs_base.specs.declared.peer.Peer.{Peer}
 use Rattle.rs_base.specs.declared.txn.Origin.{Origin}
 use Rattle.rs_base.specs.declared.reply.Reply.{Reply}
@@ -14,17 +13,15 @@ use Rattle.rs_mean.proofs.Entries.{lookup_put, lookup_beside}
 use Rattle.rs_msg.specs.declared.message.Ask.{Ask}
 use Rattle.rs_msg.specs.declared.message.Message.TheVariants as messages
 use Rattle.rs_msg.specs.Reader.{message_of}
-use Rattle.rs_site.specs.declared.input.Input.{Input}
 use Rattle.rs_site.specs.declared.input.Input.TheVariants as inputs
 use Rattle.rs_site.specs.declared.outs.Decided.{Decided}
 use Rattle.rs_site.specs.declared.session.Session.{Session}
-use Rattle.rs_site.specs.Asking.{quiet, tells, has_part, part_size, again, remembering, taken, refused, by_number, origin_of, on_first, on_further, on_ask}
+use Rattle.rs_site.specs.Asking.{quiet, tells, has_part, again, remembering, taken, refused, by_number, origin_of, on_first, on_further, on_ask}
 use Rattle.rs_site.specs.Laws.{last_of, IsNextCommit, NumbersRise, CommitsAreMeaning}
 use Rattle.rs_site.specs.Sessions.{Book, session_of, or_fresh, with_session, may_go_on}
 use Rattle.rs_site.specs.State.{SiteState, next_txn}
-use Rattle.rs_site.specs.Step.{most_bytes, on_read, on_datagram, site_step}
-use Rattle.rs_site.proofs.Sorts.{Step, Stays, IsNext, Remembers, Executes, Kind, step_kind, by_test, again_stays, further_stays}
-use Rattle.rs_site.proofs.Quiet.{ReadIsSpelled}
+use Rattle.rs_site.specs.Step.{most_bytes, on_read, site_step}
+use Rattle.rs_site.proofs.Sorts.{Step, Stays, IsNext, Kind, step_kind, by_test, again_stays, further_stays}
 
 -- ---- the session that is put
 

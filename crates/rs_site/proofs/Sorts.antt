@@ -1,6 +1,6 @@
 -- Each step is of one of three kinds: it leaves the site as it was, it remembers a request that was no request, or it
 -- executes a statement.
-use Rattle.std.proofs.Common.{◌≡◌, ℕ, ◌+◌, Bool, true, false, cond, ◌&&◌, ◌==◌, List, [], Option, Some, None, refl, sym, ap, ◌∙◌, arith, nat_lt, inl, inr, ◌⊎◌, length}
+use Rattle.std.proofs.Common.{◌≡◌, ℕ, ◌+◌, Bool, true, false, cond, ◌&&◌, ◌==◌, List, [], Option, Some, None, refl, arith, nat_lt, inl, inr, ◌⊎◌, length}
 use Rattle.std.proofs.lemmas.Bool.Decides.{nat_tests}
 use Rattle.rs_ast.specs.declared.stmt.Stmt.{Stmt}
 use Rattle.rs_base.specs.declared.peer.Peer.{Peer}
@@ -16,10 +16,10 @@ use Rattle.rs_site.specs.declared.input.Input.{Input}
 use Rattle.rs_site.specs.declared.input.Input.TheVariants as inputs
 use Rattle.rs_site.specs.declared.outs.Outs.{Outs}
 use Rattle.rs_site.specs.declared.session.Session.{Session}
-use Rattle.rs_site.specs.Asking.{quiet, tells, has_part, again, remembering, no_request, executed, last_number, taken_as, taken, refused, by_number, origin_of, on_first, on_further, on_ask}
+use Rattle.rs_site.specs.Asking.{quiet, tells, has_part, again, no_request, executed, last_number, taken_as, taken, refused, by_number, origin_of, on_first, on_further, on_ask}
 use Rattle.rs_site.specs.Sessions.{session_of, may_go_on}
 use Rattle.rs_site.specs.State.{SiteState}
-use Rattle.rs_site.specs.Step.{most_bytes, on_message, on_read, on_datagram, site_step}
+use Rattle.rs_site.specs.Step.{most_bytes, on_read, on_datagram, site_step}
 
 abbrev pub Step : Type 0
 Step = SiteState × Outs
