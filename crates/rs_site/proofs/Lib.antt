@@ -1,4 +1,6 @@
+pub mod Asked
 pub mod Books
 pub mod Lawful
+pub mod PutSessions
 pub mod Quiet
 pub mod Sorts

@@ -1,0 +1,15 @@
+-- Whose session is another once a session is put into a book.
+use Rattle.std.proofs.Common.{◌≡◌, ◌≢◌, ℕ, List, refl}
+use Rattle.std.proofs.lemmas.Cmp.{nat_list_cmp_total}
+use Rattle.std.proofs.lemmas.Map.Lookups.{exact_bytes}
+use Rattle.rs_mean.proofs.Entries.{apart, lookup_put, lookup_beside}
+use Rattle.rs_site.specs.declared.session.Session.{Session}
+use Rattle.rs_site.specs.Sessions.{Book, session_of, with_session}
+
+-- the user has the session that was put in
+pub session_put : (user : List ℕ) (session : Session) (book : Book) → session_of user (with_session user session book) ≡ session
+session_put user session book = rw (lookup_put nat_list_cmp_total user session book) refl
+
+-- each other user keeps its session
+pub session_beside : (user : List ℕ) (session : Session) (book : Book) (other : List ℕ) → other ≢ user → session_of other (with_session user session book) ≡ session_of other book
+session_beside user session book other differ = rw (lookup_beside nat_list_cmp_total user session other (apart exact_bytes other user differ) book) refl

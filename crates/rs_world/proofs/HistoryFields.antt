@@ -1,0 +1,83 @@
+-- What the report's history, its committed replies and its site explain.
+use Rattle.std.proofs.Common.{◌≡◌, ◌≢◌, ℕ, ◌+◌, ◌<◌, List, [], ◌∷◌, ◌++◌, map, take, Option, Some, None, Err, sym, ap, subst, ◌∙◌, arith}
+use Rattle.std.specs.List.{slice_get}
+use Rattle.std.proofs.lemmas.List.{append-nil}
+use Rattle.rs_base.specs.declared.txn.Txn.{Txn}
+use Rattle.rs_base.specs.declared.reply.Denial.{Denial}
+use Rattle.rs_ast.specs.declared.stmt.Stmt.{Stmt}
+use Rattle.rs_parse.specs.Parsing.{statement_of}
+use Rattle.rs_mean.specs.Database.{Database, IsInOrder}
+use Rattle.rs_mean.specs.Meaning.{meaning}
+use Rattle.rs_mean.proofs.Lawful.{denied_changes_nothing as after_denied}
+use Rattle.rs_sched.specs.declared.event.Event.{Event}
+use Rattle.rs_site.specs.declared.outs.Decided.{Decided}
+use Rattle.rs_site.specs.Asking.{execution_of}
+use Rattle.rs_site.specs.State.{SiteState}
+use Rattle.rs_world.specs.declared.report.Given.{Given}
+use Rattle.rs_world.specs.declared.world.World.{World}
+use Rattle.rs_world.specs.Course.{Happening, Open, view_of, course, report_of}
+use Rattle.rs_world.specs.Explains.{IsCommitted, IsMeaningAt}
+use Rattle.rs_world.specs.History.{effect_of, database_of, outcome_behind}
+use Rattle.rs_world.specs.Moments.{happenings, world_after, Takes}
+use Rattle.rs_world.proofs.AtEach.{Moment, at_each}
+use Rattle.rs_world.proofs.Entered.{Entered, database_of-push, txn_at}
+use Rattle.rs_world.proofs.Entering.{entered_law}
+use Rattle.rs_world.proofs.Growing.{grows}
+use Rattle.rs_world.proofs.Gets.{take-get}
+use Rattle.rs_world.proofs.Played.{Playable, course_is}
+use Rattle.rs_world.proofs.Walk.{after}
+
+-- the last world is the one after all that happens
+pub last_is : (given : List Event) (can : Playable given) → course given ≡ after can.others
+last_is given can = course_is given ∙ ap world_after can.parted
+
+-- what holds of the history in the end
+pub in_the_end : (given : List Event) → Playable given → Moment (λ before state givens history. Entered given state givens history) (happenings given) (course given)
+in_the_end given can =
+    let whole = at_each given can (λ before state givens history. Entered given state givens history) (entered_law given) can.others [] (sym (append-nil can.others)) in
+    subst (λ (hs : List Happening). Moment (λ before state givens history. Entered given state givens history) hs (course given)) (sym can.parted)
+    (subst (λ (w : World). Moment (λ before state givens history. Entered given state givens history) (Open 1 ∷ can.others) w) (sym (last_is given can)) whole)
+
+denied_at : (db : Database) (entry : Decided) (read : Option Stmt) (cause : Denial) → (effect_of db entry read).1 ≡ Some (Err cause) → (effect_of db entry read).0 ≡ db
+denied_at db entry None cause e = absurd cc
+denied_at db entry (Some stmt) cause e =
+    let is : (meaning db (execution_of entry.txn entry.origin stmt)).1 ≡ Err cause = cc in
+    after_denied db (execution_of entry.txn entry.origin stmt) cause is
+
+-- an entry that was denied changed nothing
+pub denied_changes_nothing : (history : List Decided) (i : ℕ) (entry : Decided) (cause : Denial) → slice_get history i ≡ Some entry → outcome_behind (take i history) entry ≡ Some (Err cause)
+    → database_of (take (i + 1) history) ≡ database_of (take i history)
+denied_changes_nothing history i entry cause at denied =
+    ap database_of (take-get history i entry at) ∙ database_of-push (take i history) entry ∙ denied_at (database_of (take i history)) entry (statement_of entry.text) cause denied
+
+-- the history at each moment is a front of the last
+pub history_grows : (given : List Event) (before behind : List Happening) → happenings given ≡ before ++ behind → (more : List Decided) × ((course given).history ≡ (world_after before).history ++ more)
+history_grows given before behind parted =
+    let on = grows before behind in
+    (on.entries, ap (λ (w : World). w.history) (course_is given ∙ ap world_after parted) ∙ on.history)
+
+module _ (given : List Event) (can : Playable given) where
+  end : Moment (λ before state givens history. Entered given state givens history) (happenings given) (course given)
+  end = in_the_end given can
+
+  pub entries_distinct : (i j : ℕ) (a b : Decided) → i < j → slice_get (course given).history i ≡ Some a → slice_get (course given).history j ≡ Some b → (a.txn ≢ b.txn) × (a.origin ≢ b.origin)
+  entries_distinct i j a b lt at_a at_b = (txns_differ, end.holds.distinct i j a b lt at_a at_b)
+    where
+      txns_differ : a.txn ≢ b.txn
+      txns_differ same =
+          let both : txn_at i ≡ txn_at j = sym (end.holds.txns i a at_a) ∙ same ∙ end.holds.txns j b at_b in
+          omega (arith, lt, ap (λ (t : Txn). t.number) both)
+
+  pub entries_asked : (i : ℕ) (entry : Decided) → slice_get (course given).history i ≡ Some entry → Takes given entry.origin entry.text
+  entries_asked i entry at = (end.holds.entries i entry at).takes
+
+  pub answers_are_meaning : (k : ℕ) (told : Given) → slice_get (course given).replies k ≡ Some told → IsCommitted told.reply → (i : ℕ) × IsMeaningAt (course given).history i told
+  answers_are_meaning k told at committed = end.holds.answers k told at committed
+
+  pub stores_agree : (report_of (course given)).sites ≡ (record { site = 1; epoch = 1; tables = database_of (course given).history }) ∷ []
+  stores_agree =
+      ap (λ (sites : List SiteState). map view_of sites) end.stands.one.sites
+      ∙ (λ i. (record { site = end.stands.one.me i; epoch = end.stands.one.epoch i; tables = end.holds.database i }) ∷ [])
+
+  pub tables_in_order : IsInOrder (database_of (course given).history)
+  tables_in_order = subst IsInOrder end.holds.database end.holds.in_order

@@ -1,0 +1,127 @@
+-- What may happen by valid events that are accepted: site 1 is opened, and then asks of it are posted within their
+-- limits, datagrams delivered, and noise given to it.
+use Rattle.std.proofs.Common.{◌≡◌, ℕ, zero, suc, Bool, true, false, ◌&&◌, List, [], ◌∷◌, ◌++◌, Some, None, IsTrue, refl, sym, ap, subst, ◌∙◌, arith}
+use Rattle.std.specs.Prelude.{fold, replicate, ◌==◌}
+use Rattle.std.proofs.lemmas.Bool.Decides.{nat_tests}
+use Rattle.std.proofs.lemmas.List.Sums.{fold-append}
+use Rattle.rs_base.specs.declared.txn.Origin.{Origin}
+use Rattle.rs_msg.specs.declared.message.Ask.{Ask}
+use Rattle.rs_msg.specs.Limits.{IsAskWithin}
+use Rattle.rs_sched.specs.declared.event.Event.{Event}
+use Rattle.rs_sched.specs.declared.event.Event.TheVariants as events
+use Rattle.rs_sched.specs.Schedule.{IsValid, IsLater, AreLater}
+use Rattle.rs_world.specs.Accepted.{may_come, is_open_after, are_accepted}
+use Rattle.rs_world.specs.declared.world.World.{World}
+use Rattle.rs_world.specs.Course.{Happening, Open, Post, Deliver, Noise, deliveries, happenings_of, happen, world_step, start, course}
+use Rattle.rs_world.specs.Moments.{happenings, world_after}
+
+-- the message by which a first part is asked for
+abbrev pub ask_of : Origin → List ℕ → Ask
+ask_of origin text = record { user = origin.user; epoch = origin.epoch; number = origin.number; part = 0; text = text }
+
+-- an ask of site 1 within its limits
+pub record IsPost (origin : Origin) (text : List ℕ) : Type 0 where
+  pub site : origin.site ≡ 1
+  pub within : IsAskWithin (ask_of origin text)
+
+abbrev pub IsPlayed : Happening → Type 0
+IsPlayed (Open last) = ⊥
+IsPlayed (Post origin text) = IsPost origin text
+IsPlayed Deliver = Unit {0}
+IsPlayed (Noise site bytes) = site ≡ 1
+
+unfoldable pub ArePlayed : List Happening → Type 0
+ArePlayed [] = Unit {0}
+ArePlayed (happening ∷ others) = IsPlayed happening × ArePlayed others
+
+pub played_none : ArePlayed []
+unfolding ArePlayed
+played_none = tt
+
+pub played_more : (happening : Happening) (others : List Happening) → IsPlayed happening → ArePlayed others → ArePlayed (happening ∷ others)
+unfolding ArePlayed
+played_more happening others one all = (one, all)
+
+pub played_first : (happening : Happening) (others : List Happening) → ArePlayed (happening ∷ others) → IsPlayed happening × ArePlayed others
+unfolding ArePlayed
+played_first happening others are = are
+
+played_both : (xs ys : List Happening) → ArePlayed xs → ArePlayed ys → ArePlayed (xs ++ ys)
+played_both [] ys a b = b
+played_both (x ∷ xs) ys a b =
+    let parts = played_first x xs a in
+    played_more x (xs ++ ys) parts.0 (played_both xs ys parts.1 b)
+
+played_again : (n : ℕ) → ArePlayed (replicate n Deliver)
+played_again zero = played_none
+played_again (suc n) = played_more Deliver (replicate n Deliver) tt (played_again n)
+
+deliveries_are : (n : ℕ) × (deliveries ≡ replicate n Deliver)
+unfolding deliveries
+deliveries_are = (16777216, refl)
+
+played_deliveries : ArePlayed deliveries
+played_deliveries = subst ArePlayed (sym deliveries_are.1) (played_again deliveries_are.0)
+
+both_true : (a b : Bool) → (a && b) ≡ true → (a ≡ true) × (b ≡ true)
+both_true true b e = (refl, e)
+both_true false b e = absurd cc
+
+-- what happens by one event
+played_event : (is_open : Bool) (event : Event) → IsLater 1 event → may_come is_open event ≡ true → ArePlayed (happenings_of event)
+played_event is_open (events.Sites last) later may = absurd (later.fits.sites_once tt)
+played_event is_open (events.Ask origin text) later may = played_more (Post origin text) [] (record {
+  site = omega (arith, later.fits.fields.site.0, later.fits.site_right);
+  within = record { user = later.fits.fields.user; epoch = later.fits.fields.epoch; number = later.fits.fields.number; part = omega arith; text = later.text.short };
+}) played_none
+played_event is_open (events.Settle None) later may = played_deliveries
+played_event is_open (events.Settle (Some n)) later may = played_none
+played_event is_open (events.Noise site bytes) later may = played_more (Noise site bytes) [] (omega (arith, later.fits.fields.0.0, later.fits.site_right)) played_none
+played_event is_open (events.Deliver k) later may = played_none
+played_event is_open (events.Lose k) later may = played_none
+played_event is_open (events.Tick site n) later may = played_none
+played_event is_open (events.Stop site k j) later may = played_none
+played_event is_open (events.Arm site c k j) later may = played_none
+played_event is_open (events.Restart site) later may = played_none
+
+played_events : (is_open : Bool) (given : List Event) → AreLater 1 given → are_accepted is_open given ≡ true → ArePlayed (happenings given)
+played_events is_open [] later are = played_none
+played_events is_open (event ∷ others) later are =
+    let parts = both_true (may_come is_open event) (are_accepted (is_open_after is_open event) others) are in
+    played_both (happenings_of event) (happenings others) (played_event is_open event later.0 parts.0) (played_events (is_open_after is_open event) others later.1 parts.1)
+
+-- Site 1 is opened, and what happens then may.
+pub record Playable (given : List Event) : Type 0 where
+  pub others : List Happening
+  pub parted : happenings given ≡ Open 1 ∷ others
+  pub are : ArePlayed others
+
+pub playable : (given : List Event) → IsValid given → IsTrue (are_accepted false given) → Playable given
+playable [] valid are = absurd valid
+playable (events.Sites last ∷ others) valid are =
+    let parts = both_true (last == 1) (are_accepted false others) are in
+    let one : last ≡ 1 = grind (arith, nat_tests, parts.0) in
+    record {
+      others = happenings others;
+      parted = ap (λ (n : ℕ). Open n ∷ happenings others) one;
+      are = played_events false others (subst (λ (n : ℕ). AreLater n others) one valid.1) parts.1;
+    }
+playable (events.Ask origin text ∷ others) valid are = absurd valid
+playable (events.Deliver k ∷ others) valid are = absurd valid
+playable (events.Lose k ∷ others) valid are = absurd valid
+playable (events.Tick site n ∷ others) valid are = absurd valid
+playable (events.Stop site k j ∷ others) valid are = absurd valid
+playable (events.Arm site c k j ∷ others) valid are = absurd valid
+playable (events.Restart site ∷ others) valid are = absurd valid
+playable (events.Settle count ∷ others) valid are = absurd valid
+playable (events.Noise site bytes ∷ others) valid are = absurd valid
+
+-- ---- the course as a fold of happenings
+
+course_from : (given : List Event) (world : World) → fold world_step world given ≡ fold happen world (happenings given)
+course_from [] world = refl
+course_from (event ∷ others) world =
+    course_from others (world_step world event) ∙ sym (fold-append happen world (happenings_of event) (happenings others))
+
+pub course_is : (given : List Event) → course given ≡ world_after (happenings given)
+course_is given = course_from given start

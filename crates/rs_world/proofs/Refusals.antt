@@ -1,0 +1,18 @@
+-- Each reply of a report was true when it was given, and a text that was told to be no request is none.
+use Rattle.std.proofs.Common.{◌≡◌, ℕ, List, Some, false, IsTrue}
+use Rattle.std.specs.List.{slice_get}
+use Rattle.rs_base.specs.declared.reply.Reply.TheVariants as replies
+use Rattle.rs_sched.specs.declared.event.Event.{Event}
+use Rattle.rs_sched.specs.Schedule.{IsValid}
+use Rattle.rs_world.specs.declared.report.Given.{Given}
+use Rattle.rs_world.specs.Accepted.{are_accepted}
+use Rattle.rs_world.specs.Course.{course, report_of}
+use Rattle.rs_world.specs.Explains.{IsGivenTruly, IsNoRequest}
+use Rattle.rs_world.proofs.Holding.{holds_last}
+
+pub refusals_true : (all : List Event) → IsValid all → IsTrue (are_accepted false all) → (k : ℕ) (given : Given) → slice_get (report_of (course all)).replies k ≡ Some given → IsGivenTruly all k given
+refusals_true all valid are = (holds_last all valid are).holds.kept.truly
+
+pub syntax_true : (all : List Event) → IsValid all → IsTrue (are_accepted false all)
+    → (k place : ℕ) (given : Given) → slice_get (report_of (course all)).replies k ≡ Some given → given.reply ≡ replies.Syntax place → (place ≡ 0) × IsNoRequest all given.origin
+syntax_true all valid are = (holds_last all valid are).holds.kept.syntax_told

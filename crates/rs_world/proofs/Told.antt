@@ -1,0 +1,137 @@
+-- What an ask that is heard gives, case by case, keeps what holds of the replies, the entries and the sessions.
+use Rattle.std.proofs.Common.{◌≡◌, ℕ, List, [], ◌∷◌, ◌++◌, length, map, Some, None, Ok, Err, refl, sym, ap, subst, ◌∙◌}
+use Rattle.std.specs.Prelude.{slice_get}
+use Rattle.std.proofs.lemmas.List.{append-nil}
+use Rattle.rs_base.specs.declared.peer.Peer.{Peer}
+use Rattle.rs_base.specs.declared.txn.Origin.{Origin}
+use Rattle.rs_base.specs.declared.reply.Reply.{Reply}
+use Rattle.rs_base.specs.declared.reply.Reply.TheVariants as replies
+use Rattle.rs_ast.specs.declared.stmt.Stmt.{Stmt}
+use Rattle.rs_parse.specs.Parsing.{statement_of}
+use Rattle.rs_mean.specs.Meaning.{Outcome, meaning}
+use Rattle.rs_sched.specs.declared.event.Event.{Event}
+use Rattle.rs_site.specs.declared.outs.Decided.{Decided}
+use Rattle.rs_site.specs.declared.outs.Outs.{Outs}
+use Rattle.rs_site.specs.Sessions.{session_of}
+use Rattle.rs_site.specs.State.{SiteState, next_txn}
+use Rattle.rs_site.specs.Asking.{reply_of, execution_of, executed, remembering}
+use Rattle.rs_site.specs.Truth.{IsTrueReply}
+use Rattle.rs_site.proofs.Asked.{Asked, Refused, ToldAgain, Silent, NoRequest, Spent, Executed, IsRefusal, IsLast, IsNext}
+use Rattle.rs_world.specs.declared.report.Given.{Given}
+use Rattle.rs_world.specs.Course.{Happening, given_of}
+use Rattle.rs_world.specs.Moments.{world_after, Hears}
+use Rattle.rs_world.specs.Explains.{IsFinal, IsCommitted, IsGivenTruly, IsNoRequest}
+use Rattle.rs_world.proofs.Kept.{Kept, IsKeepable, IsEntered, last_origin, same_origin, said, remembered, kept_then}
+
+-- ---- replies by their kinds
+
+true_if_keepable : (site : SiteState) (origin : Origin) (reply : Reply) → IsKeepable reply → IsTrueReply site origin reply
+true_if_keepable site origin (replies.Done answered) may = tt
+true_if_keepable site origin (replies.Denied cause) may = tt
+true_if_keepable site origin (replies.Failed reason) may = may
+true_if_keepable site origin (replies.Shown lines) may = may
+true_if_keepable site origin (replies.Syntax place) may = tt
+true_if_keepable site origin (replies.OldEpoch epoch) may = absurd may
+true_if_keepable site origin (replies.OldRequest last) may = absurd may
+true_if_keepable site origin (replies.Gap last) may = absurd may
+
+-- a refusal is neither final nor committed
+pub refusal_is_not_final : (reply : Reply) → IsRefusal reply → IsFinal reply → ⊥
+refusal_is_not_final (replies.Done answered) is final = is
+refusal_is_not_final (replies.Denied cause) is final = is
+refusal_is_not_final (replies.Failed reason) is final = is
+refusal_is_not_final (replies.Shown lines) is final = is
+refusal_is_not_final (replies.Syntax place) is final = is
+refusal_is_not_final (replies.OldEpoch epoch) is final = final
+refusal_is_not_final (replies.OldRequest last) is final = final
+refusal_is_not_final (replies.Gap last) is final = final
+
+pub committed_is_final : (reply : Reply) → IsCommitted reply → IsFinal reply
+committed_is_final (replies.Done answered) is = tt
+committed_is_final (replies.Denied cause) is = tt
+committed_is_final (replies.Failed reason) is = absurd is
+committed_is_final (replies.Shown lines) is = absurd is
+committed_is_final (replies.Syntax place) is = absurd is
+committed_is_final (replies.OldEpoch epoch) is = absurd is
+committed_is_final (replies.OldRequest last) is = absurd is
+committed_is_final (replies.Gap last) is = absurd is
+
+refusal_is_no_syntax : (reply : Reply) (place : ℕ) → IsRefusal reply → reply ≡ replies.Syntax place → ⊥
+refusal_is_no_syntax reply place is e = subst IsRefusal e is
+
+keepable_outcome : (outcome : Outcome) → IsKeepable (reply_of outcome)
+keepable_outcome (Ok answered) = tt
+keepable_outcome (Err cause) = tt
+
+outcome_is_no_syntax : (outcome : Outcome) (place : ℕ) → reply_of outcome ≡ replies.Syntax place → ⊥
+outcome_is_no_syntax (Ok answered) place e = cc
+outcome_is_no_syntax (Err cause) place e = cc
+
+pub get_last : {X : Type 0} (xs : List X) (x : X) → slice_get (xs ++ x ∷ []) (length xs) ≡ Some x
+get_last [] x = refl
+get_last (y ∷ ys) x = get_last ys x
+
+-- ---- an ask is heard
+
+module _ (all : List Event) (before : List Happening) (site : SiteState) (from : Peer) (origin : Origin) (text : List ℕ) (hears : Hears all before site origin text)
+    (home : origin.site ≡ site.me) (tolds : List Given) (history : List Decided) (number : length (world_after before).replies ≡ length tolds)
+    (holds : Kept all site tolds history) where
+  abbrev told_as : Reply → Given
+  told_as reply = record { origin = origin; reply = reply }
+
+  abbrev After : SiteState × Outs → Type 0
+  After came = Kept all came.0 (tolds ++ map given_of came.1.replies) (history ++ came.1.decided)
+
+  truly_as : (reply : Reply) → IsTrueReply site origin reply → IsGivenTruly all (length tolds) (told_as reply)
+  truly_as reply is = record { before = before; site = site; text = text; hears = hears; number = number; true = is }
+
+  without_entry : (more : List Given) → Kept all site (tolds ++ more) history → Kept all site (tolds ++ more) (history ++ [])
+  without_entry more kept = subst (λ (h : List Decided). Kept all site (tolds ++ more) h) (sym (append-nil history)) kept
+
+  on_nothing : Kept all site (tolds ++ []) (history ++ [])
+  on_nothing = without_entry [] (subst (λ (t : List Given). Kept all site t history) (sym (append-nil tolds)) holds)
+
+  on_refusal : (reply : Reply) → IsRefusal reply → IsTrueReply site origin reply → Kept all site (tolds ++ told_as reply ∷ []) (history ++ [])
+  on_refusal reply refusal is = without_entry (told_as reply ∷ []) (said all site tolds history holds (told_as reply) (truly_as reply is)
+      (λ place e. absurd (refusal_is_no_syntax reply place refusal e))
+      (λ final. absurd (refusal_is_not_final reply refusal final))
+      (λ committed. absurd (refusal_is_not_final reply refusal (committed_is_final reply committed))))
+
+  on_repeat : (reply : Reply) → IsLast site origin → (session_of origin.user site.sessions).reply ≡ Some reply → Kept all site (tolds ++ told_as reply ∷ []) (history ++ [])
+  on_repeat reply last kept =
+      let is : last_origin site origin.user ≡ origin = same_origin (last_origin site origin.user) origin (sym home) refl (sym last.epoch) (sym last.number) in
+      without_entry (told_as reply ∷ []) (said all site tolds history holds (told_as reply) (truly_as reply (true_if_keepable site origin reply (holds.keepable origin.user reply kept)))
+      (λ place e. subst (λ (o : Origin). (place ≡ 0) × IsNoRequest all o) is (holds.syntax_kept origin.user place (kept ∙ ap (λ (r : Reply). Some r) e)))
+      (λ final. record { number = last.number; reply = kept })
+      (λ committed. subst (λ (o : Origin). IsEntered history o) is (holds.entered_kept origin.user reply kept committed)))
+
+  on_taken : IsNext site origin → (reply : Reply) → (after : SiteState) → after.me ≡ site.me → after.epoch ≡ site.epoch → after.sessions ≡ (remembering site origin reply).sessions → (more : List Decided)
+      → IsKeepable reply → ((place : ℕ) → reply ≡ replies.Syntax place → (place ≡ 0) × IsNoRequest all origin) → (IsCommitted reply → IsEntered (history ++ more) origin)
+      → Kept all after (tolds ++ told_as reply ∷ []) (history ++ more)
+  on_taken next reply after me epoch sessions more may syntax_is entered =
+      said all after tolds (history ++ more) (remembered all site tolds history holds origin home next reply after me epoch sessions more may syntax_is entered) (told_as reply)
+      (truly_as reply (true_if_keepable site origin reply may)) syntax_is
+      (λ final. kept_then all site tolds history holds origin home next reply after me epoch sessions more may syntax_is entered) entered
+
+  on_no_request : IsNext site origin → statement_of text ≡ None → Kept all (remembering site origin (replies.Syntax 0)) (tolds ++ told_as (replies.Syntax 0) ∷ []) (history ++ [])
+  on_no_request next none =
+      let no_request : IsNoRequest all origin = record { text = text; takes = record { before = before; site = site; hears = hears; epoch = next.epoch; number = next.number }; no_request = none } in
+      on_taken next (replies.Syntax 0) (remembering site origin (replies.Syntax 0)) refl refl refl [] tt
+      (λ place e. (let zero_is : 0 ≡ place = cc in sym zero_is, no_request))
+      (λ committed. absurd committed)
+
+  on_executed : IsNext site origin → (stmt : Stmt) → After (executed site from origin text stmt)
+  on_executed next stmt =
+      let outcome : Outcome = (meaning site.database (execution_of (next_txn site) origin stmt)).1 in
+      let entry : Decided = record { txn = next_txn site; origin = origin; text = text } in
+      on_taken next (reply_of outcome) (executed site from origin text stmt).0 refl refl refl (entry ∷ []) (keepable_outcome outcome)
+      (λ place e. absurd (outcome_is_no_syntax outcome place e))
+      (λ committed. record { place = length history; entry = entry; there = get_last history entry; origin = refl })
+
+  pub told_keeps : (came : SiteState × Outs) → Asked site from origin text came → After came
+  told_keeps came (Refused reply refusal is e) = subst After (sym e) (on_refusal reply refusal is)
+  told_keeps came (ToldAgain reply last kept e) = subst After (sym e) (on_repeat reply last kept)
+  told_keeps came (Silent last kept e) = subst After (sym e) on_nothing
+  told_keeps came (NoRequest next none e) = subst After (sym e) (on_no_request next none)
+  told_keeps came (Spent next stmt reads spent e) = subst After (sym e) on_nothing
+  told_keeps came (Executed next stmt reads room e) = subst After (sym e) (on_executed next stmt)
