@@ -4,33 +4,33 @@ use Rattle.std.specs.Prelude.{ℕ, Bool, true, false, ◌&&◌, not, ◌==◌, L
 use Rattle.rs_sched.specs.declared.event.Event.{Event}
 use Rattle.rs_sched.specs.declared.event.Event.TheVariants as events
 
--- the event may come now, where `open` says that an ask has no settle behind it yet
+-- the event may come now, where `unsettled` says that an ask has no settle behind it yet
 abbrev pub may_come : Bool → Event → Bool
-may_come open (events.Sites last) = last == 1
-may_come open (events.Ask origin text) = not open
-may_come open (events.Settle None) = true
-may_come open (events.Settle (Some n)) = false
-may_come open (events.Noise site bytes) = true
-may_come open (events.Deliver k) = false
-may_come open (events.Lose k) = false
-may_come open (events.Tick site n) = false
-may_come open (events.Stop site k j) = false
-may_come open (events.Arm site c k j) = false
-may_come open (events.Restart site) = false
+may_come unsettled (events.Sites last) = last == 1
+may_come unsettled (events.Ask origin text) = not unsettled
+may_come unsettled (events.Settle None) = true
+may_come unsettled (events.Settle (Some n)) = false
+may_come unsettled (events.Noise site bytes) = true
+may_come unsettled (events.Deliver k) = false
+may_come unsettled (events.Lose k) = false
+may_come unsettled (events.Tick site n) = false
+may_come unsettled (events.Stop site k j) = false
+may_come unsettled (events.Arm site c k j) = false
+may_come unsettled (events.Restart site) = false
 
 -- whether an ask has no settle behind it, after this event
 abbrev pub is_open_after : Bool → Event → Bool
-is_open_after open (events.Ask origin text) = true
-is_open_after open (events.Settle count) = false
-is_open_after open (events.Sites last) = open
-is_open_after open (events.Noise site bytes) = open
-is_open_after open (events.Deliver k) = open
-is_open_after open (events.Lose k) = open
-is_open_after open (events.Tick site n) = open
-is_open_after open (events.Stop site k j) = open
-is_open_after open (events.Arm site c k j) = open
-is_open_after open (events.Restart site) = open
+is_open_after unsettled (events.Ask origin text) = true
+is_open_after unsettled (events.Settle count) = false
+is_open_after unsettled (events.Sites last) = unsettled
+is_open_after unsettled (events.Noise site bytes) = unsettled
+is_open_after unsettled (events.Deliver k) = unsettled
+is_open_after unsettled (events.Lose k) = unsettled
+is_open_after unsettled (events.Tick site n) = unsettled
+is_open_after unsettled (events.Stop site k j) = unsettled
+is_open_after unsettled (events.Arm site c k j) = unsettled
+is_open_after unsettled (events.Restart site) = unsettled
 
 abbrev pub are_accepted : Bool → List Event → Bool
-are_accepted open [] = not open
-are_accepted open (event ∷ others) = may_come open event && are_accepted (is_open_after open event) others
+are_accepted unsettled [] = not unsettled
+are_accepted unsettled (event ∷ others) = may_come unsettled event && are_accepted (is_open_after unsettled event) others

@@ -3,6 +3,7 @@ use Rattle.std.specs.Prelude.{◌≡◌, ℕ, ◌+◌, ◌-◌, List, ◌∷◌,
 use Rattle.std.specs.List.{slice_get}
 use Rattle.rs_base.specs.declared.txn.Origin.{Origin}
 use Rattle.rs_sched.specs.declared.event.Event.{Event}
+use Rattle.rs_site.specs.Sessions.{session_of}
 use Rattle.rs_site.specs.State.{SiteState}
 use Rattle.rs_world.specs.declared.world.World.{World}
 use Rattle.rs_world.specs.Course.{Happening, Deliver, happenings_of, happen, start, ask_datagram}
@@ -26,4 +27,4 @@ pub record Takes (given : List Event) (origin : Origin) (text : List ℕ) : Type
   pub site : SiteState
   pub hears : Hears given before site origin text
   pub epoch : origin.epoch ≡ site.epoch
-  pub number : origin.number ≡ (site.sessions origin.user).last + 1
+  pub number : origin.number ≡ (session_of origin.user site.sessions).last + 1
