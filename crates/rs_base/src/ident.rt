@@ -94,7 +94,8 @@ impl Ident {
     }
 
     pub fn as_bytes(&self) -> &[u8]
-        ensures { result.now ≡ self.now }
+        ensures bytes { result.now ≡ self.now }
+        ensures ident { IsTrue (spec.is_ident self.now) }
     {
         &self.bytes[..self.len]
     }

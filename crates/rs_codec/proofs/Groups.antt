@@ -12,7 +12,7 @@ pub longer : (b n high : ℕ) (bytes : List ℕ) → 128 ≤ b → b < 256 → 0
 longer b n high [] from below more parts g = absurd g
 longer b n high (c ∷ bs) from below more parts g = (from, below, high, more, parts, g)
 
-same_front : (b c : ℕ) (bs cs : List ℕ) → b ≡ c → bs ≡ cs → b ∷ bs ≡ c ∷ cs
+pub same_front : (b c : ℕ) (bs cs : List ℕ) → b ≡ c → bs ≡ cs → b ∷ bs ≡ c ∷ cs
 same_front b c bs cs e f = ap (λ (x : ℕ). x ∷ bs) e ∙ ap (λ (xs : List ℕ). c ∷ xs) f
 
 first_is : (b c : ℕ) (bs cs : List ℕ) → b ∷ bs ≡ c ∷ cs → b ≡ c

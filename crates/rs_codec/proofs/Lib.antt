@@ -1,2 +1,4 @@
 pub mod Groups
+pub mod Readers
 pub mod Spellings
+pub mod Writers

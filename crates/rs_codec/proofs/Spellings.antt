@@ -30,7 +30,7 @@ one_int a b r s x y p q e =
     let same = one_count a b r s (count_of x) (count_of y) p q e in
     (same.0, same_count x y same.1)
 
-count_below : (z : ℤ) → FitsSigned w64 z → count_of z < 2 ^ 64
+pub count_below : (z : ℤ) → FitsSigned w64 z → count_of z < 2 ^ 64
 count_below (pos n) h = omega (arith, h.sfits)
 count_below (negsuc n) h = omega (arith, h.sfits)
 
@@ -44,7 +44,7 @@ same_fronts : (x y r s : List ℕ) → length x ≡ length y → x ++ r ≡ y ++
 same_fronts x y r s len e = sym (take_at x r (length y) len) ∙ ap (take (length y)) e ∙ take_at y s (length y) refl
 
 -- the text behind its count
-behind_count : (a r text : List ℕ) (p : IsText a text) → a ++ r ≡ p.count ++ (text ++ r)
+pub behind_count : (a r text : List ℕ) (p : IsText a text) → a ++ r ≡ p.count ++ (text ++ r)
 behind_count a r text p = ap (λ (xs : List ℕ). xs ++ r) p.parts ∙ append_assoc p.count text r
 
 pub one_text : HasOneSpelling IsText
@@ -62,6 +62,10 @@ each_text text h =
 
 pub bytes_of_text : (bytes text : List ℕ) → IsText bytes text → AreBytes text → AreBytes bytes
 bytes_of_text bytes text p are = subst AreBytes (sym p.parts) (All-append (λ b. b < 256) p.count text (bytes_of_count p.count (length text) p.counted) are)
+
+-- no count stands there
+pub none_no_count : (bytes : List ℕ) → NoneBegins IsCount bytes → NoneBegins IsText bytes
+none_no_count bytes none text spelling rest p e = none (length text) p.count (text ++ rest) p.counted (e ∙ behind_count spelling rest text p)
 
 -- a count stands there, and then fewer bytes than it says
 pub none_short : (bytes behind : List ℕ) (n : ℕ) → Takes IsCount bytes behind n → length behind < n → NoneBegins IsText bytes

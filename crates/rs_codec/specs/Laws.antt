@@ -14,6 +14,10 @@ IsSpelled {X} IsX InRange = (x : X) → InRange x → (bytes : List ℕ) × IsX 
 abbrev pub AreBytes : List ℕ → Type 0
 AreBytes bytes = All (λ b. b < 256) bytes
 
+-- A value has no second spelling.
+abbrev pub IsSpelledOnce : {X : Type 0} → (List ℕ → X → Type 0) → Type 0
+IsSpelledOnce {X} IsX = (a b : List ℕ) (x : X) → IsX a x → IsX b x → a ≡ b
+
 -- Each value of these is spelled as the function says.
 abbrev pub IsWrittenBy : {X : Type 0} → (List ℕ → X → Type 0) → (X → Type 0) → (X → List ℕ) → Type 0
 IsWrittenBy {X} IsX InRange x_bytes = (x : X) → InRange x → IsX (x_bytes x) x

@@ -1,8 +1,9 @@
 //! Fields taken from the front of bytes. Where none stands there the bytes stay as they were.
 
-ghost use Rattle.std.specs.Prelude.{◌≡◌, ◌<◌, ◌≤◌, ℕ, ℤ, List, [], ◌∷◌, ◌++◌, length, IfSome, IfNone};
+ghost use Rattle.std.specs.Prelude.{◌≡◌, ◌<◌, ◌≤◌, ℕ, ℤ, List, [], ◌∷◌, ◌++◌, length, Some, None, IfSome, IfNone};
 ghost use Rattle.std.specs.Int.{w32, w64, to_be_bytes};
 ghost use Rattle.rs_codec.specs.Spelling.{count_of, IsGroups, IsCount, IsInt, IsText, Takes, NoneBegins};
+ghost use Rattle.rs_codec.specs.Reader as reader;
 
 use std::marker::Model;
 
@@ -89,6 +90,8 @@ impl<'a> Fields<'a> {
         ensures found { IfSome result (λ byte. self.old ≡ byte ∷ self.new) }
         ensures none { IfNone result (self.old ≡ []) }
         ensures stays { IfNone result (self.new ≡ self.old) }
+        ensures read { IfSome result (λ byte. reader.byte_at self.old ≡ Some (byte, self.new)) }
+        ensures end { IfNone result (reader.byte_at self.old ≡ None) }
     {
         let (byte, rest) = self.left.split_first()?;
         self.left = rest;
@@ -101,6 +104,8 @@ impl<'a> Fields<'a> {
         ensures none { IfNone result ((n : ℕ) (rest : List ℕ) → self.old ≡ to_be_bytes w32 n ++ rest → ⊥) }
         ensures short { IfNone result (length self.old < 4) }
         ensures stays { IfNone result (self.new ≡ self.old) }
+        ensures read { IfSome result (λ n. reader.u32_at self.old ≡ Some (n, self.new)) }
+        ensures end { IfNone result (reader.u32_at self.old ≡ None) }
     {
         let (front, rest) = self.left.split_first_chunk::<4>()?;
         self.left = rest;
@@ -113,6 +118,8 @@ impl<'a> Fields<'a> {
         ensures none { IfNone result ((n : ℕ) (rest : List ℕ) → self.old ≡ to_be_bytes w64 n ++ rest → ⊥) }
         ensures short { IfNone result (length self.old < 8) }
         ensures stays { IfNone result (self.new ≡ self.old) }
+        ensures read { IfSome result (λ n. reader.u64_at self.old ≡ Some (n, self.new)) }
+        ensures end { IfNone result (reader.u64_at self.old ≡ None) }
     {
         let (front, rest) = self.left.split_first_chunk::<8>()?;
         self.left = rest;
@@ -124,6 +131,8 @@ impl<'a> Fields<'a> {
         ensures found { IfSome result (λ n. Takes IsCount self.old self.new n) }
         ensures none { IfNone result (NoneBegins IsCount self.old) }
         ensures stays { IfNone result (self.new ≡ self.old) }
+        ensures read { IfSome result (λ n. reader.count_at self.old ≡ Some (n, self.new)) }
+        ensures end { IfNone result (reader.count_at self.old ≡ None) }
     {
         let (n, rest) = count(self.left)?;
         self.left = rest;
@@ -135,6 +144,8 @@ impl<'a> Fields<'a> {
         ensures found { IfSome result (λ n. Takes IsInt self.old self.new n) }
         ensures none { IfNone result (NoneBegins IsInt self.old) }
         ensures stays { IfNone result (self.new ≡ self.old) }
+        ensures read { IfSome result (λ n. reader.int_at self.old ≡ Some (n, self.new)) }
+        ensures end { IfNone result (reader.int_at self.old ≡ None) }
     {
         let n = self.take_count()?;
         Some(int_of(n))
@@ -145,6 +156,8 @@ impl<'a> Fields<'a> {
         ensures found { IfSome result (λ text. Takes IsText self.old self.new text.now) }
         ensures none { IfNone result (NoneBegins IsText self.old) }
         ensures stays { IfNone result (self.new ≡ self.old) }
+        ensures read { IfSome result (λ text. reader.text_at self.old ≡ Some (text.now, self.new)) }
+        ensures end { IfNone result (reader.text_at self.old ≡ None) }
     {
         let (len, rest) = count(self.left)?;
         if (rest.len() as u64) < len {

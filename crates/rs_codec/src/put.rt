@@ -3,6 +3,7 @@
 ghost use Rattle.std.specs.Prelude.{◌≡◌, ◌≤◌, [], ◌∷◌, ◌++◌, take, OnOk, OnErr};
 ghost use Rattle.std.specs.Int.{w32, w64, to_be_bytes};
 ghost use Rattle.rs_codec.specs.Spelling.{count_of, IsCount, IsInt, IsText, Puts};
+ghost use Rattle.rs_codec.specs.Written.{count_bytes, int_bytes, text_bytes};
 
 use byteorder::{BigEndian, ByteOrder};
 use rs_base::{Bytes, NoMemory};
@@ -60,6 +61,7 @@ fn write_groups(bytes: &mut [u8; LONGEST], n: u64) -> usize
 /// A number in as few bytes as it takes: one for those below 128, and ten at most.
 pub fn put_count(out: &mut Bytes, n: u64) -> Result<(), NoMemory>
     ensures ok { OnOk result (Puts IsCount out.old out.new n) }
+    ensures written { OnOk result (out.new ≡ out.old ++ count_bytes n) }
     ensures err { OnErr result (out.new ≡ out.old) }
 {
     let mut bytes = [0u8; LONGEST];
@@ -81,6 +83,7 @@ fn count_of(n: i64) -> u64
 /// An integer in as few bytes as it takes: one for those from -64 to 63, and ten at most.
 pub fn put_int(out: &mut Bytes, n: i64) -> Result<(), NoMemory>
     ensures ok { OnOk result (Puts IsInt out.old out.new n) }
+    ensures written { OnOk result (out.new ≡ out.old ++ int_bytes n) }
     ensures err { OnErr result (out.new ≡ out.old) }
 {
     put_count(out, count_of(n))
@@ -89,6 +92,7 @@ pub fn put_int(out: &mut Bytes, n: i64) -> Result<(), NoMemory>
 /// The count of a text's bytes, and then these.
 pub fn put_text(alloc: Global, out: &mut Bytes, text: &[u8]) -> Result<(), NoMemory>
     ensures ok { OnOk result (Puts IsText out.old out.new text.now) }
+    ensures written { OnOk result (out.new ≡ out.old ++ text_bytes text.now) }
     ensures err { OnErr result (out.new ≡ out.old) }
 {
     let mut whole = Bytes::new(alloc);

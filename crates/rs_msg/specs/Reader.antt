@@ -60,18 +60,27 @@ reply_at bytes = do
 
 -- ---- messages
 
+abbrev pub as_ask : Ask × List ℕ → Option (Message × List ℕ)
+as_ask ask = Some (messages.Ask ask.0, ask.1)
+
+abbrev pub as_reply : ReplyPart × List ℕ → Option (Message × List ℕ)
+as_reply reply = Some (messages.Reply reply.0, reply.1)
+
 -- the fields of a message of this kind
 abbrev pub fields_at : ℕ → List ℕ → Option (Message × List ℕ)
-fields_at kind bytes =
-    if kind == 1 then ask_at bytes >>= λ ask. Some (messages.Ask ask.0, ask.1)
-    else (if kind == 2 then reply_at bytes >>= λ reply. Some (messages.Reply reply.0, reply.1)
-    else None)
+fields_at kind bytes = if kind == 1 then ask_at bytes >>= as_ask else (if kind == 2 then reply_at bytes >>= as_reply else None)
+
+-- the kind and the fields
+abbrev pub kind_at : List ℕ → Option (Message × List ℕ)
+kind_at bytes = do
+  kind ← byte_at bytes
+  fields_at kind.0 kind.1
 
 -- the mark, the kind and the fields
 unfoldable pub message_at : List ℕ → Option (Message × List ℕ)
 message_at bytes = do
   first ← byte_at bytes
-  if first.0 == mark then byte_at first.1 >>= λ kind. fields_at kind.0 kind.1 else None
+  if first.0 == mark then kind_at first.1 else None
 
 -- and nothing behind them
 abbrev pub alone : Message × List ℕ → Option Message

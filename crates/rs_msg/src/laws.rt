@@ -18,7 +18,7 @@ pub fn one_spelling()
 {}
 
 /// What is read is what is spelled.
-pub fn read_message()
+pub fn read_is_spelled()
     ensures { (bytes : List ℕ) (m : Message) → IsMessage bytes m ↔ (message_of bytes ≡ Some m) }
 {}
 

@@ -3,6 +3,14 @@
 
 mod laws;
 mod message;
+mod put;
+mod read;
+#[cfg(test)]
+mod tests;
 
-pub use message::{Ask, Message, ReplyPart};
-pub use laws::{ask_fits, each_message, one_spelling, read_message, reply_fits, written_is_read};
+pub use laws::{
+    ask_fits, each_message, one_spelling, read_is_spelled, reply_fits, written_is_read,
+};
+pub use message::{ASK_LIMIT, Ask, Message, ReplyPart};
+pub use put::encode;
+pub use read::decode;

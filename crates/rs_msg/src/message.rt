@@ -2,6 +2,9 @@
 
 use rs_base::{Bytes, Ident, Origin};
 
+/// The most bytes of a request's text.
+pub const ASK_LIMIT: usize = 8192;
+
 /// A part of a request, from a client to the site that is asked.
 #[derive(Debug, Drop)]
 pub struct Ask {
@@ -13,7 +16,7 @@ pub struct Ask {
     pub number: u64,
     /// Which part of the reply is asked for.
     pub part: u32,
-    /// The text of the request; at most 8,192 bytes have a spelling.
+    /// The text of the request, of at most `ASK_LIMIT` bytes. A longer one has no spelling.
     pub text: Bytes,
 }
 
@@ -30,7 +33,7 @@ pub struct ReplyPart {
     pub bytes: Bytes,
 }
 
-/// What one datagram says.
+/// What one datagram says: kind 1 is a request's part, kind 2 a reply's.
 #[derive(Debug, Drop)]
 pub enum Message {
     Ask(Ask),

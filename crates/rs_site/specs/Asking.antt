@@ -13,7 +13,7 @@ use Rattle.rs_mean.specs.Meaning.{Outcome, meaning}
 use Rattle.rs_msg.specs.declared.message.Ask.{Ask}
 use Rattle.rs_site.specs.declared.session.Session.{Session}
 use Rattle.rs_site.specs.declared.outs.Outs.{Outs}
-use Rattle.rs_site.specs.Sessions.{with_session, may_go_on}
+use Rattle.rs_site.specs.Sessions.{session_of, with_session, may_go_on}
 use Rattle.rs_site.specs.State.{SiteState, next_txn}
 
 -- ---- what comes out of a step
@@ -68,9 +68,12 @@ executed site from origin text stmt =
 abbrev pub last_number : ℕ
 last_number = 18446744073709551615
 
+abbrev pub no_request : SiteState → Peer → Origin → SiteState × Outs
+no_request site from origin = (remembering site origin (replies.Syntax 0), tells from origin 0 (replies.Syntax 0))
+
 -- A text that is no request is told so. A statement for which the epoch has no transaction left is dropped.
 abbrev pub taken_as : SiteState → Peer → Origin → List ℕ → Option Stmt → SiteState × Outs
-taken_as site from origin text None = (remembering site origin (replies.Syntax 0), tells from origin 0 (replies.Syntax 0))
+taken_as site from origin text None = no_request site from origin
 taken_as site from origin text (Some stmt) = if site.begun == last_number then quiet site else executed site from origin text stmt
 
 abbrev pub taken : SiteState → Peer → Origin → List ℕ → SiteState × Outs
@@ -93,14 +96,14 @@ by_number site from origin text session =
 -- the first part of a reply is asked for
 abbrev pub on_first : SiteState → Peer → Origin → List ℕ → SiteState × Outs
 on_first site from origin text =
-    if origin.epoch == site.epoch then by_number site from origin text (site.sessions origin.user)
+    if origin.epoch == site.epoch then by_number site from origin text (session_of origin.user site.sessions)
     else refused site from origin (replies.OldEpoch site.epoch)
 
 -- A further part is asked for: of the reply to the user's last request in this epoch.
 abbrev pub on_further : SiteState → Peer → Origin → ℕ → SiteState × Outs
 on_further site from origin part =
-    if origin.epoch == site.epoch && origin.number == (site.sessions origin.user).last
-    then again site from origin part (site.sessions origin.user).reply
+    if origin.epoch == site.epoch && origin.number == (session_of origin.user site.sessions).last
+    then again site from origin part (session_of origin.user site.sessions).reply
     else quiet site
 
 abbrev pub origin_of : SiteState → Ask → Origin

@@ -6,15 +6,16 @@ use Rattle.rs_msg.specs.declared.message.Message.{Message}
 use Rattle.rs_msg.specs.declared.message.Message.TheVariants as messages
 use Rattle.rs_msg.specs.Message.{IsMessage}
 use Rattle.rs_site.specs.Asking.{has_part, origin_of}
+use Rattle.rs_site.specs.Sessions.{session_of}
 use Rattle.rs_site.specs.State.{SiteState}
 use Rattle.rs_site.specs.Step.{most_bytes}
 
 -- a further part that the site has: of the reply that it keeps for the user's last request in its epoch
 pub record HasFurther (site : SiteState) (ask : Ask) : Type 0 where
   pub epoch : ask.epoch ≡ site.epoch
-  pub number : ask.number ≡ (site.sessions ask.user).last
+  pub number : ask.number ≡ (session_of ask.user site.sessions).last
   pub reply : Reply
-  pub kept : (site.sessions ask.user).reply ≡ Some reply
+  pub kept : (session_of ask.user site.sessions).reply ≡ Some reply
   pub part : IsTrue (has_part (origin_of site ask) reply ask.part)
 
 -- No rule is for the message: a reply, or an ask of a further part that the site doesn't have.

@@ -1,22 +1,44 @@
 -- What a site keeps of its users.
-use Rattle.std.specs.Prelude.{ℕ, Bool, true, false, ◌||◌, ◌==◌, bytes_eq, List, Option, Some, None, if◌then◌else◌}
+use Rattle.std.specs.Prelude.{ℕ, Bool, true, false, ◌||◌, ◌==◌, List, [], Option, Some, None}
+use Rattle.std.specs.BTreeMap.{insert_entry, is_at}
+use Rattle.std.specs.Cmp.Lexicographic.{slice_cmp}
+use Rattle.std.specs.List.Sorted.{IsStrictlySortedBy}
+use Rattle.std.specs.Map.{keys_of, lookup}
+use Rattle.std.specs.Ordering.{nat_cmp}
 use Rattle.rs_base.specs.declared.reply.Reply.{Reply}
 use Rattle.rs_site.specs.declared.session.Session.{Session}
+
+-- the sessions of the users who were taken, in order of their names
+abbrev pub Book : Type 0
+Book = List (List ℕ × Session)
+
+-- no user was ever taken
+abbrev pub all_fresh : Book
+all_fresh = []
 
 -- of a user who was never taken
 abbrev pub fresh : Session
 fresh = record { last = 0; reply = None }
 
--- a session for each user
-abbrev pub Book : Type 0
-Book = List ℕ → Session
+abbrev pub or_fresh : Option Session → Session
+or_fresh None = fresh
+or_fresh (Some session) = session
 
-abbrev pub all_fresh : Book
-all_fresh user = fresh
+-- the session of this user that is kept, if there is one
+abbrev pub kept_of : List ℕ → Book → Option Session
+kept_of user book = lookup (is_at (slice_cmp nat_cmp user)) book
+
+-- the session of this user: a fresh one where none is kept
+abbrev pub session_of : List ℕ → Book → Session
+session_of user book = or_fresh (kept_of user book)
 
 -- the book with this session for this user, and all others as they were
 abbrev pub with_session : List ℕ → Session → Book → Book
-with_session user session book = λ other. if bytes_eq other user then session else book other
+with_session user session book = insert_entry (slice_cmp nat_cmp) book user session
+
+-- each user stands once, and the names rise
+abbrev pub IsInOrder : Book → Type 0
+IsInOrder book = IsStrictlySortedBy (slice_cmp nat_cmp) (keys_of book)
 
 abbrev pub is_there : Option Reply → Bool
 is_there None = false

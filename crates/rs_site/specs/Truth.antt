@@ -4,7 +4,7 @@ use Rattle.rs_base.specs.declared.txn.Origin.{Origin}
 use Rattle.rs_base.specs.declared.reply.Reply.{Reply}
 use Rattle.rs_base.specs.declared.reply.Reply.TheVariants as replies
 use Rattle.rs_site.specs.declared.session.Session.{Session}
-use Rattle.rs_site.specs.Sessions.{may_go_on}
+use Rattle.rs_site.specs.Sessions.{session_of, may_go_on}
 use Rattle.rs_site.specs.State.{SiteState}
 
 -- the number is above the next one, or is the next one while the last request has no reply
@@ -19,5 +19,5 @@ IsTrueReply site origin (replies.Failed reason) = ⊥
 IsTrueReply site origin (replies.Shown lines) = ⊥
 IsTrueReply site origin (replies.Syntax place) = Unit {0}
 IsTrueReply site origin (replies.OldEpoch epoch) = (epoch ≡ site.epoch) × (origin.epoch ≢ site.epoch)
-IsTrueReply site origin (replies.OldRequest last) = (origin.epoch ≡ site.epoch) × (last ≡ (site.sessions origin.user).last) × (origin.number < last)
-IsTrueReply site origin (replies.Gap last) = (origin.epoch ≡ site.epoch) × (last ≡ (site.sessions origin.user).last) × IsAhead (site.sessions origin.user) origin.number
+IsTrueReply site origin (replies.OldRequest last) = (origin.epoch ≡ site.epoch) × (last ≡ (session_of origin.user site.sessions).last) × (origin.number < last)
+IsTrueReply site origin (replies.Gap last) = (origin.epoch ≡ site.epoch) × (last ≡ (session_of origin.user site.sessions).last) × IsAhead (session_of origin.user site.sessions) origin.number

@@ -1,7 +1,11 @@
 //! What comes out of a step of a site.
 
-use rs_base::{Bytes, Datagrams, Origin, Peer, Reply, Txn};
+ghost use Rattle.std.specs.Prelude.{◌≡◌, [], ◌∷◌, IfOk};
+ghost use Rattle.rs_site.specs.Asking as spec;
+
+use rs_base::{Bytes, Datagrams, NoMemory, Origin, Peer, Reply, Txn};
 use sqlite_items::Items;
+use std::alloc::Global;
 
 /// A part of a printed reply that goes to a peer: which request is answered, which part goes, counted from 0, and the
 /// reply.
@@ -31,4 +35,50 @@ pub struct Outs {
     pub sends: Datagrams,
     pub replies: Tolds,
     pub decided: Decideds,
+}
+
+/// Nothing comes out.
+pub(crate) fn nothing(alloc: Global) -> Outs
+    ensures { result ≡ spec.nothing }
+{
+    Outs {
+        sends: Items::new(alloc),
+        replies: Items::new(alloc),
+        decided: Items::new(alloc),
+    }
+}
+
+/// A part of a reply goes to a peer.
+pub(crate) fn tells(
+    alloc: Global,
+    to: &Peer,
+    origin: &Origin,
+    part: u32,
+    reply: Reply,
+) -> Result<Outs, NoMemory>
+    ensures { IfOk result (λ outs. outs ≡ spec.tells to.now origin.now part reply) }
+{
+    let mut outs = nothing(alloc);
+    outs.replies.push(Told {
+        to: *to,
+        origin: *origin,
+        part,
+        reply,
+    })?;
+    Ok(outs)
+}
+
+/// The first part of a reply goes to a peer, and an execution is committed.
+pub(crate) fn commits(
+    alloc: Global,
+    to: &Peer,
+    origin: &Origin,
+    reply: Reply,
+    decided: Decided,
+) -> Result<Outs, NoMemory>
+    ensures { IfOk result (λ outs. outs ≡ record (spec.tells to.now origin.now 0 reply) { decided = decided ∷ [] }) }
+{
+    let mut outs = tells(alloc, to, origin, 0, reply)?;
+    outs.decided.push(decided)?;
+    Ok(outs)
 }

@@ -1,19 +1,79 @@
 //! One step of a site.
 
-ghost use Rattle.std.specs.Prelude.{◌≡◌, IfOk, OnErr};
-ghost use Rattle.rs_site.specs.Asking.{nothing};
+ghost use Rattle.std.specs.Prelude.{◌≡◌, ℕ, List, IfOk, OnErr};
+ghost use Rattle.rs_base.specs.declared.peer.Peer.{Peer};
+ghost use Rattle.rs_site.specs.Asking as asking;
 ghost use Rattle.rs_site.specs.Dropped.{IsDropped};
-ghost use Rattle.rs_site.specs.Step.{site_step};
+ghost use Rattle.rs_site.specs.Step as spec;
 ghost use Rattle.rs_site.specs.declared.input.Input.TheVariants as inputs;
 
+use crate::input::Input;
+use crate::outs::{Outs, nothing};
+use crate::site::Site;
+use rs_base::{NoMemory, Peer, ReadFault};
+use rs_msg::{Message, decode};
+use std::alloc::Global;
+
+/// How many bytes a datagram has at most.
+const MOST_BYTES: usize = 32_768;
+
 impl Site {
+    /// A message comes from a peer.
+    fn on_message(
+        &mut self,
+        alloc: Global,
+        from: &Peer,
+        message: Message,
+    ) -> Result<Outs, NoMemory>
+        ensures ok { IfOk result (λ outs. spec.on_message self.old from.now message ≡ (self.new, outs)) }
+        ensures err { OnErr result (self.new ≡ self.old) }
+    {
+        match message {
+            Message::Ask(ask) => self.on_ask(alloc, from, ask),
+            Message::Reply(_) => Ok(nothing(alloc)),
+        }
+    }
+
+    /// A datagram comes from a peer.
+    fn on_datagram(
+        &mut self,
+        alloc: Global,
+        from: &Peer,
+        bytes: &[u8],
+    ) -> Result<Outs, NoMemory>
+        ensures ok { IfOk result (λ outs. spec.on_datagram self.old from.now bytes.now ≡ (self.new, outs)) }
+        ensures err { OnErr result (self.new ≡ self.old) }
+    {
+        if MOST_BYTES < bytes.len() {
+            return Ok(nothing(alloc));
+        }
+        match decode(alloc, bytes) {
+            Ok(message) => self.on_message(alloc, from, message),
+            Err(ReadFault::Malformed) => Ok(nothing(alloc)),
+            Err(ReadFault::NoMemory) => Err(NoMemory),
+        }
+    }
+
+    #[tactic(auto, unfolding(crate::specs::Step::site_step))]
+    /// The step by its definition.
+    fn on_input(&mut self, alloc: Global, input: &Input) -> Result<Outs, NoMemory>
+        ensures ok { IfOk result (λ outs. spec.site_step self.old input.now ≡ (self.new, outs)) }
+        ensures err { OnErr result (self.new ≡ self.old) }
+    {
+        match input {
+            Input::Datagram(from, bytes) => self.on_datagram(alloc, from, bytes.as_slice()),
+            Input::Tick => Ok(nothing(alloc)),
+        }
+    }
+
     /// Takes one input. It gives what is sent, what is replied, and what was committed. A datagram of more than 32,768
     /// bytes, one that is no message, and one that no rule is for change nothing, and nothing is sent. Where memory is
     /// wanting, the site stays as it was.
     pub fn step(&mut self, alloc: Global, input: &Input) -> Result<Outs, NoMemory>
-        ensures ok { IfOk result (λ outs. site_step self.old input.now ≡ (self.new, outs)) }
-        ensures dropped { (from : Peer) (bytes : List ℕ) → input.now ≡ inputs.Datagram from bytes → IsDropped self.old bytes → IfOk result (λ outs. (self.new ≡ self.old) × (outs ≡ nothing)) }
+        ensures ok { IfOk result (λ outs. spec.site_step self.old input.now ≡ (self.new, outs)) }
+        ensures dropped { (from : Peer) (bytes : List ℕ) → input.now ≡ inputs.Datagram from bytes → IsDropped self.old bytes → IfOk result (λ outs. (self.new ≡ self.old) × (outs ≡ asking.nothing)) }
         ensures err { OnErr result (self.new ≡ self.old) }
     {
+        self.on_input(alloc, input)
     }
 }

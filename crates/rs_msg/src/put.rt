@@ -1,0 +1,91 @@
+//! The bytes of a message.
+
+ghost use Rattle.std.specs.Prelude.{◌≡◌, ◌≤◌, [], ◌∷◌, ◌++◌, length, OnOk, OnErr};
+ghost use Rattle.rs_msg.specs.Limits.{ask_limit, HasRoom, IsAskWithin, IsOriginWithin, IsReplyWithin, IsWithin};
+ghost use Rattle.rs_msg.specs.Message.{IsMessage};
+ghost use Rattle.rs_msg.specs.Written as written;
+
+use crate::message::{Ask, Message, ReplyPart};
+use rs_base::{Bytes, NoMemory, Origin};
+use rs_codec::{put_byte, put_text, put_u32, put_u64};
+use std::alloc::Global;
+
+/// What each message begins with.
+pub const MARK: u8 = 0x52;
+
+/// The kind of a request.
+pub const ASK: u8 = 1;
+
+/// The kind of a reply.
+pub const REPLY: u8 = 2;
+
+#[tactic(auto, unfolding(crate::specs::Written::ask_bytes))]
+fn put_ask(alloc: Global, out: &mut Bytes, ask: &Ask) -> Result<(), NoMemory>
+    requires { length ask.now.text ≤ ask_limit }
+    ensures ok { OnOk result (out.new ≡ out.old ++ written.ask_bytes ask.now) }
+    ensures within { OnOk result (IsAskWithin ask.now) }
+{
+    put_text(alloc, out, ask.user.as_bytes())?;
+    put_u32(out, ask.epoch)?;
+    put_u64(out, ask.number)?;
+    put_u32(out, ask.part)?;
+    put_text(alloc, out, ask.text.as_slice())
+}
+
+#[tactic(auto, unfolding(crate::specs::Written::origin_bytes))]
+fn put_origin(alloc: Global, out: &mut Bytes, origin: &Origin) -> Result<(), NoMemory>
+    ensures ok { OnOk result (out.new ≡ out.old ++ written.origin_bytes origin.now) }
+    ensures within { OnOk result (IsOriginWithin origin.now) }
+{
+    put_byte(out, origin.site.number() as u8)?;
+    put_text(alloc, out, origin.user.as_bytes())?;
+    put_u32(out, origin.epoch)?;
+    put_u64(out, origin.number)
+}
+
+#[tactic(auto, unfolding(crate::specs::Written::reply_bytes))]
+fn put_reply(alloc: Global, out: &mut Bytes, reply: &ReplyPart) -> Result<(), NoMemory>
+    ensures ok { OnOk result (out.new ≡ out.old ++ written.reply_bytes reply.now) }
+    ensures within { OnOk result (IsReplyWithin reply.now) }
+{
+    put_origin(alloc, out, &reply.origin)?;
+    put_u32(out, reply.part)?;
+    put_u32(out, reply.parts)?;
+    put_text(alloc, out, reply.bytes.as_slice())
+}
+
+fn put_kind(out: &mut Bytes, kind: u8) -> Result<(), NoMemory>
+    ensures { OnOk result (out.new ≡ out.old ++ 82 ∷ kind ∷ []) }
+{
+    put_byte(out, MARK)?;
+    put_byte(out, kind)
+}
+
+fn put_message(alloc: Global, out: &mut Bytes, message: &Message) -> Result<(), NoMemory>
+    requires { HasRoom message.now }
+    ensures ok { OnOk result (out.new ≡ out.old ++ written.message_bytes message.now) }
+    ensures within { OnOk result (IsWithin message.now) }
+{
+    match message {
+        Message::Ask(ask) => {
+            put_kind(out, ASK)?;
+            put_ask(alloc, out, ask)
+        }
+        Message::Reply(reply) => {
+            put_kind(out, REPLY)?;
+            put_reply(alloc, out, reply)
+        }
+    }
+}
+
+/// Puts the spelling of a message at the end of `out`. Where memory is wanting `out` stays as it was.
+pub fn encode(alloc: Global, message: &Message, out: &mut Bytes) -> Result<(), NoMemory>
+    requires fits { HasRoom message.now }
+    ensures ok { OnOk result (out.new ≡ out.old ++ written.message_bytes message.now) }
+    ensures spelled { OnOk result (IsMessage (written.message_bytes message.now) message.now) }
+    ensures err { OnErr result (out.new ≡ out.old) }
+{
+    let mut whole = Bytes::new(alloc);
+    put_message(alloc, &mut whole, message)?;
+    out.extend(whole.as_slice())
+}

@@ -1,0 +1,58 @@
+-- What holds of every step of a site, whatever its state.
+use Rattle.std.specs.Prelude.{◌≡◌, ℕ, ◌+◌, ◌≤◌, List, [], ◌∷◌, length, Some, ◌⊎◌}
+use Rattle.rs_ast.specs.declared.stmt.Stmt.{Stmt}
+use Rattle.rs_base.specs.declared.peer.Peer.{Peer}
+use Rattle.rs_base.specs.declared.reply.Reply.{Reply}
+use Rattle.rs_mean.specs.Meaning.{meaning}
+use Rattle.rs_msg.specs.declared.message.Ask.{Ask}
+use Rattle.rs_msg.specs.declared.message.Message.TheVariants as messages
+use Rattle.rs_msg.specs.Message.{IsMessage}
+use Rattle.rs_parse.specs.Parsing.{statement_of}
+use Rattle.rs_site.specs.declared.input.Input.{Input}
+use Rattle.rs_site.specs.declared.input.Input.TheVariants as inputs
+use Rattle.rs_site.specs.declared.outs.Decided.{Decided}
+use Rattle.rs_site.specs.declared.outs.Outs.{Outs}
+use Rattle.rs_site.specs.Asking.{execution_of, origin_of, tells}
+use Rattle.rs_site.specs.Sessions.{session_of}
+use Rattle.rs_site.specs.State.{SiteState, next_txn}
+use Rattle.rs_site.specs.Step.{most_bytes, site_step}
+
+-- the site after a step, and what comes out of it
+abbrev pub after : SiteState → Input → SiteState
+after site input = (site_step site input).0
+
+abbrev pub outs_of : SiteState → Input → Outs
+outs_of site input = (site_step site input).1
+
+-- the number of the user's last request that was taken
+abbrev pub last_of : List ℕ → SiteState → ℕ
+last_of user site = (session_of user site.sessions).last
+
+-- each user's last number, and the count of transactions, never fall
+abbrev pub NumbersRise : Type 0
+NumbersRise = (site : SiteState) (input : Input) → ((user : List ℕ) → last_of user site ≤ last_of user (after site input)) × (site.begun ≤ (after site input).begun)
+
+-- an ask whose number isn't above the user's last changes nothing, and nothing is committed
+abbrev pub RepeatsRunNothing : Type 0
+RepeatsRunNothing = (site : SiteState) (from : Peer) (bytes : List ℕ) (ask : Ask) → IsMessage bytes (messages.Ask ask) → ask.number ≤ last_of ask.user site
+    → (after site (inputs.Datagram from bytes) ≡ site) × ((outs_of site (inputs.Datagram from bytes)).decided ≡ [])
+
+-- an ask of the user's last request, in the site's epoch, is told the reply that is kept, and changes nothing
+abbrev pub KeptIsToldAgain : Type 0
+KeptIsToldAgain = (site : SiteState) (from : Peer) (bytes : List ℕ) (ask : Ask) (reply : Reply) → IsMessage bytes (messages.Ask ask) → length bytes ≤ most_bytes
+    → ask.part ≡ 0 → ask.epoch ≡ site.epoch → ask.number ≡ last_of ask.user site → (session_of ask.user site.sessions).reply ≡ Some reply
+    → site_step site (inputs.Datagram from bytes) ≡ (site, tells from (origin_of site ask) 0 reply)
+
+-- The entry is of the site's next transaction, and the site's database is the meaning of its statement.
+pub record IsNextCommit (site : SiteState) (entry : Decided) (new : SiteState) : Type 0 where
+  pub txn : entry.txn ≡ next_txn site
+  pub begun : new.begun ≡ site.begun + 1
+  pub stmt : Stmt
+  pub spelled : statement_of entry.text ≡ Some stmt
+  pub database : new.database ≡ (meaning site.database (execution_of entry.txn entry.origin stmt)).0
+
+-- a step commits nothing, and leaves the database as it was, or it commits one entry
+abbrev pub CommitsAreMeaning : Type 0
+CommitsAreMeaning = (site : SiteState) (input : Input)
+    → (((outs_of site input).decided ≡ []) × ((after site input).database ≡ site.database))
+    ⊎ ((entry : Decided) × ((outs_of site input).decided ≡ entry ∷ []) × IsNextCommit site entry (after site input))

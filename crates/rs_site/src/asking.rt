@@ -1,0 +1,111 @@
+//! What a site does with an ask.
+
+ghost use Rattle.std.specs.Prelude.{◌≡◌, ◌+◌, ◌<◌, ◌&&◌, ◌==◌, IfOk, OnErr};
+ghost use Rattle.rs_site.specs.Asking as spec;
+ghost use Rattle.rs_site.specs.Sessions.{session_of, may_go_on};
+
+use crate::outs::{Outs, nothing, tells};
+use crate::site::Site;
+use rs_base::{Bytes, NoMemory, Origin, Peer, Reply};
+use rs_msg::Ask;
+use std::alloc::Global;
+
+impl Site {
+    /// Whether the request is the user's next, and the last is answered.
+    fn is_next(&self, origin: &Origin) -> bool
+        requires { (session_of origin.now.user self.now.sessions).last < origin.now.number }
+        ensures { result ≡ (origin.now.number == (session_of origin.now.user self.now.sessions).last + 1 && may_go_on (session_of origin.now.user self.now.sessions)) }
+    {
+        origin.number == self.sessions.last(&origin.user) + 1
+            && self.sessions.may_go_on(&origin.user)
+    }
+
+    /// The first part is asked for of a request in the site's epoch.
+    fn by_number(
+        &mut self,
+        alloc: Global,
+        from: &Peer,
+        origin: &Origin,
+        text: Bytes,
+    ) -> Result<Outs, NoMemory>
+        ensures ok { IfOk result (λ outs. spec.by_number self.old from.now origin.now text (session_of origin.now.user self.old.sessions) ≡ (self.new, outs)) }
+        ensures err { OnErr result (self.new ≡ self.old) }
+    {
+        let last = self.sessions.last(&origin.user);
+        if origin.number < last {
+            return tells(alloc, from, origin, 0, Reply::OldRequest(last));
+        }
+        if origin.number == last {
+            return self.again(alloc, from, origin, 0);
+        }
+        if self.is_next(origin) {
+            return self.take(alloc, from, origin, text);
+        }
+        tells(alloc, from, origin, 0, Reply::Gap(last))
+    }
+
+    /// The first part is asked for.
+    fn on_first(
+        &mut self,
+        alloc: Global,
+        from: &Peer,
+        origin: &Origin,
+        text: Bytes,
+    ) -> Result<Outs, NoMemory>
+        ensures ok { IfOk result (λ outs. spec.on_first self.old from.now origin.now text ≡ (self.new, outs)) }
+        ensures err { OnErr result (self.new ≡ self.old) }
+    {
+        if origin.epoch == self.epoch {
+            self.by_number(alloc, from, origin, text)
+        } else {
+            tells(alloc, from, origin, 0, Reply::OldEpoch(self.epoch))
+        }
+    }
+
+    /// A further part is asked for.
+    fn on_further(
+        &self,
+        alloc: Global,
+        from: &Peer,
+        origin: &Origin,
+        part: u32,
+    ) -> Result<Outs, NoMemory>
+        ensures { IfOk result (λ outs. spec.on_further self.now from.now origin.now part ≡ (self.now, outs)) }
+    {
+        if origin.epoch == self.epoch && origin.number == self.sessions.last(&origin.user) {
+            self.again(alloc, from, origin, part)
+        } else {
+            Ok(nothing(alloc))
+        }
+    }
+
+    /// An ask comes from a peer.
+    pub(crate) fn on_ask(
+        &mut self,
+        alloc: Global,
+        from: &Peer,
+        ask: Ask,
+    ) -> Result<Outs, NoMemory>
+        ensures ok { IfOk result (λ outs. spec.on_ask self.old from.now ask ≡ (self.new, outs)) }
+        ensures err { OnErr result (self.new ≡ self.old) }
+    {
+        let Ask {
+            user,
+            epoch,
+            number,
+            part,
+            text,
+        } = ask;
+        let origin = Origin {
+            site: self.me,
+            user,
+            epoch,
+            number,
+        };
+        if part == 0 {
+            self.on_first(alloc, from, &origin, text)
+        } else {
+            self.on_further(alloc, from, &origin, part)
+        }
+    }
+}

@@ -1,0 +1,58 @@
+//! The parts of a reply.
+
+ghost use Rattle.std.specs.Prelude.{◌≡◌, IfOk};
+ghost use Rattle.rs_site.specs.Asking as spec;
+ghost use Rattle.rs_site.specs.Sessions.{session_of};
+
+use crate::outs::{Outs, nothing, tells};
+use crate::site::Site;
+use rs_base::{Bytes, NoMemory, Origin, Peer, Reply, print_reply};
+use std::alloc::Global;
+
+/// How many bytes a part of a reply has, but for the last.
+const PART_SIZE: u64 = 30_000;
+
+/// Whether the printed reply has this part, by printing it.
+fn printed_has_part(
+    alloc: Global,
+    origin: &Origin,
+    reply: &Reply,
+    part: u32,
+) -> Result<bool, NoMemory>
+    ensures { IfOk result (λ has. has ≡ spec.has_part origin.now reply.now part) }
+{
+    let mut text = Bytes::new(alloc);
+    print_reply(alloc, origin, reply, &mut text)?;
+    Ok(u64::from(part) * PART_SIZE < text.len() as u64)
+}
+
+/// Whether the printed reply has this part, counted from 0. The first is always there.
+fn has_part(alloc: Global, origin: &Origin, reply: &Reply, part: u32) -> Result<bool, NoMemory>
+    ensures { IfOk result (λ has. has ≡ spec.has_part origin.now reply.now part) }
+{
+    if part == 0 {
+        return Ok(true);
+    }
+    printed_has_part(alloc, origin, reply, part)
+}
+
+impl Site {
+    /// Tells the reply that is kept for the user's last request again, if there is one, and it has this part.
+    pub(crate) fn again(
+        &self,
+        alloc: Global,
+        from: &Peer,
+        origin: &Origin,
+        part: u32,
+    ) -> Result<Outs, NoMemory>
+        ensures { IfOk result (λ outs. spec.again self.now from.now origin.now part (session_of origin.now.user self.now.sessions).reply ≡ (self.now, outs)) }
+    {
+        let Some(reply) = self.sessions.reply(&origin.user) else {
+            return Ok(nothing(alloc));
+        };
+        if !has_part(alloc, origin, reply, part)? {
+            return Ok(nothing(alloc));
+        }
+        tells(alloc, from, origin, part, reply.copy(alloc)?)
+    }
+}

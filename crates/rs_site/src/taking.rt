@@ -1,0 +1,166 @@
+//! An ask that is taken.
+
+ghost use Rattle.std.specs.Prelude.{◌≡◌, ◌+◌, ◌<◌, IfOk, OnOk, OnErr, Some};
+ghost use Rattle.rs_mean.specs.Meaning.{meaning};
+ghost use Rattle.rs_site.specs.Asking as spec;
+ghost use Rattle.rs_site.specs.State.{next_txn};
+
+use crate::outs::{Decided, Outs, commits, nothing, tells};
+use crate::session::Session;
+use crate::site::Site;
+use rs_ast::Stmt;
+use rs_base::{Bytes, NoMemory, Origin, Peer, Reply, Txn};
+use rs_mean::{Execution, Outcome};
+use rs_parse::{ParseFault, parse};
+use std::alloc::Global;
+
+/// The reply that reports an outcome.
+fn reply_of(outcome: Outcome) -> Reply
+    ensures { result ≡ spec.reply_of outcome }
+{
+    match outcome {
+        Ok(answers) => Reply::Done(answers),
+        Err(cause) => Reply::Denied(cause),
+    }
+}
+
+impl Site {
+    /// The next transaction, while the epoch has one left.
+    fn next_txn(&self) -> Txn
+        requires { self.now.begun < spec.last_number }
+        ensures { result ≡ next_txn self.now }
+    {
+        Txn {
+            site: self.me,
+            epoch: self.epoch,
+            number: self.begun + 1,
+        }
+    }
+
+    /// What an execution would be replied.
+    fn reply_to(&self, alloc: Global, execution: &Execution) -> Result<Reply, NoMemory>
+        ensures { IfOk result (λ reply. reply ≡ spec.reply_of (meaning self.now.database execution.now).1) }
+    {
+        Ok(reply_of(self.database.outcome_of(alloc, execution)?))
+    }
+
+    /// Remembers that the request was taken, and its reply.
+    fn remember(&mut self, origin: &Origin, reply: Reply) -> Result<(), NoMemory>
+        ensures ok { OnOk result (self.new ≡ spec.remembering self.old origin.now reply) }
+        ensures err { OnErr result (self.new ≡ self.old) }
+    {
+        let session = Session {
+            last: origin.number,
+            reply: Some(reply),
+        };
+        self.sessions.put(&origin.user, session)?;
+        Ok(())
+    }
+
+    /// Executes as the next transaction, and remembers that the request was taken, and its reply.
+    fn commit(
+        &mut self,
+        alloc: Global,
+        execution: Execution,
+        origin: &Origin,
+        reply: Reply,
+    ) -> Result<(), NoMemory>
+        requires { self.old.begun < spec.last_number }
+        ensures ok { OnOk result (self.new ≡ record (spec.remembering self.old origin.now reply) { begun = self.old.begun + 1; database = (meaning self.old.database execution).0 }) }
+        ensures err { OnErr result (self.new ≡ self.old) }
+    {
+        let session = Session {
+            last: origin.number,
+            reply: Some(reply),
+        };
+        let before = self.sessions.put(&origin.user, session)?;
+        if let Err(fault) = self.database.apply(alloc, execution) {
+            self.sessions.put_back(&origin.user, before);
+            return Err(fault);
+        }
+        self.begun += 1;
+        Ok(())
+    }
+
+    /// Executes the statement as the next transaction, and tells its outcome.
+    fn execute(
+        &mut self,
+        alloc: Global,
+        from: &Peer,
+        origin: &Origin,
+        text: Bytes,
+        stmt: Stmt,
+    ) -> Result<Outs, NoMemory>
+        requires { self.old.begun < spec.last_number }
+        ensures ok { IfOk result (λ outs. spec.executed self.old from.now origin.now text stmt ≡ (self.new, outs)) }
+        ensures err { OnErr result (self.new ≡ self.old) }
+    {
+        let execution = Execution {
+            txn: self.next_txn(),
+            user: origin.user,
+            site: origin.site,
+            stmt,
+        };
+        let reply = self.reply_to(alloc, &execution)?;
+        let kept = reply.copy(alloc)?;
+        let decided = Decided {
+            txn: self.next_txn(),
+            origin: *origin,
+            text,
+        };
+        let outs = commits(alloc, from, origin, reply, decided)?;
+        self.commit(alloc, execution, origin, kept)?;
+        Ok(outs)
+    }
+
+    /// Takes a statement. It is dropped where the epoch has no transaction left.
+    fn take_statement(
+        &mut self,
+        alloc: Global,
+        from: &Peer,
+        origin: &Origin,
+        text: Bytes,
+        stmt: Stmt,
+    ) -> Result<Outs, NoMemory>
+        ensures ok { IfOk result (λ outs. spec.taken_as self.old from.now origin.now text (Some stmt) ≡ (self.new, outs)) }
+        ensures err { OnErr result (self.new ≡ self.old) }
+    {
+        if self.begun == u64::MAX {
+            return Ok(nothing(alloc));
+        }
+        self.execute(alloc, from, origin, text, stmt)
+    }
+
+    /// Takes a text that is no request.
+    fn take_no_request(
+        &mut self,
+        alloc: Global,
+        from: &Peer,
+        origin: &Origin,
+    ) -> Result<Outs, NoMemory>
+        ensures ok { IfOk result (λ outs. spec.no_request self.old from.now origin.now ≡ (self.new, outs)) }
+        ensures err { OnErr result (self.new ≡ self.old) }
+    {
+        let outs = tells(alloc, from, origin, 0, Reply::Syntax(0))?;
+        self.remember(origin, Reply::Syntax(0))?;
+        Ok(outs)
+    }
+
+    /// Takes the user's next request.
+    pub(crate) fn take(
+        &mut self,
+        alloc: Global,
+        from: &Peer,
+        origin: &Origin,
+        text: Bytes,
+    ) -> Result<Outs, NoMemory>
+        ensures ok { IfOk result (λ outs. spec.taken self.old from.now origin.now text ≡ (self.new, outs)) }
+        ensures err { OnErr result (self.new ≡ self.old) }
+    {
+        match parse(alloc, text.as_slice()) {
+            Ok(stmt) => self.take_statement(alloc, from, origin, text, stmt),
+            Err(ParseFault::Syntax { .. }) => self.take_no_request(alloc, from, origin),
+            Err(ParseFault::NoMemory) => Err(NoMemory),
+        }
+    }
+}
