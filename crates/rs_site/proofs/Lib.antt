@@ -1,2 +1,4 @@
 pub mod Books
+pub mod Lawful
 pub mod Quiet
+pub mod Sorts

@@ -1,5 +1,5 @@
 -- Datagrams that a site drops: they change nothing, and nothing is sent.
-use Rattle.std.specs.Prelude.{◌≡◌, ℕ, ◌<◌, List, length, Some, None, IsTrue, ◌⊎◌}
+use Rattle.std.specs.Prelude.{◌≡◌, ℕ, ◌<◌, List, length, Some, IsTrue, ◌⊎◌}
 use Rattle.rs_base.specs.declared.reply.Reply.{Reply}
 use Rattle.rs_msg.specs.declared.message.Ask.{Ask}
 use Rattle.rs_msg.specs.declared.message.Message.{Message}

@@ -1,5 +1,5 @@
 -- What holds of every step of a site, whatever its state.
-use Rattle.std.specs.Prelude.{◌≡◌, ℕ, ◌+◌, ◌≤◌, List, [], ◌∷◌, length, Some, ◌⊎◌}
+use Rattle.std.specs.Prelude.{◌≡◌, ℕ, ◌+◌, ◌≤◌, List, [], ◌∷◌, Some, ◌⊎◌}
 use Rattle.rs_ast.specs.declared.stmt.Stmt.{Stmt}
 use Rattle.rs_base.specs.declared.peer.Peer.{Peer}
 use Rattle.rs_base.specs.declared.reply.Reply.{Reply}
@@ -15,7 +15,7 @@ use Rattle.rs_site.specs.declared.outs.Outs.{Outs}
 use Rattle.rs_site.specs.Asking.{execution_of, origin_of, tells}
 use Rattle.rs_site.specs.Sessions.{session_of}
 use Rattle.rs_site.specs.State.{SiteState, next_txn}
-use Rattle.rs_site.specs.Step.{most_bytes, site_step}
+use Rattle.rs_site.specs.Step.{site_step}
 
 -- the site after a step, and what comes out of it
 abbrev pub after : SiteState → Input → SiteState
@@ -39,7 +39,7 @@ RepeatsRunNothing = (site : SiteState) (from : Peer) (bytes : List ℕ) (ask : A
 
 -- an ask of the user's last request, in the site's epoch, is told the reply that is kept, and changes nothing
 abbrev pub KeptIsToldAgain : Type 0
-KeptIsToldAgain = (site : SiteState) (from : Peer) (bytes : List ℕ) (ask : Ask) (reply : Reply) → IsMessage bytes (messages.Ask ask) → length bytes ≤ most_bytes
+KeptIsToldAgain = (site : SiteState) (from : Peer) (bytes : List ℕ) (ask : Ask) (reply : Reply) → IsMessage bytes (messages.Ask ask)
     → ask.part ≡ 0 → ask.epoch ≡ site.epoch → ask.number ≡ last_of ask.user site → (session_of ask.user site.sessions).reply ≡ Some reply
     → site_step site (inputs.Datagram from bytes) ≡ (site, tells from (origin_of site ask) 0 reply)
 

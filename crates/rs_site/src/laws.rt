@@ -1,0 +1,25 @@
+//! What holds of every step of a site, whatever its state. Each function here is a law: its contract says it, and its
+//! body does nothing.
+
+ghost use Rattle.rs_site.specs.Laws.{CommitsAreMeaning, KeptIsToldAgain, NumbersRise, RepeatsRunNothing};
+
+/// Each user's last number, and the count of transactions, never fall.
+pub fn numbers_rise()
+    ensures { NumbersRise }
+{}
+
+/// An ask whose number isn't above the user's last changes nothing, and nothing is committed.
+pub fn repeats_run_nothing()
+    ensures { RepeatsRunNothing }
+{}
+
+/// An ask of the user's last request, in the site's epoch, is told the reply that is kept, and changes nothing.
+pub fn kept_is_told_again()
+    ensures { KeptIsToldAgain }
+{}
+
+/// A step commits nothing, and leaves the database as it was, or it commits one entry: of the site's next transaction,
+/// and the database is the meaning of its statement.
+pub fn commits_are_meaning()
+    ensures { CommitsAreMeaning }
+{}
