@@ -42,7 +42,7 @@ pub use read_all::read_to_end;
 pub use reply::{Answer, Answers, Denial, Lines, Reason, Reply};
 pub use sink::Sink;
 pub use site_no::SiteNo;
-pub use size::row_size;
+pub use size::{count_of, row_size};
 pub use source::Source;
 pub use std_stream::{StdSink, StdSource};
 pub use sure::{SureSink, SureSource};

@@ -10,8 +10,8 @@ use crate::fault::NoMemory;
 use crate::lock::Resource;
 use crate::name::Swn;
 use crate::reply::{Answer, Denial, Reason, Reply};
-use crate::txn::{Enlist, Origin, Txn};
 use crate::site_no::SiteNo;
+use crate::txn::{Enlist, Origin, Txn};
 use crate::value::{Row, Value};
 use itoa::Buffer;
 

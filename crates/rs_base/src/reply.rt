@@ -55,9 +55,13 @@ pub enum Reason {
         holder: Enlist,
     },
     /// A site gave no answer.
-    NoAnswer { site: SiteNo },
+    NoAnswer {
+        site: SiteNo,
+    },
     /// A site lost its part.
-    SiteLost { site: SiteNo },
+    SiteLost {
+        site: SiteNo,
+    },
 }
 
 /// Lines of text, without their line feeds.

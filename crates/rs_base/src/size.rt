@@ -5,8 +5,8 @@ ghost use Rattle.rs_base.specs.Sizes as spec;
 
 use crate::value::Value;
 
-/// The place of an integer among 0, -1, 1, -2, 2 and so on.
-fn count_of(n: i64) -> u64
+/// The place of an integer among 0, -1, 1, -2, 2 and so on, which stands for it in its spelling.
+pub fn count_of(n: i64) -> u64
     ensures { result ≡ spec.count_of n }
 {
     if n < 0 {

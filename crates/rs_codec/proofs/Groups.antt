@@ -5,6 +5,8 @@ use Rattle.std.proofs.lemmas.Bool.{cases_lt}
 use Rattle.std.proofs.Math.Nat.{pow-suc}
 use Rattle.std.proofs.lemmas.List.{take_more_set}
 use Rattle.std.proofs.lemmas.List.Elements.{All-nil, All-cons}
+use Rattle.rs_base.specs.Sizes.{groups_within}
+use Rattle.rs_base.proofs.SizeLaws.{groups_last, groups_more}
 use Rattle.rs_codec.specs.Spelling.{IsGroups, Takes}
 
 -- one more group below those of what is above it
@@ -126,3 +128,17 @@ writes_tenth bytes at rest n len is_ninth below so_far =
     let last : rest < 2 * 128 ^ (9 - 9) = subst (λ (i : ℕ). rest < 2 * 128 ^ (9 - i)) is_ninth below in
     let at_ninth : Completes (take 9 bytes) rest n = subst (λ (i : ℕ). Completes (take i bytes) rest n) is_ninth so_far in
     writes_last bytes 9 rest n (omega (arith, len)) (omega (arith, last)) at_ninth
+
+-- ---- how many groups there are
+
+-- a number below 128 ^ (more + 1) has so many above the first, and no more
+pub length_of_groups : (bytes : List ℕ) (more n : ℕ) → IsGroups bytes n → n < 128 ^ suc more → length bytes ≡ groups_within more n
+length_of_groups [] more n g below = absurd g
+length_of_groups (b ∷ []) more n g below = sym (groups_last more n (omega (arith, g.0, g.1)))
+length_of_groups (b ∷ c ∷ bs) zero n g below = absurd (omega (arith, below, g.0, g.3, g.4))
+length_of_groups (b ∷ c ∷ bs) (suc more) n g below =
+    let high = g.2 in
+    let is : n / 128 ≡ high = omega (arith, g.0, g.1, g.4) in
+    let wide : high < 128 ^ suc more = omega (arith, below, pow-suc 128 (suc more), g.0, g.4) in
+    let above : length (c ∷ bs) ≡ groups_within more (n / 128) = length_of_groups (c ∷ bs) more high g.5 wide ∙ ap (groups_within more) (sym is) in
+    omega (arith, above, groups_more more n (omega (arith, g.0, g.3, g.4)))

@@ -1,12 +1,13 @@
 -- Counts, integers and texts: each has one spelling, which is made of bytes.
-use Rattle.std.proofs.Common.{◌≡◌, ℕ, ◌^◌, ◌<◌, ◌≤◌, ℤ, pos, negsuc, List, ◌++◌, length, take, drop, refl, sym, ap, subst, ◌∙◌, arith, append_assoc, length-append}
+use Rattle.std.proofs.Common.{◌≡◌, ℕ, ◌+◌, ◌^◌, ◌<◌, ◌≤◌, ℤ, pos, negsuc, List, ◌++◌, length, take, drop, refl, sym, ap, subst, ◌∙◌, arith, append_assoc, length-append}
 use Rattle.std.specs.Prelude.{FitsSigned}
 use Rattle.std.specs.Int.{w64}
 use Rattle.std.proofs.lemmas.List.{append_cancel_left, take_at, take-append-drop, length-take}
 use Rattle.std.proofs.lemmas.List.Elements.{All-append}
+use Rattle.rs_base.specs.Sizes.{count_size}
 use Rattle.rs_codec.specs.Spelling.{IsCount, count_of, IsInt, IsText, Takes, NoneBegins}
 use Rattle.rs_codec.specs.Laws.{HasOneSpelling, AreBytes}
-use Rattle.rs_codec.proofs.Groups.{one_groups, each_groups, bytes_of_groups}
+use Rattle.rs_codec.proofs.Groups.{one_groups, each_groups, bytes_of_groups, length_of_groups}
 
 pub one_count : HasOneSpelling IsCount
 one_count a b r s m n p q e = one_groups a b r s m n p.groups q.groups e
@@ -16,6 +17,10 @@ each_count n h = let g = each_groups n in (g.0, record { groups = g.1; below = h
 
 pub bytes_of_count : (bytes : List ℕ) (n : ℕ) → IsCount bytes n → AreBytes bytes
 bytes_of_count bytes n p = bytes_of_groups bytes n p.groups
+
+pub length_of_count : (bytes : List ℕ) (n : ℕ) → IsCount bytes n → length bytes ≡ count_size n
+unfolding count_size
+length_of_count bytes n p = length_of_groups bytes 9 n p.groups (omega (arith, p.below))
 
 -- ---- integers
 
@@ -66,6 +71,9 @@ bytes_of_text bytes text p are = subst AreBytes (sym p.parts) (All-append (λ b.
 -- no count stands there
 pub none_no_count : (bytes : List ℕ) → NoneBegins IsCount bytes → NoneBegins IsText bytes
 none_no_count bytes none text spelling rest p e = none (length text) p.count (text ++ rest) p.counted (e ∙ behind_count spelling rest text p)
+
+pub length_of_text : (bytes text : List ℕ) → IsText bytes text → length bytes ≡ count_size (length text) + length text
+length_of_text bytes text p = ap length p.parts ∙ length-append p.count text ∙ ap (λ (n : ℕ). n + length text) (length_of_count p.count (length text) p.counted)
 
 -- a count stands there, and then fewer bytes than it says
 pub none_short : (bytes behind : List ℕ) (n : ℕ) → Takes IsCount bytes behind n → length behind < n → NoneBegins IsText bytes

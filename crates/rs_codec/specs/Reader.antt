@@ -1,7 +1,7 @@
 -- The field at the front of bytes, and the bytes behind it:
 --     byte_at, u32_at, u64_at, count_at, int_at, text_at
 -- None where no such field stands there.
-use Rattle.std.specs.Prelude.{ℕ, ◌+◌, ◌-◌, ◌*◌, ◌/◌, ◌%◌, ◌^◌, ◌==◌, ℤ, pos, negsuc, ◌&&◌, nat_le, nat_lt, List, [], ◌∷◌, length, take, drop, Option, Some, None, bytes_eq, if◌then◌else◌}
+use Rattle.std.specs.Prelude.{ℕ, ◌+◌, ◌-◌, ◌*◌, ◌/◌, ◌%◌, ◌^◌, ◌==◌, ℤ, pos, negsuc, nat_le, nat_lt, List, [], ◌∷◌, length, take, drop, Option, Some, None, bytes_eq, if◌then◌else◌}
 use Rattle.std.specs.Int.{w32, w64, to_be_bytes, from_be_bytes}
 use Rattle.rs_base.specs.Reading.{◌>>=◌}
 

@@ -11,8 +11,9 @@
 --     Puts IsX old new x    a spelling of x was put at the end of old
 --     Takes IsX old new x   a spelling of x was taken from the front of old
 --     NoneBegins IsX old    old begins with no spelling
-use Rattle.std.specs.Prelude.{◌≡◌, ℕ, ◌+◌, ◌*◌, ◌^◌, ◌<◌, ◌≤◌, ℤ, pos, negsuc, List, [], ◌∷◌, ◌++◌, length}
+use Rattle.std.specs.Prelude.{◌≡◌, ℕ, ◌+◌, ◌*◌, ◌^◌, ◌<◌, ◌≤◌, ℤ, List, [], ◌∷◌, ◌++◌, length}
 use Rattle.std.specs.Int.{w32, w64, to_be_bytes}
+pub use Rattle.rs_base.specs.Sizes.{count_of}
 
 abbrev pub IsByte : List ℕ → ℕ → Type 0
 IsByte bytes n = (n < 256) × (bytes ≡ n ∷ [])
@@ -34,11 +35,7 @@ pub record IsCount (bytes : List ℕ) (n : ℕ) : Type 0 where
   pub groups : IsGroups bytes n
   pub below : n < 2 ^ 64
 
--- 0, -1, 1, -2, 2 .. are counted 0, 1, 2, 3, 4 ..: here negsuc n is -n - 1
-abbrev pub count_of : ℤ → ℕ
-count_of (pos n) = 2 * n
-count_of (negsuc n) = 2 * n + 1
-
+-- an integer is spelled as its count
 abbrev pub IsInt : List ℕ → ℤ → Type 0
 IsInt bytes z = IsCount bytes (count_of z)
 

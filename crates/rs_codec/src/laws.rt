@@ -1,8 +1,9 @@
 //! What holds of counts, integers and texts: each has one spelling, which begins no other of its kind, and it is made of
-//! bytes.
+//! bytes, whose count is known.
 
-ghost use Rattle.std.specs.Prelude.{◌<◌, ◌≤◌, ◌^◌, ◌≡◌, List, ℕ, ℤ, length, FitsSigned};
+ghost use Rattle.std.specs.Prelude.{◌<◌, ◌≤◌, ◌^◌, ◌≡◌, ◌+◌, List, ℕ, ℤ, length, FitsSigned};
 ghost use Rattle.std.specs.Int.{w64};
+ghost use Rattle.rs_base.specs.Sizes.{count_of, count_size};
 ghost use Rattle.rs_codec.specs.Spelling.{IsByte, IsU32, IsU64, IsCount, IsInt, IsText};
 ghost use Rattle.rs_codec.specs.Written.{count_bytes, int_bytes, text_bytes};
 ghost use Rattle.rs_codec.specs.Reader.{byte_at, u32_at, u64_at, count_at, int_at, text_at};
@@ -68,7 +69,7 @@ pub fn spelled_once()
 {}
 
 /// A count takes at most ten bytes.
-pub fn length_of_count()
+pub fn longest_count()
     ensures { (n : ℕ) → length (count_bytes n) ≤ 10 }
 {}
 
@@ -84,4 +85,19 @@ pub fn counts_are_read()
     ensures count { IsReadBy IsCount count_at }
     ensures int { IsReadBy IsInt int_at }
     ensures text { IsReadBy IsText text_at }
+{}
+
+/// How many bytes the spelling of a count takes.
+pub fn length_of_count()
+    ensures { (bytes : List ℕ) (n : ℕ) → IsCount bytes n → length bytes ≡ count_size n }
+{}
+
+/// How many bytes the spelling of an integer takes.
+pub fn length_of_int()
+    ensures { (bytes : List ℕ) (n : ℤ) → IsInt bytes n → length bytes ≡ count_size (count_of n) }
+{}
+
+/// How many bytes the spelling of a text takes.
+pub fn length_of_text()
+    ensures { (bytes text : List ℕ) → IsText bytes text → length bytes ≡ count_size (length text) + length text }
 {}

@@ -2,11 +2,11 @@
 
 ghost use Rattle.std.specs.Prelude.{◌≡◌, ◌≤◌, [], ◌∷◌, ◌++◌, take, OnOk, OnErr};
 ghost use Rattle.std.specs.Int.{w32, w64, to_be_bytes};
-ghost use Rattle.rs_codec.specs.Spelling.{count_of, IsCount, IsInt, IsText, Puts};
+ghost use Rattle.rs_codec.specs.Spelling.{IsCount, IsInt, IsText, Puts};
 ghost use Rattle.rs_codec.specs.Written.{count_bytes, int_bytes, text_bytes};
 
 use byteorder::{BigEndian, ByteOrder};
-use rs_base::{Bytes, NoMemory};
+use rs_base::{Bytes, NoMemory, count_of};
 use std::alloc::Global;
 
 /// The most bytes that a count takes: groups of seven bits for 64.
@@ -67,17 +67,6 @@ pub fn put_count(out: &mut Bytes, n: u64) -> Result<(), NoMemory>
     let mut bytes = [0u8; LONGEST];
     let len = write_groups(&mut bytes, n);
     out.extend(&bytes[..len])
-}
-
-/// The place of an integer among 0, -1, 1, -2, 2 and so on.
-fn count_of(n: i64) -> u64
-    ensures { result ≡ count_of n }
-{
-    if n < 0 {
-        2 * (-(n + 1)) as u64 + 1
-    } else {
-        2 * n as u64
-    }
 }
 
 /// An integer in as few bytes as it takes: one for those from -64 to 63, and ten at most.

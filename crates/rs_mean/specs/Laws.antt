@@ -1,7 +1,8 @@
 -- What holds of every execution, whatever the database.
-use Rattle.std.specs.Prelude.{◌≡◌, List, [], ◌∷◌, ◌++◌, length, Some, None, Ok, Err, IsSome, ◌≢◌}
+use Rattle.std.specs.Prelude.{◌≡◌, ◌≤◌, All, AllPairs, List, [], ◌∷◌, length, Some, None, Ok, Err, IsSome, ◌≢◌}
 use Rattle.std.specs.Option.{option_map}
 use Rattle.std.specs.List.Sorted.{IsSorted, IsPermutation}
+use Rattle.std.specs.Map.{values_of}
 use Rattle.rs_base.specs.declared.name.NameText.{NameText}
 use Rattle.rs_base.specs.declared.name.Swn.{Swn}
 use Rattle.rs_base.specs.declared.reply.Answer.{Answer}
@@ -9,6 +10,7 @@ use Rattle.rs_base.specs.declared.reply.Answer.TheVariants as answers
 use Rattle.rs_base.specs.declared.reply.Denial.{Denial}
 use Rattle.rs_base.specs.declared.value.Value.{Value}
 use Rattle.rs_base.specs.Name.{resolve}
+use Rattle.rs_base.specs.Sizes.{row_size}
 use Rattle.rs_base.specs.Value.{row_cmp}
 use Rattle.rs_ast.specs.declared.stmt.ColDef.{ColDef}
 use Rattle.rs_ast.specs.declared.stmt.Dml.TheVariants as dmls
@@ -17,7 +19,8 @@ use Rattle.rs_ast.specs.declared.stmt.Stmt.TheVariants as stmts
 use Rattle.rs_mean.specs.declared.execution.Execution.{Execution}
 use Rattle.rs_mean.specs.declared.table.Table.{Table}
 use Rattle.rs_mean.specs.Database.{Database, empty, table_named, IsInOrder}
-use Rattle.rs_mean.specs.Meaning.{meaning}
+use Rattle.rs_mean.specs.Limits.{max_row_bytes, max_rows, max_table_bytes, rows_size}
+use Rattle.rs_mean.specs.Meaning.{meaning, with_rows}
 use Rattle.rs_mean.specs.Sorting.{in_order}
 
 -- the database after the execution
@@ -58,10 +61,6 @@ TableIsMade = (db : Database) (execution : Execution) (written : NameText) (colu
     × (table_named (name_of execution) db ≡ None)
     × (table_named (name_of execution) (after db execution) ≡ Some (record { made = execution.txn; place = (name_of execution).birth; columns = columns; rows = [] }))
 
--- the table with these rows at its end
-abbrev pub with_rows : List (List Value) → Table → Table
-with_rows rows table = record table { rows = table.rows ++ rows }
-
 -- after an INSERT that was done its name has the table that it had, with the rows at its end
 abbrev pub RowsAreAppended : Type 0
 RowsAreAppended = (db : Database) (execution : Execution) (written : NameText) (rows : List (List Value)) (given : List Answer)
@@ -69,3 +68,31 @@ RowsAreAppended = (db : Database) (execution : Execution) (written : NameText) (
     → (given ≡ answers.Changed (length rows) ∷ [])
     × IsSome (table_named (name_of execution) db)
     × (table_named (name_of execution) (after db execution) ≡ option_map (with_rows rows) (table_named (name_of execution) db))
+
+-- ---- what every table keeps
+
+-- each table of the database is so
+abbrev pub EachTable : (Table → Type 0) → Database → Type 0
+EachTable P db = All P (values_of db.tables)
+
+-- each table is so at first, and stays so after each execution
+abbrev pub StaysInEachTable : (Table → Type 0) → Type 0
+StaysInEachTable P = EachTable P empty × ((db : Database) (execution : Execution) → EachTable P db → EachTable P (after db execution))
+
+-- The table has at most 65,536 rows and at most 8,388,608 bytes, and each row has at most 1,024 bytes.
+pub record IsWithin (table : Table) : Type 0 where
+  pub rows : length table.rows ≤ max_rows
+  pub bytes : rows_size table.rows ≤ max_table_bytes
+  pub row_bytes : All (λ row. row_size row ≤ max_row_bytes) table.rows
+
+-- a table never has more rows or bytes than it may, nor a row more bytes than that
+abbrev pub TablesStayWithin : Type 0
+TablesStayWithin = StaysInEachTable IsWithin
+
+-- no two columns have one name
+abbrev pub HasDistinctColumns : Table → Type 0
+HasDistinctColumns table = AllPairs (λ one other. one.name ≢ other.name) table.columns
+
+-- no table has two columns of one name
+abbrev pub ColumnsStayDistinct : Type 0
+ColumnsStayDistinct = StaysInEachTable HasDistinctColumns

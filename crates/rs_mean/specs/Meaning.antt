@@ -1,5 +1,5 @@
 -- What an execution means: the database after it, and its outcome. A denied one changes nothing.
-use Rattle.std.specs.Prelude.{Bool, true, false, List, [], ◌∷◌, ◌++◌, length, Option, Some, None, Result, Ok, Err, if◌then◌else◌}
+use Rattle.std.specs.Prelude.{Bool, true, false, not, ◌&&◌, is_some, List, [], ◌∷◌, ◌++◌, length, Option, Some, None, Result, Ok, Err, if◌then◌else◌}
 use Rattle.std.specs.List.{list_all}
 use Rattle.std.specs.Cmp.Lexicographic.{pointwise}
 use Rattle.rs_base.specs.declared.value.Kind.{Kind}
@@ -20,7 +20,9 @@ use Rattle.rs_ast.specs.declared.stmt.Stmt.{Stmt}
 use Rattle.rs_ast.specs.declared.stmt.Stmt.TheVariants as stmts
 use Rattle.rs_mean.specs.declared.execution.Execution.{Execution}
 use Rattle.rs_mean.specs.declared.table.Table.{Table}
+use Rattle.rs_mean.specs.Columns.{names_differ}
 use Rattle.rs_mean.specs.Database.{Database, table_named, with_table}
+use Rattle.rs_mean.specs.Limits.{fits_row, fits_rows}
 use Rattle.rs_mean.specs.Sorting.{in_order}
 
 -- an answer for each statement, or why the execution was denied
@@ -33,12 +35,28 @@ done answer = Ok (answer ∷ [])
 abbrev pub denied : Denial → Outcome
 denied cause = Err cause
 
+-- the change and its answer, or why it is denied
+abbrev pub unless_denied : Option Denial → Database → Database × Outcome → Database × Outcome
+unless_denied None db change = change
+unless_denied (Some cause) db change = (db, denied cause)
+
 -- ---- CREATE TABLE
 
--- Stores a table without rows at its birth site. It is denied where a table has the name.
+-- why it is denied, if it is: two columns have one name, or else a table has the name
+abbrev pub create_denial : List ColDef → Option Table → Option Denial
+create_denial columns found =
+    if not (names_differ columns) then Some denials.TwoColumns
+    else if is_some found then Some denials.TableExists
+    else None
+
+-- a table without rows, at its birth site
+abbrev pub new_table : Txn → Swn → List ColDef → Table
+new_table txn name columns = record { made = txn; place = name.birth; columns = columns; rows = [] }
+
+-- Stores a table without rows at its birth site, unless it is denied.
 abbrev pub create : Txn → Swn → List ColDef → Database → Option Table → Database × Outcome
-create txn name columns db (Some found) = (db, denied denials.TableExists)
-create txn name columns db None = (with_table name (record { made = txn; place = name.birth; columns = columns; rows = [] }) db, done answers.Ok)
+create txn name columns db found =
+    unless_denied (create_denial columns found) db (with_table name (new_table txn name columns) db, done answers.Ok)
 
 -- ---- INSERT
 
@@ -56,13 +74,27 @@ fits_column value column = same_kind (kind_of value) column.kind
 abbrev pub fits_columns : List ColDef → List Value → Bool
 fits_columns columns row = pointwise fits_column row columns
 
--- Appends the rows, in their order. It is denied as a whole where no table has the name, or where a row doesn't fit.
+-- each of the rows may be stored, and the table has room for them
+abbrev pub fits_table : Table → List (List Value) → Bool
+fits_table table rows = list_all fits_row rows && fits_rows (table.rows ++ rows)
+
+-- why the rows are denied as a whole, if they are: one doesn't fit the columns, or else one is too large or the table has
+-- no room for them
+abbrev pub insert_denial : List (List Value) → Table → Option Denial
+insert_denial rows table =
+    if not (list_all (fits_columns table.columns) rows) then Some denials.WrongType
+    else if not (fits_table table rows) then Some denials.TableFull
+    else None
+
+-- the table with these rows at its end
+abbrev pub with_rows : List (List Value) → Table → Table
+with_rows rows table = record table { rows = table.rows ++ rows }
+
+-- Appends the rows, in their order, unless they are denied. It is denied where no table has the name.
 abbrev pub insert : Swn → List (List Value) → Database → Option Table → Database × Outcome
 insert name rows db None = (db, denied denials.NoTable)
 insert name rows db (Some table) =
-    if list_all (fits_columns table.columns) rows
-    then (with_table name (record table { rows = table.rows ++ rows }) db, done (answers.Changed (length rows)))
-    else (db, denied denials.WrongType)
+    unless_denied (insert_denial rows table) db (with_table name (with_rows rows table) db, done (answers.Changed (length rows)))
 
 -- ---- SELECT
 

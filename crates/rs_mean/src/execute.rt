@@ -1,6 +1,6 @@
 //! Execution of statements.
 
-ghost use Rattle.std.specs.Prelude.{◌≡◌, IfOk, OnErr};
+ghost use Rattle.std.specs.Prelude.{◌≡◌, IfOk, OnOk, OnErr};
 ghost use Rattle.rs_mean.specs.Meaning.{meaning};
 
 use crate::database::Database;
@@ -11,9 +11,32 @@ use std::alloc::Global;
 
 impl Database {
     #[tactic(auto, unfolding(crate::specs::Meaning::meaning))]
-    /// Executes the statement. A denied execution changes nothing, nor does one for which memory is wanting.
-    pub fn execute(&mut self, alloc: Global, execution: Execution) -> Result<Outcome, NoMemory>
-        ensures ok { IfOk result (λ outcome. meaning self.old execution ≡ (self.new, outcome)) }
+    /// What the execution would answer. It changes nothing, and takes what memory the answer takes.
+    pub fn outcome_of(&self, alloc: Global, execution: &Execution) -> Result<Outcome, NoMemory>
+        ensures { IfOk result (λ outcome. outcome ≡ (meaning self.now execution.now).1) }
+    {
+        let user = execution.user;
+        let site = execution.site;
+        match &execution.stmt {
+            Stmt::CreateTable { name, columns } => self.outcome_of_create(
+                alloc,
+                &name.resolve(user, site),
+                columns.as_slice(),
+            ),
+            Stmt::Dml(Dml::Insert { name, rows }) => self.outcome_of_insert(
+                alloc,
+                &name.resolve(user, site),
+                rows.as_slice(),
+            ),
+            Stmt::Dml(Dml::Select(query)) => self.select(alloc, &query.from.resolve(user, site)),
+        }
+    }
+
+    #[tactic(auto, unfolding(crate::specs::Meaning::meaning))]
+    /// Changes what the execution changes, and answers nothing. A denied execution changes nothing, nor does one for
+    /// which memory is wanting.
+    pub fn apply(&mut self, alloc: Global, execution: Execution) -> Result<(), NoMemory>
+        ensures ok { OnOk result (self.new ≡ (meaning self.old execution).0) }
         ensures err { OnErr result (self.new ≡ self.old) }
     {
         let Execution {
@@ -34,7 +57,18 @@ impl Database {
                 &name.resolve(user, site),
                 rows,
             ),
-            Stmt::Dml(Dml::Select(query)) => self.select(alloc, &query.from.resolve(user, site)),
+            Stmt::Dml(Dml::Select(_)) => Ok(()),
         }
+    }
+
+    /// Executes the statement: the answer, and the change. A denied execution changes nothing, nor does one for which
+    /// memory is wanting.
+    pub fn execute(&mut self, alloc: Global, execution: Execution) -> Result<Outcome, NoMemory>
+        ensures ok { IfOk result (λ outcome. meaning self.old execution ≡ (self.new, outcome)) }
+        ensures err { OnErr result (self.new ≡ self.old) }
+    {
+        let outcome = self.outcome_of(alloc, &execution)?;
+        self.apply(alloc, execution)?;
+        Ok(outcome)
     }
 }

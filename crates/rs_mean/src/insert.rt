@@ -1,6 +1,6 @@
 //! INSERT.
 
-ghost use Rattle.std.specs.Prelude.{◌≡◌, IfOk, OnErr};
+ghost use Rattle.std.specs.Prelude.{◌≡◌, IfOk, OnOk, OnErr};
 ghost use Rattle.std.specs.List.{list_all, zip};
 ghost use Rattle.rs_mean.specs.Database.{table_named};
 ghost use Rattle.rs_mean.specs.Inserting.{insert_into};
@@ -8,6 +8,7 @@ ghost use Rattle.rs_mean.specs.Meaning as spec;
 
 use crate::database::Database;
 use crate::execution::{Outcome, done};
+use crate::limits::all_fit_row;
 use crate::table::Table;
 use rs_ast::ColDef;
 use rs_base::{Answer, Denial, Kind, NoMemory, Row, Rows, Swn, Value};
@@ -57,36 +58,67 @@ fn into_vec(alloc: Global, mut rows: Rows) -> Result<Vec<Row>, NoMemory>
     Ok(moved)
 }
 
+/// Whether each of the rows may be stored, and the table has room for them.
+fn fits_table(table: &Table, rows: &[Row]) -> bool
+    ensures { result ≡ spec.fits_table table.now rows.now }
+{
+    all_fit_row(rows) && table.rows.has_room(rows)
+}
+
+/// Why the table doesn't take the rows, if it doesn't.
+fn insert_denial(rows: &[Row], table: &Table) -> Option<Denial>
+    ensures { result ≡ spec.insert_denial rows.now table.now }
+{
+    if !all_fit_columns(table.columns.as_slice(), rows) {
+        Some(Denial::WrongType)
+    } else if !fits_table(table, rows) {
+        Some(Denial::TableFull)
+    } else {
+        None
+    }
+}
+
 impl Table {
-    /// Appends the rows, in their order, in time proportional to them. It is denied as a whole where a row doesn't
-    /// fit the columns.
-    fn insert(&mut self, alloc: Global, rows: Rows) -> Result<Outcome, NoMemory>
-        ensures ok { IfOk result (λ outcome. insert_into rows self.old ≡ (self.new, outcome)) }
+    /// Appends the rows, in their order, unless they are denied, in time proportional to them.
+    fn insert(&mut self, alloc: Global, rows: Rows) -> Result<(), NoMemory>
+        ensures ok { OnOk result (self.new ≡ insert_into rows self.old) }
         ensures err { OnErr result (self.new ≡ self.old) }
     {
-        if !all_fit_columns(self.columns.as_slice(), rows.as_slice()) {
-            return Ok(Err(Denial::WrongType));
+        if insert_denial(rows.as_slice(), self).is_some() {
+            return Ok(());
         }
-        let outcome = done(alloc, Answer::Changed(rows.len() as u64))?;
-        self.rows.append(into_vec(alloc, rows)?)?;
-        Ok(outcome)
+        self.rows.append(into_vec(alloc, rows)?)
     }
 }
 
 impl Database {
-    /// Appends the rows, in their order, in time proportional to them and to a look-up. It is denied as a whole where
-    /// no table has the name, or where a row doesn't fit.
-    pub(crate) fn insert(
-        &mut self,
+    /// What an INSERT would answer, in time proportional to its rows and to a look-up. It is denied as a whole where
+    /// no table has the name, where a row doesn't fit the columns, or else where a row is too large or the table has no
+    /// room for the rows.
+    pub(crate) fn outcome_of_insert(
+        &self,
         alloc: Global,
         name: &Swn,
-        rows: Rows,
+        rows: &[Row],
     ) -> Result<Outcome, NoMemory>
-        ensures ok { IfOk result (λ outcome. spec.insert name.now rows self.old (table_named name.now self.old) ≡ (self.new, outcome)) }
+        ensures { IfOk result (λ outcome. outcome ≡ (spec.insert name.now rows.now self.now (table_named name.now self.now)).1) }
+    {
+        let Some(table) = self.table(name) else {
+            return Ok(Err(Denial::NoTable));
+        };
+        match insert_denial(rows, table) {
+            Some(cause) => Ok(Err(cause)),
+            None => done(alloc, Answer::Changed(rows.len() as u64)),
+        }
+    }
+
+    /// Appends the rows, in their order, unless they are denied, in time proportional to them and to a look-up.
+    pub(crate) fn insert(&mut self, alloc: Global, name: &Swn, rows: Rows) -> Result<(), NoMemory>
+        ensures ok { OnOk result (self.new ≡ (spec.insert name.now rows self.old (table_named name.now self.old)).0) }
         ensures err { OnErr result (self.new ≡ self.old) }
     {
         let Some(table) = self.tables.get_mut(name) else {
-            return Ok(Err(Denial::NoTable));
+            return Ok(());
         };
         table.insert(alloc, rows)
     }

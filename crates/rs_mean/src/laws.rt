@@ -1,7 +1,7 @@
 //! What holds of every execution, whatever the database. Each function here is a law: its contract says it, and its
 //! body does nothing.
 
-ghost use Rattle.rs_mean.specs.Laws.{AnswerIsInOrder, DeniedChangesNothing, NamesStayInOrder, OthersStay, RowsAreAppended, TableIsMade};
+ghost use Rattle.rs_mean.specs.Laws.{AnswerIsInOrder, ColumnsStayDistinct, DeniedChangesNothing, NamesStayInOrder, OthersStay, RowsAreAppended, TableIsMade, TablesStayWithin};
 
 /// A denied execution changes nothing.
 pub fn denied_changes_nothing()
@@ -28,4 +28,15 @@ pub fn others_stay()
 pub fn rows_are_appended()
     ensures made { TableIsMade }
     ensures appended { RowsAreAppended }
+{}
+
+/// A table never has more than 65,536 rows, nor more than 8,388,608 bytes, nor a row of more than 1,024 bytes, at first
+/// and after each execution.
+pub fn tables_stay_within()
+    ensures { TablesStayWithin }
+{}
+
+/// No table has two columns of one name, at first and after each execution.
+pub fn columns_stay_distinct()
+    ensures { ColumnsStayDistinct }
 {}

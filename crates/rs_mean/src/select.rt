@@ -13,7 +13,7 @@ use std::alloc::Global;
 impl Database {
     /// Answers every row, in order of all columns. It is denied where no table has the name.
     pub(crate) fn select(&self, alloc: Global, name: &Swn) -> Result<Outcome, NoMemory>
-        ensures { IfOk result (λ outcome. spec.select self.now (table_named name.now self.now) ≡ (self.now, outcome)) }
+        ensures { IfOk result (λ outcome. outcome ≡ (spec.select self.now (table_named name.now self.now)).1) }
     {
         let Some(table) = self.table(name) else {
             return Ok(Err(Denial::NoTable));

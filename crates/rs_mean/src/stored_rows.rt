@@ -1,23 +1,30 @@
 //! The rows of a table.
 
 ghost use Rattle.std.specs.Prelude.{◌≡◌, [], ◌++◌, length, OnOk, OnErr};
+ghost use Rattle.rs_mean.specs.Limits as spec;
 
+use crate::limits::{MAX_ROWS, MAX_TABLE_BYTES, rows_size};
 use rs_base::{NoMemory, Row};
 use std::alloc::Global;
 use std::marker::Model;
 
-/// Rows in order of insertion.
+/// Rows in order of insertion, and how many bytes they have.
 #[derive(Debug, Drop)]
 pub struct StoredRows {
     rows: Vec<Row>,
+    bytes: u64,
 }
 
 impl Model for StoredRows {
+    ghost use Rattle.std.specs.Prelude.{◌≡◌, ◌-◌, ◌^◌, min};
     ghost use Rattle.rs_base.specs.Value.{RowList};
+    ghost use Rattle.rs_mean.specs.Limits.{rows_size};
 
     ghost Value = { RowList };
 
     ghost view = { λ stored. stored.rows.items };
+
+    ghost invariant = { λ stored. stored.bytes ≡ min (rows_size stored.rows.items) (2 ^ 64 - 1) };
 }
 
 impl StoredRows {
@@ -26,6 +33,7 @@ impl StoredRows {
     {
         StoredRows {
             rows: Vec::new(alloc),
+            bytes: 0,
         }
     }
 
@@ -41,12 +49,22 @@ impl StoredRows {
         self.rows.len()
     }
 
+    /// Whether a table may hold these rows and `more`, in time proportional to `more`.
+    pub fn has_room(&self, more: &[Row]) -> bool
+        ensures { result ≡ spec.fits_rows (self.now ++ more.now) }
+    {
+        self.rows.len().saturating_add(more.len()) <= MAX_ROWS
+            && self.bytes.saturating_add(rows_size(more)) <= MAX_TABLE_BYTES
+    }
+
     /// Moves `more` to the end, in time proportional to `more`. Where memory is wanting, nothing changes.
     pub fn append(&mut self, mut more: Vec<Row>) -> Result<(), NoMemory>
         ensures ok { OnOk result (self.new ≡ self.old ++ more.items) }
         ensures err { OnErr result (self.new ≡ self.old) }
     {
+        let bytes = self.bytes.saturating_add(rows_size(more.as_slice()));
         self.rows.append(&mut more)?;
+        self.bytes = bytes;
         Ok(())
     }
 }

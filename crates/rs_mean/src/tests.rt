@@ -13,10 +13,14 @@ const X: &[u8] = b"x";
 #[derive(Clone, Copy)]
 enum Ask<'a> {
     Create,
+    CreateTwoOfOneName,
+    CreateTexts,
     Insert(&'a [(i64, &'a [u8])]),
     InsertTextInFront,
     InsertOneValue,
     InsertThreeValues,
+    InsertTexts(usize),
+    InsertTextsAndOneValue(usize),
     Select,
     SelectOfAnn,
 }
@@ -39,15 +43,18 @@ fn t_of_ann() -> Result<NameText, Fail> {
     Ok(name)
 }
 
-fn columns(alloc: Global) -> Result<ColDefs, Fail> {
-    let mut columns: ColDefs = Items::new(alloc);
-    for kind in [Kind::Int, Kind::Text] {
-        columns.push(ColDef {
-            name: ident(b"c")?,
-            kind,
+fn create(alloc: Global, columns: &[(&[u8], Kind)]) -> Result<Stmt, Fail> {
+    let mut defs: ColDefs = Items::new(alloc);
+    for (name, kind) in columns {
+        defs.push(ColDef {
+            name: ident(name)?,
+            kind: *kind,
         })?;
     }
-    Ok(columns)
+    Ok(Stmt::CreateTable {
+        name: plain_t()?,
+        columns: defs,
+    })
 }
 
 fn row_of(alloc: Global, number: i64, bytes: &[u8]) -> Result<Row, Fail> {
@@ -84,11 +91,31 @@ fn three_values(alloc: Global) -> Result<Row, Fail> {
     Ok(row)
 }
 
-/// A row that fits the columns, and this one.
-fn rows_with(alloc: Global, second: Row) -> Result<Rows, Fail> {
-    let mut rows = rows_of(alloc, &[(7, X)])?;
+/// A row of three texts of 255 bytes, which take 258 each, and of one of so many bytes.
+fn four_texts(alloc: Global, last: usize) -> Result<Row, Fail> {
+    let mut row = Items::new(alloc);
+    for length in [255, 255, 255, last] {
+        let bytes = Vec::from_elem(alloc, b'x', length)?;
+        row.push(Value::Text(Txt::new(alloc, bytes.as_slice())?))?;
+    }
+    Ok(row)
+}
+
+fn one_row(alloc: Global, row: Row) -> Result<Rows, Fail> {
+    let mut rows = Items::new(alloc);
+    rows.push(row)?;
+    Ok(rows)
+}
+
+fn two_rows(alloc: Global, first: Row, second: Row) -> Result<Rows, Fail> {
+    let mut rows = one_row(alloc, first)?;
     rows.push(second)?;
     Ok(rows)
+}
+
+/// A row that fits the columns, and this one.
+fn rows_with(alloc: Global, second: Row) -> Result<Rows, Fail> {
+    two_rows(alloc, row_of(alloc, 7, X)?, second)
 }
 
 fn insert(rows: Rows) -> Result<Stmt, Fail> {
@@ -100,14 +127,30 @@ fn insert(rows: Rows) -> Result<Stmt, Fail> {
 
 fn statement(alloc: Global, ask: Ask<'_>) -> Result<Stmt, Fail> {
     match ask {
-        Ask::Create => Ok(Stmt::CreateTable {
-            name: plain_t()?,
-            columns: columns(alloc)?,
-        }),
+        Ask::Create => create(alloc, &[(b"n", Kind::Int), (b"t", Kind::Text)]),
+        Ask::CreateTwoOfOneName => create(
+            alloc,
+            &[(b"n", Kind::Int), (b"t", Kind::Text), (b"n", Kind::Int)],
+        ),
+        Ask::CreateTexts => create(
+            alloc,
+            &[
+                (b"a", Kind::Text),
+                (b"b", Kind::Text),
+                (b"c", Kind::Text),
+                (b"d", Kind::Text),
+            ],
+        ),
         Ask::Insert(pairs) => insert(rows_of(alloc, pairs)?),
         Ask::InsertTextInFront => insert(rows_with(alloc, text_in_front(alloc)?)?),
         Ask::InsertOneValue => insert(rows_with(alloc, one_value(alloc)?)?),
         Ask::InsertThreeValues => insert(rows_with(alloc, three_values(alloc)?)?),
+        Ask::InsertTexts(last) => insert(one_row(alloc, four_texts(alloc, last)?)?),
+        Ask::InsertTextsAndOneValue(last) => insert(two_rows(
+            alloc,
+            four_texts(alloc, last)?,
+            one_value(alloc)?,
+        )?),
         Ask::Select => Ok(Stmt::Dml(Dml::Select(Select { from: plain_t()? }))),
         Ask::SelectOfAnn => Ok(Stmt::Dml(Dml::Select(Select { from: t_of_ann()? }))),
     }
@@ -164,10 +207,19 @@ fn a_table_is_made_and_filled_and_read(rt: HostRuntime) -> Result<(), Fail> {
     for (ask, want) in [
         (Ask::Select, b" denied 1 NoTable\n".as_slice()),
         (Ask::Insert(&front), b" denied 1 NoTable\n".as_slice()),
+        (
+            Ask::CreateTwoOfOneName,
+            b" denied 3 TwoColumns\n".as_slice(),
+        ),
+        (Ask::Select, b" denied 1 NoTable\n".as_slice()),
         (Ask::Create, b" done 1\nok\n".as_slice()),
         (Ask::Select, b" done 1\nrows 0\n".as_slice()),
         (Ask::Insert(&front), b" done 1\nchanged 3\n".as_slice()),
         (Ask::Create, b" denied 5 TableExists\n".as_slice()),
+        (
+            Ask::CreateTwoOfOneName,
+            b" denied 3 TwoColumns\n".as_slice(),
+        ),
         (
             Ask::Select,
             b" done 1\nrows 3\n1,'x'\n2,'x'\n2,'x'\n".as_slice(),
@@ -210,6 +262,30 @@ fn rows_are_answered_in_order(rt: HostRuntime) -> Result<(), Fail> {
         let is_so = answers(rt.alloc(), &mut database, b"ann", 1, ask, want)?;
         assert!(rt; is_so, "{}", String::from_utf8_lossy(rt.alloc(), want)?);
     }
+    Ok(())
+}
+
+// Texts of 255 bytes take 258, and the last one takes 3 more than it has: 3 * 258 + 250 = 1,024.
+#[test]
+fn a_row_has_a_most_of_bytes(rt: HostRuntime) -> Result<(), Fail> {
+    let mut database = Database::new(rt.alloc());
+    for (ask, want) in [
+        (Ask::InsertTexts(248), b" denied 1 NoTable\n".as_slice()),
+        (Ask::CreateTexts, b" done 1\nok\n".as_slice()),
+        (Ask::InsertTexts(247), b" done 1\nchanged 1\n".as_slice()),
+        (Ask::InsertTexts(248), b" denied 16 TableFull\n".as_slice()),
+        (
+            Ask::InsertTextsAndOneValue(248),
+            b" denied 4 WrongType\n".as_slice(),
+        ),
+        (Ask::InsertTexts(247), b" done 1\nchanged 1\n".as_slice()),
+    ] {
+        let is_so = answers(rt.alloc(), &mut database, b"ann", 1, ask, want)?;
+        assert!(rt; is_so, "{}", String::from_utf8_lossy(rt.alloc(), want)?);
+    }
+    let name = t_of_ann()?.resolve(ident(b"ann")?, site(1)?);
+    let table = database.table(&name).ok_or("no table")?;
+    assert_eq!(rt; table.rows.len(), 2);
     Ok(())
 }
 

@@ -1,7 +1,7 @@
 -- The fields of messages: what is read is what is spelled, and nothing is spelled in two ways.
-use Rattle.std.proofs.Common.{◌≡◌, ℕ, ◌^◌, ◌<◌, ◌≤◌, Bool, cond, true, false, ◌&&◌, leb, ltb, List, [], ◌∷◌, ◌++◌, length, Option, Some, None, refl, sym, ap, subst, ◌∙◌, arith, append_assoc}
+use Rattle.std.proofs.Common.{◌≡◌, ℕ, ◌^◌, ◌<◌, ◌≤◌, Bool, cond, true, ◌&&◌, leb, List, [], ◌∷◌, ◌++◌, length, Option, Some, None, refl, sym, ap, subst, ◌∙◌, arith, append_assoc}
 use Rattle.std.specs.Int.{w32, w64, to_be_bytes}
-use Rattle.std.proofs.lemmas.Bool.{and_parts, and_from, leb-true, le-leb, ltb-true, lt-ltb}
+use Rattle.std.proofs.lemmas.Bool.{and_parts, and_from, leb-true, le-leb}
 use Rattle.std.proofs.lemmas.Option.{same_Some, cond_some}
 use Rattle.rs_base.specs.Ident.{is_ident}
 use Rattle.rs_base.specs.Reading.{◌>>=◌}
@@ -9,7 +9,7 @@ use Rattle.rs_base.specs.declared.txn.Origin.{Origin}
 use Rattle.rs_codec.specs.Spelling.{IsByte, IsU32, IsU64, IsText, Takes}
 use Rattle.rs_codec.specs.Laws.{IsReadBy, IsSpelledOnce}
 use Rattle.rs_codec.specs.Reader.{byte_at, u32_at, u64_at, text_at}
-use Rattle.rs_codec.proofs.Readers.{bind_some, bind_at, chosen, read_by, read_again, byte_read, u32_read, u64_read, text_read}
+use Rattle.rs_codec.proofs.Readers.{bind_some, bind_at, read_by, read_again, byte_read, u32_read, u64_read, text_read}
 use Rattle.rs_codec.proofs.Writers.{once_text}
 use Rattle.rs_msg.specs.declared.message.Ask.{Ask}
 use Rattle.rs_msg.specs.declared.message.ReplyPart.{ReplyPart}
@@ -110,9 +110,9 @@ ask_taken bytes r1 r2 r3 r4 rest user text ask within user_is text_is e1 e2 e3 e
       spelling = user ++ epoch ++ number ++ part ++ text;
       spelled = record { within = within; user = user; user_is = user_is; text = text; text_is = text_is; parts = refl };
       parts = joins bytes (user ++ epoch ++ number ++ part) r4 text rest
-        (joins bytes (user ++ epoch ++ number) r3 part r4
+          (joins bytes (user ++ epoch ++ number) r3 part r4
           (joins bytes (user ++ epoch) r2 number r3
-            (joins bytes user r1 epoch r2 e1 e2) e3) e4) e5;
+          (joins bytes user r1 epoch r2 e1 e2) e3) e4) e5;
     }
 
 ask_back : (bytes rest : List ℕ) (ask : Ask) → ask_at bytes ≡ Some (ask, rest) → Takes IsAsk bytes rest ask
@@ -131,7 +131,7 @@ ask_back bytes rest ask e =
     let found : Ask = record { user = a.0.0; epoch = b.0.0; number = c.0.0; part = d.0.0; text = f.0.0 } in
     let within : IsAskWithin found = record { user = user.spelled.1; epoch = epoch.0; number = number.0; part = part.0; text = leb-true (length f.0.0) ask_limit text.spelled.1 } in
     subst (λ (p : Ask × List ℕ). Takes IsAsk bytes p.1 p.0) (same_Some (found, f.0.1) (ask, rest) f.2)
-      (ask_taken bytes a.0.1 b.0.1 c.0.1 d.0.1 f.0.1 user.spelling text.spelling found within user.spelled.0 text.spelled.0 user.parts epoch.1 number.1 part.1 text.parts)
+    (ask_taken bytes a.0.1 b.0.1 c.0.1 d.0.1 f.0.1 user.spelling text.spelling found within user.spelled.0 text.spelled.0 user.parts epoch.1 number.1 part.1 text.parts)
 
 ask_forth : (spelling rest : List ℕ) (ask : Ask) → IsAsk spelling ask → ask_at (spelling ++ rest) ≡ Some (ask, rest)
 unfolding ask_at
@@ -144,10 +144,10 @@ ask_forth spelling rest ask is =
     let one = ap user_at parts ∙ read_again (IsTested IsText text_at is_ident) user_at user_read is.user epoch ask.user (is.user_is, is.within.user) in
     let five = read_again (IsTested IsText text_at (is_short ask_limit)) (short_text_at ask_limit) (short_read ask_limit) is.text rest ask.text (is.text_is, le-leb (length ask.text) ask_limit is.within.text) in
     bind_at (user_at (spelling ++ rest)) _ (ask.user, epoch) one
-      ∙ bind_at (u32_at epoch) _ (ask.epoch, number) (reads_u32 number ask.epoch is.within.epoch)
-      ∙ bind_at (u64_at number) _ (ask.number, part) (reads_u64 part ask.number is.within.number)
-      ∙ bind_at (u32_at part) _ (ask.part, text) (reads_u32 text ask.part is.within.part)
-      ∙ bind_at (short_text_at ask_limit text) _ (ask.text, rest) five
+    ∙ bind_at (u32_at epoch) _ (ask.epoch, number) (reads_u32 number ask.epoch is.within.epoch)
+    ∙ bind_at (u64_at number) _ (ask.number, part) (reads_u64 part ask.number is.within.number)
+    ∙ bind_at (u32_at part) _ (ask.part, text) (reads_u32 text ask.part is.within.part)
+    ∙ bind_at (short_text_at ask_limit text) _ (ask.text, rest) five
 
 pub ask_read : IsReadBy IsAsk ask_at
 ask_read = read_by IsAsk ask_at ask_forth ask_back
@@ -188,7 +188,7 @@ origin_back bytes rest origin e =
     let within : IsOriginWithin found = record { site = site_from a.0.0 site.spelled.1; user = user.spelled.1; epoch = epoch.0; number = number.0 } in
     let first : bytes ≡ a.0.0 ∷ a.0.1 = site.parts ∙ ap (λ (bs : List ℕ). bs ++ a.0.1) site.spelled.0.1 in
     subst (λ (p : Origin × List ℕ). Takes IsOrigin bytes p.1 p.0) (same_Some (found, d.0.1) (origin, rest) d.2)
-      (origin_taken bytes a.0.1 b.0.1 c.0.1 d.0.1 user.spelling found within user.spelled.0 first user.parts epoch.1 number.1)
+    (origin_taken bytes a.0.1 b.0.1 c.0.1 d.0.1 user.spelling found within user.spelled.0 first user.parts epoch.1 number.1)
 
 origin_forth : (spelling rest : List ℕ) (origin : Origin) → IsOrigin spelling origin → origin_at (spelling ++ rest) ≡ Some (origin, rest)
 unfolding origin_at
@@ -200,9 +200,9 @@ origin_forth spelling rest origin is =
     let small : origin.site < 256 = omega (arith, is.within.site.1) in
     let one = ap site_at parts ∙ read_again (IsTested IsByte byte_at is_site) site_at site_read (origin.site ∷ []) user origin.site ((small, refl), site_to origin.site is.within.site) in
     bind_at (site_at (spelling ++ rest)) _ (origin.site, user) one
-      ∙ bind_at (user_at user) _ (origin.user, epoch) (read_again (IsTested IsText text_at is_ident) user_at user_read is.user epoch origin.user (is.user_is, is.within.user))
-      ∙ bind_at (u32_at epoch) _ (origin.epoch, number) (reads_u32 number origin.epoch is.within.epoch)
-      ∙ bind_at (u64_at number) _ (origin.number, rest) (reads_u64 rest origin.number is.within.number)
+    ∙ bind_at (user_at user) _ (origin.user, epoch) (read_again (IsTested IsText text_at is_ident) user_at user_read is.user epoch origin.user (is.user_is, is.within.user))
+    ∙ bind_at (u32_at epoch) _ (origin.epoch, number) (reads_u32 number origin.epoch is.within.epoch)
+    ∙ bind_at (u64_at number) _ (origin.number, rest) (reads_u64 rest origin.number is.within.number)
 
 pub origin_read : IsReadBy IsOrigin origin_at
 origin_read = read_by IsOrigin origin_at origin_forth origin_back
@@ -218,7 +218,7 @@ reply_taken bytes r1 r2 r3 rest origin said reply within origin_is said_is e1 e2
       spelling = origin ++ part ++ all ++ said;
       spelled = record { within = within; origin = origin; origin_is = origin_is; said = said; said_is = said_is; parts = refl };
       parts = joins bytes (origin ++ part ++ all) r3 said rest
-        (joins bytes (origin ++ part) r2 all r3
+          (joins bytes (origin ++ part) r2 all r3
           (joins bytes origin r1 part r2 e1 e2) e3) e4;
     }
 
@@ -236,7 +236,7 @@ reply_back bytes rest reply e =
     let found : ReplyPart = record { origin = a.0.0; part = b.0.0; parts = c.0.0; bytes = d.0.0 } in
     let within : IsReplyWithin found = record { origin = origin.spelled.within; part = part.0; parts = all.0; bytes = said.spelled.counted.below } in
     subst (λ (p : ReplyPart × List ℕ). Takes IsReply bytes p.1 p.0) (same_Some (found, d.0.1) (reply, rest) d.2)
-      (reply_taken bytes a.0.1 b.0.1 c.0.1 d.0.1 origin.spelling said.spelling found within origin.spelled said.spelled origin.parts part.1 all.1 said.parts)
+    (reply_taken bytes a.0.1 b.0.1 c.0.1 d.0.1 origin.spelling said.spelling found within origin.spelled said.spelled origin.parts part.1 all.1 said.parts)
 
 reply_forth : (spelling rest : List ℕ) (reply : ReplyPart) → IsReply spelling reply → reply_at (spelling ++ rest) ≡ Some (reply, rest)
 unfolding reply_at
@@ -247,9 +247,9 @@ reply_forth spelling rest reply is =
     let parts : spelling ++ rest ≡ is.origin ++ part = spread_4 spelling is.origin (to_be_bytes w32 reply.part) (to_be_bytes w32 reply.parts) is.said rest is.parts in
     let one = ap origin_at parts ∙ read_again IsOrigin origin_at origin_read is.origin part reply.origin is.origin_is in
     bind_at (origin_at (spelling ++ rest)) _ (reply.origin, part) one
-      ∙ bind_at (u32_at part) _ (reply.part, all) (reads_u32 all reply.part is.within.part)
-      ∙ bind_at (u32_at all) _ (reply.parts, said) (reads_u32 said reply.parts is.within.parts)
-      ∙ bind_at (text_at said) _ (reply.bytes, rest) (read_again IsText text_at text_read is.said rest reply.bytes is.said_is)
+    ∙ bind_at (u32_at part) _ (reply.part, all) (reads_u32 all reply.part is.within.part)
+    ∙ bind_at (u32_at all) _ (reply.parts, said) (reads_u32 said reply.parts is.within.parts)
+    ∙ bind_at (text_at said) _ (reply.bytes, rest) (read_again IsText text_at text_read is.said rest reply.bytes is.said_is)
 
 pub reply_read : IsReadBy IsReply reply_at
 reply_read = read_by IsReply reply_at reply_forth reply_back

@@ -1,22 +1,21 @@
 -- Whole messages: what is read is what is spelled, and each message is spelled in one way.
-use Rattle.std.proofs.Common.{◌≡◌, ℕ, ◌^◌, ◌<◌, ◌≤◌, Bool, cond, true, false, ◌&&◌, ◌⊎◌, eqb, leb, List, [], ◌∷◌, ◌++◌, length, Option, Some, None, Result, Ok, Err, IfOk, IsTrue, refl, sym, ap, subst, ◌∙◌, arith, inl, inr}
+use Rattle.std.proofs.Common.{◌≡◌, ℕ, ◌^◌, ◌<◌, ◌≤◌, cond, ◌&&◌, eqb, leb, List, [], ◌∷◌, ◌++◌, length, Option, Some, None, Result, Ok, Err, IfOk, IsTrue, refl, sym, ap, subst, ◌∙◌, arith, inl, inr}
 use Rattle.std.proofs.lemmas.Bool.{and_parts, leb-true, eqb-true}
 use Rattle.std.proofs.lemmas.List.{append-nil}
 use Rattle.std.proofs.lemmas.Option.{same_Some}
 use Rattle.rs_base.specs.Ident.{is_ident, begins_with_letter, are_name_bytes}
 use Rattle.rs_base.specs.Reading.{◌>>=◌, Gives}
 use Rattle.rs_base.specs.declared.fault.ReadFault.{ReadFault}
-use Rattle.rs_codec.specs.Spelling.{Takes}
 use Rattle.rs_codec.specs.Reader.{byte_at}
 use Rattle.rs_codec.specs.Written.{text_bytes}
-use Rattle.rs_codec.proofs.Readers.{bind_some, bind_at, chosen, either, read_again}
+use Rattle.rs_codec.proofs.Readers.{bind_some, chosen, either, read_again}
 use Rattle.rs_codec.proofs.Writers.{written_text}
 use Rattle.rs_msg.specs.declared.message.Ask.{Ask}
 use Rattle.rs_msg.specs.declared.message.ReplyPart.{ReplyPart}
 use Rattle.rs_msg.specs.declared.message.Message.{Message}
 use Rattle.rs_msg.specs.declared.message.Message.TheVariants as messages
 use Rattle.rs_msg.specs.Limits.{IsWithin}
-use Rattle.rs_msg.specs.Message.{mark, IsAsk, IsOrigin, IsReply, IsMessage}
+use Rattle.rs_msg.specs.Message.{mark, IsAsk, IsReply, IsMessage}
 use Rattle.rs_msg.specs.Reader.{ask_at, reply_at, as_ask, as_reply, fields_at, kind_at, message_at, alone, message_of}
 use Rattle.rs_msg.specs.Written.{ask_bytes, origin_bytes, reply_bytes, message_bytes}
 use Rattle.rs_msg.proofs.Parts.{takes_byte, ask_read, reply_read, once_ask, once_reply}
@@ -100,25 +99,31 @@ length_ident bytes is =
 pub written_message : (m : Message) → IsWithin m → IsMessage (message_bytes m) m
 unfolding ask_bytes origin_bytes reply_bytes
 written_message (messages.Ask ask) w =
-    let small : length ask.user < 2 ^ 64 = omega (arith, length_ident ask.user w.user) in
-    (ask_bytes ask, record {
-      within = w;
-      user = text_bytes ask.user;
-      user_is = written_text ask.user small;
-      text = text_bytes ask.text;
-      text_is = written_text ask.text (omega (arith, w.text));
-      parts = refl;
-    }, refl)
+    let small : length ask.user < 2 ^ 64 = omega (arith, length_ident ask.user w.user) in (
+      ask_bytes ask,
+      record {
+        within = w;
+        user = text_bytes ask.user;
+        user_is = written_text ask.user small;
+        text = text_bytes ask.text;
+        text_is = written_text ask.text (omega (arith, w.text));
+        parts = refl;
+      },
+      refl,
+    )
 written_message (messages.Reply reply) w =
-    let small : length reply.origin.user < 2 ^ 64 = omega (arith, length_ident reply.origin.user w.origin.user) in
-    (reply_bytes reply, record {
-      within = w;
-      origin = origin_bytes reply.origin;
-      origin_is = record { within = w.origin; user = text_bytes reply.origin.user; user_is = written_text reply.origin.user small; parts = refl };
-      said = text_bytes reply.bytes;
-      said_is = written_text reply.bytes w.bytes;
-      parts = refl;
-    }, refl)
+    let small : length reply.origin.user < 2 ^ 64 = omega (arith, length_ident reply.origin.user w.origin.user) in (
+      reply_bytes reply,
+      record {
+        within = w;
+        origin = origin_bytes reply.origin;
+        origin_is = record { within = w.origin; user = text_bytes reply.origin.user; user_is = written_text reply.origin.user small; parts = refl };
+        said = text_bytes reply.bytes;
+        said_is = written_text reply.bytes w.bytes;
+        parts = refl;
+      },
+      refl,
+    )
 
 pub written_read : (m : Message) → IsWithin m → message_of (message_bytes m) ≡ Some m
 written_read m w = forth (message_bytes m) m (written_message m w)

@@ -1,5 +1,5 @@
 -- The limits of what messages hold: those of the fields' types, and of a request's text.
-use Rattle.std.specs.Prelude.{ℕ, ◌^◌, ◌<◌, ◌≤◌, List, length, IsTrue}
+use Rattle.std.specs.Prelude.{ℕ, ◌^◌, ◌<◌, ◌≤◌, length, IsTrue}
 use Rattle.rs_base.specs.Ident.{is_ident}
 use Rattle.rs_base.specs.declared.txn.Origin.{Origin}
 use Rattle.rs_msg.specs.declared.message.Ask.{Ask}

@@ -6,8 +6,8 @@ ghost use Rattle.rs_msg.specs.declared.message.Message.{Message};
 ghost use Rattle.rs_msg.specs.Message.{IsMessage};
 ghost use Rattle.rs_msg.specs.Reader as reader;
 
-use crate::put::{ASK, MARK, REPLY};
 use crate::message::{ASK_LIMIT, Ask, Message, ReplyPart};
+use crate::put::{ASK, MARK, REPLY};
 use rs_base::{Bytes, Ident, Origin, ReadFault, SiteNo};
 use rs_codec::Fields;
 use std::alloc::Global;

@@ -3,13 +3,18 @@ use rs_base::{Bytes, Ident, NoMemory, Origin, ReadFault, SiteNo};
 use std::alloc::Global;
 use std::test::*;
 
-const ASK: &[u8] = b"\x52\x01\x03ann\x00\x00\x00\x01\x00\x00\x00\x00\x00\x00\x00\x02\x00\x00\x00\x00\x0fSELECT * FROM t";
+const ASK: &[u8] =
+    b"\x52\x01\x03ann\x00\x00\x00\x01\x00\x00\x00\x00\x00\x00\x00\x02\x00\x00\x00\x00\x0fSELECT * FROM t";
 
-const REPLY: &[u8] = b"\x52\x02\x03\x05bob_2\x00\x00\x00\x07\x01\x02\x03\x04\x05\x06\x07\x08\x00\x00\x00\x01\x00\x00\x00\x02\x03ok\n";
+const REPLY: &[u8] =
+    b"\x52\x02\x03\x05bob_2\x00\x00\x00\x07\x01\x02\x03\x04\x05\x06\x07\x08\x00\x00\x00\x01\x00\x00\x00\x02\x03ok\n";
 
 /// What stands before the text of a request whose text is 128 times 64 bytes, and one more.
-const LONGEST: &[u8] = b"\x52\x01\x01a\x00\x00\x00\x01\x00\x00\x00\x00\x00\x00\x00\x02\x00\x00\x00\x00\x80\x40";
-const LONGER: &[u8] = b"\x52\x01\x01a\x00\x00\x00\x01\x00\x00\x00\x00\x00\x00\x00\x02\x00\x00\x00\x00\x81\x40";
+const LONGEST: &[u8] =
+    b"\x52\x01\x01a\x00\x00\x00\x01\x00\x00\x00\x00\x00\x00\x00\x02\x00\x00\x00\x00\x80\x40";
+
+const LONGER: &[u8] =
+    b"\x52\x01\x01a\x00\x00\x00\x01\x00\x00\x00\x00\x00\x00\x00\x02\x00\x00\x00\x00\x81\x40";
 
 const REFUSED: [&[u8]; 14] = [
     b"",
@@ -56,13 +61,14 @@ fn ask_is_written_and_read(rt: HostRuntime) -> Result<(), Fail> {
 fn reply_is_written_and_read(rt: HostRuntime) -> Result<(), Fail> {
     let site = SiteNo::new(3).ok_or("a site")?;
     let user = Ident::new(b"bob_2").ok_or("an identifier")?;
+    let origin = Origin {
+        site,
+        user,
+        epoch: 7,
+        number: 0x0102030405060708,
+    };
     let message = Message::Reply(ReplyPart {
-        origin: Origin {
-            site,
-            user,
-            epoch: 7,
-            number: 0x0102030405060708,
-        },
+        origin,
         part: 1,
         parts: 2,
         bytes: Bytes::from_slice(rt.alloc(), b"ok\n")?,
@@ -75,10 +81,7 @@ fn reply_is_written_and_read(rt: HostRuntime) -> Result<(), Fail> {
     let Ok(Message::Reply(reply)) = decode(rt.alloc(), REPLY) else {
         return Err(Fail::from("another message"));
     };
-    assert_eq!(rt; reply.origin.site.number(), 3);
-    assert_eq!(rt; reply.origin.user.as_bytes(), b"bob_2".as_slice());
-    assert_eq!(rt; reply.origin.epoch, 7);
-    assert_eq!(rt; reply.origin.number, 0x0102030405060708);
+    assert_eq!(rt; reply.origin, origin);
     assert_eq!(rt; (reply.part, reply.parts), (1, 2));
     assert_eq!(rt; reply.bytes.as_slice(), b"ok\n".as_slice());
     Ok(())

@@ -70,3 +70,25 @@ fn values_are_ordered_and_copied(rt: HostRuntime) -> Result<(), Fail> {
     assert_eq!(rt; copy.as_slice(), row.as_slice());
     Ok(())
 }
+
+#[test]
+fn integers_are_counted_from_the_small_ones(rt: HostRuntime) {
+    for (n, count) in [(0, 0), (-1, 1), (1, 2), (-2, 3), (i64::MIN, u64::MAX)] {
+        assert_eq!(rt; count_of(n), count);
+    }
+}
+
+#[test]
+fn rows_have_sizes(rt: HostRuntime) -> Result<(), Fail> {
+    let mut row = Row::new(rt.alloc());
+    assert_eq!(rt; row_size(row.as_slice()), 0);
+    row.push(Value::Int(300))?;
+    row.push(Value::Text(Txt::new(rt.alloc(), b"ab")?))?;
+    assert_eq!(rt; row_size(row.as_slice()), 7);
+    for (n, size) in [(63, 2), (64, 3), (-64, 2), (-65, 3), (i64::MAX, 11)] {
+        let mut row = Row::new(rt.alloc());
+        row.push(Value::Int(n))?;
+        assert_eq!(rt; row_size(row.as_slice()), size);
+    }
+    Ok(())
+}

@@ -1,6 +1,6 @@
-use Rattle.std.proofs.Common.{◌≡◌, arith, refl}
-use Rattle.rs_base.specs.Sizes.{count_size, groups_within}
-use Rattle.rs_base.proofs.SizeLaws.{groups_last, counts_more}
+use Rattle.std.proofs.Common.{arith, refl}
+use Rattle.rs_base.specs.Sizes.{groups_within}
+use Rattle.rs_base.proofs.SizeLaws.{counts_more}
 use Rattle.rs_base.proofs.size.count_size.Goals as goal
 
 pub loop-size-init : goal.loop-size-init

@@ -1,5 +1,5 @@
-use Rattle.rs_codec.proofs.Writers.{length_count}
+use Rattle.rs_codec.proofs.Spellings.{length_of_count}
 use Rattle.rs_codec.proofs.laws.length_of_count.Goals as goal
 
 pub returns : goal.returns
-returns c = length_count
+returns c = length_of_count

@@ -1,0 +1,28 @@
+-- How large rows and tables may be.
+use Rattle.std.specs.Prelude.{ℕ, Bool, ◌&&◌, nat_le, List, length, sum_by}
+use Rattle.rs_base.specs.declared.value.Value.{Value}
+use Rattle.rs_base.specs.Sizes.{row_size}
+
+-- the most bytes of a row
+abbrev pub max_row_bytes : ℕ
+max_row_bytes = 1024
+
+-- the most rows of a table
+abbrev pub max_rows : ℕ
+max_rows = 65536
+
+-- the most bytes of a table
+abbrev pub max_table_bytes : ℕ
+max_table_bytes = 8388608
+
+-- the bytes of all the rows
+abbrev pub rows_size : List (List Value) → ℕ
+rows_size rows = sum_by row_size rows
+
+-- a table may hold this row
+abbrev pub fits_row : List Value → Bool
+fits_row row = nat_le (row_size row) max_row_bytes
+
+-- a table may hold all these rows
+abbrev pub fits_rows : List (List Value) → Bool
+fits_rows rows = nat_le (length rows) max_rows && nat_le (rows_size rows) max_table_bytes

@@ -1,0 +1,26 @@
+//! The names of a table's columns.
+
+ghost use Rattle.std.specs.Prelude.{◌≡◌};
+ghost use Rattle.rs_mean.specs.Columns as spec;
+
+use rs_ast::ColDef;
+use rs_base::Ident;
+
+fn has_name(columns: &[ColDef], name: Ident) -> bool
+    ensures { result ≡ spec.has_name columns.now name }
+{
+    columns.iter().any(|column| column.name == name)
+}
+
+/// Whether no two columns have one name. It takes time proportional to the square of their number.
+pub(crate) fn names_differ(columns: &[ColDef]) -> bool
+    ensures { result ≡ spec.names_differ columns.now }
+{
+    let [first, others @ ..] = columns else {
+        return true;
+    };
+    if has_name(others, first.name) {
+        return false;
+    }
+    names_differ(others)
+}
