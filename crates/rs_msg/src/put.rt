@@ -21,9 +21,8 @@ pub const REPLY: u8 = 2;
 
 #[tactic(auto, unfolding(crate::specs::Written::ask_bytes))]
 fn put_ask(alloc: Global, out: &mut Bytes, ask: &Ask) -> Result<(), NoMemory>
-    requires { length ask.now.text ≤ ask_limit }
     ensures ok { OnOk result (out.new ≡ out.old ++ written.ask_bytes ask.now) }
-    ensures within { OnOk result (IsAskWithin ask.now) }
+    ensures within { length ask.now.text ≤ ask_limit → OnOk result (IsAskWithin ask.now) }
 {
     put_text(alloc, out, ask.user.as_bytes())?;
     put_u32(out, ask.epoch)?;
@@ -62,9 +61,8 @@ fn put_kind(out: &mut Bytes, kind: u8) -> Result<(), NoMemory>
 }
 
 fn put_message(alloc: Global, out: &mut Bytes, message: &Message) -> Result<(), NoMemory>
-    requires { HasRoom message.now }
     ensures ok { OnOk result (out.new ≡ out.old ++ written.message_bytes message.now) }
-    ensures within { OnOk result (IsWithin message.now) }
+    ensures within { HasRoom message.now → OnOk result (IsWithin message.now) }
 {
     match message {
         Message::Ask(ask) => {
@@ -78,11 +76,11 @@ fn put_message(alloc: Global, out: &mut Bytes, message: &Message) -> Result<(), 
     }
 }
 
-/// Puts the spelling of a message at the end of `out`. Where memory is wanting `out` stays as it was.
+/// Puts the bytes of a message at the end of `out`. They spell it where its text is not too long. Where memory is
+/// wanting `out` stays as it was.
 pub fn encode(alloc: Global, message: &Message, out: &mut Bytes) -> Result<(), NoMemory>
-    requires fits { HasRoom message.now }
     ensures ok { OnOk result (out.new ≡ out.old ++ written.message_bytes message.now) }
-    ensures spelled { OnOk result (IsMessage (written.message_bytes message.now) message.now) }
+    ensures spelled { HasRoom message.now → OnOk result (IsMessage (written.message_bytes message.now) message.now) }
     ensures err { OnErr result (out.new ≡ out.old) }
 {
     let mut whole = Bytes::new(alloc);

@@ -1,4 +1,5 @@
 pub mod AtEach
+pub mod Deliveries
 pub mod Entered
 pub mod Entering
 pub mod Explaining
@@ -9,6 +10,8 @@ pub mod HistoryFields
 pub mod Holding
 pub mod Kept
 pub mod Messages
+pub mod Opened
+pub mod Places
 pub mod Played
 pub mod Refusals
 pub mod Reported

@@ -1,5 +1,5 @@
 -- The course of events: what the world is after each. An event is a list of happenings, and the world is a fold of them.
-use Rattle.std.specs.Prelude.{ℕ, ◌+◌, ◌-◌, List, [], ◌∷◌, ◌++◌, map, fold, flat_map, replicate, set, Option, Some, None}
+use Rattle.std.specs.Prelude.{ℕ, ◌+◌, ◌-◌, List, [], ◌∷◌, ◌++◌, map, slice_set, fold, flat_map, replicate, Option, Some, None}
 use Rattle.std.specs.List.{slice_get, range_with_len}
 use Rattle.rs_base.specs.declared.peer.Peer.{Peer}
 use Rattle.rs_base.specs.declared.peer.Peer.TheVariants as peers
@@ -48,7 +48,7 @@ abbrev pub stepped : World → ℕ → Input → Option SiteState → World
 stepped world number input None = world
 stepped world number input (Some site) =
     let step = site_step site input in
-    after_outs (record world { sites = set world.sites (number - 1) step.0 }) number step.1
+    after_outs (record world { sites = slice_set world.sites (number - 1) step.0 }) number step.1
 
 -- the site of this number takes an input, where there is one
 abbrev pub taken_by : World → ℕ → Input → World

@@ -4,3 +4,4 @@ pub mod Explains
 pub mod History
 pub mod Moments
 pub mod ReportText
+pub mod Sites

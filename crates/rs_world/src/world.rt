@@ -1,6 +1,6 @@
 //! A world of sites, and what happens to it.
 
-ghost use Rattle.std.specs.Prelude.{◌≡◌, OnOk, IfOk, List, false, IsTrue};
+ghost use Rattle.std.specs.Prelude.{◌≡◌, List, false, IsTrue, OnOk, IfOk};
 ghost use Rattle.rs_sched.specs.declared.event.Event.{Event};
 ghost use Rattle.rs_sched.specs.Schedule.{IsValid};
 ghost use Rattle.rs_world.specs.Accepted.{are_accepted};
@@ -8,9 +8,10 @@ ghost use Rattle.rs_world.specs.Course as spec;
 ghost use Rattle.rs_world.specs.Explains.{Explains};
 
 use crate::report::{ReplyList, Report};
+use crate::sites::Sites;
 use rs_base::{Bytes, NoMemory, Peer, SiteNo};
 use rs_sched::Event;
-use rs_site::{Decideds, Site};
+use rs_site::Decideds;
 use sqlite_items::Items;
 use std::alloc::Global;
 
@@ -26,7 +27,7 @@ pub struct Datagram {
 /// the committed executions, in their order.
 #[derive(Drop)]
 pub struct World {
-    pub sites: Items<Site>,
+    pub sites: Sites,
     pub sent: Items<Datagram>,
     pub delivered: usize,
     pub replies: ReplyList,
@@ -37,18 +38,60 @@ impl World {
     /// The world before the first event.
     pub fn new(alloc: Global) -> World
         ensures { result ≡ spec.start }
+    {
+        World {
+            sites: Sites::new(alloc),
+            sent: Items::new(alloc),
+            delivered: 0,
+            replies: ReplyList::new(alloc),
+            history: Decideds::new(alloc),
+        }
+    }
 
     /// What becomes of the world by an event. The time goes with the bytes of the event and of the datagrams that it
     /// delivers. After `NoMemory` the world is used no more.
     pub fn step(&mut self, alloc: Global, event: &Event) -> Result<(), NoMemory>
         ensures { OnOk result (self.new ≡ spec.world_step self.old event.now) }
+    {
+        match event {
+            Event::Sites(last) => self.open_sites(alloc, *last),
+            Event::Ask { origin, text } => self.post(alloc, origin, text),
+            Event::Settle(None) => self.settle(alloc),
+            Event::Noise(site, bytes) => self.hear_noise(alloc, *site, bytes),
+            Event::Settle(Some(_)) => Ok(()),
+            Event::Deliver(_) | Event::Lose(_) => Ok(()),
+            Event::Tick(_, _) | Event::Stop(_, _, _) => Ok(()),
+            Event::Arm(_, _, _, _) | Event::Restart(_) => Ok(()),
+        }
+    }
 
     /// The world after these events.
     pub fn play(alloc: Global, events: &[Event]) -> Result<World, NoMemory>
         ensures { IfOk result (λ world. world ≡ spec.course events.now) }
+    {
+        let mut world = World::new(alloc);
+        for event in events {
+            world.step(alloc, event)?;
+        }
+        Ok(world)
+    }
 
     /// What the world reports. It explains each valid and accepted list of events by which the world came to be.
     pub fn into_report(self, alloc: Global) -> Result<Report, NoMemory>
         ensures value { IfOk result (λ report. report ≡ spec.report_of self) }
-        ensures explains { (events : List Event) → IsValid events → IsTrue (are_accepted false events) → self ≡ spec.course events → IfOk result (λ report. Explains events report) }
+        ensures explains { IfOk result (λ report. (events : List Event) → IsValid events → IsTrue (are_accepted false events) → self ≡ spec.course events → Explains events report) }
+    {
+        let World {
+            sites,
+            replies,
+            history,
+            ..
+        } = self;
+        Ok(Report {
+            replies,
+            history,
+            runs: 0,
+            sites: sites.into_views(alloc)?,
+        })
+    }
 }

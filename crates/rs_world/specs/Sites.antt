@@ -1,0 +1,14 @@
+-- The sites of a world: what they are, and what comes out, where the one of a place takes an input.
+use Rattle.std.specs.Prelude.{ℕ, List, slice_set, Option, Some, None}
+use Rattle.rs_site.specs.declared.input.Input.{Input}
+use Rattle.rs_site.specs.declared.outs.Outs.{Outs}
+use Rattle.rs_site.specs.State.{SiteState}
+use Rattle.rs_site.specs.Step.{site_step}
+
+abbrev pub sites_after : List SiteState → ℕ → Input → Option SiteState → List SiteState
+sites_after sites place input None = sites
+sites_after sites place input (Some site) = slice_set sites place (site_step site input).0
+
+abbrev pub outs_of : Input → Option SiteState → Option Outs
+outs_of input None = None
+outs_of input (Some site) = Some (site_step site input).1

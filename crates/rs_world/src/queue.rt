@@ -1,0 +1,18 @@
+//! Lists whose items are moved out, from the first on.
+
+ghost use Rattle.std.specs.Prelude.{◌≡◌, reverse, IfOk};
+
+use rs_base::NoMemory;
+use sqlite_items::Items;
+use std::alloc::Global;
+
+/// The items in reverse order, so that the last that is taken out of them is the last of `items`.
+pub fn turned<T: Drop>(alloc: Global, mut items: Items<T>) -> Result<Items<T>, NoMemory>
+    ensures { IfOk result (λ turned. reverse turned ≡ items) }
+{
+    let mut turned = Items::new(alloc);
+    while let Some(item) = items.pop() {
+        turned.push(item)?;
+    }
+    Ok(turned)
+}

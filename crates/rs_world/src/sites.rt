@@ -1,0 +1,82 @@
+//! The sites of a world.
+
+ghost use Rattle.std.specs.Prelude.{◌≡◌, ◌-◌, [], map, IfOk, slice_get};
+ghost use Rattle.std.specs.List.{range_with_len};
+ghost use Rattle.rs_site.specs.State.{opened};
+ghost use Rattle.rs_world.specs.Course.{view_of};
+ghost use Rattle.rs_world.specs.Sites as spec;
+
+use crate::report::{SiteView, SiteViews};
+use rs_base::{NoMemory, SiteNo};
+use rs_site::{Input, Outs, Site};
+use std::alloc::Global;
+use std::marker::Model;
+
+/// Sites 1 and up. Contracts see the list of what each is.
+#[derive(Drop)]
+pub struct Sites {
+    sites: Vec<Site>,
+}
+
+impl Model for Sites {
+    ghost use Rattle.std.specs.Prelude.{List};
+    ghost use Rattle.rs_site.specs.State.{SiteState};
+
+    ghost Value = { List SiteState };
+
+    ghost view = { λ it. it.sites.items };
+}
+
+impl Sites {
+    /// No site.
+    pub fn new(alloc: Global) -> Sites
+        ensures { result ≡ [] }
+    {
+        Sites {
+            sites: Vec::new(alloc),
+        }
+    }
+
+    /// Opens sites 1 to the last.
+    pub fn open(alloc: Global, last: SiteNo) -> Result<Sites, NoMemory>
+        ensures { IfOk result (λ sites. sites ≡ map (λ me. opened me last) (range_with_len 1 last)) }
+    {
+        let mut sites = Vec::new(alloc);
+        for before in 0..last.number() {
+            let Some(me) = SiteNo::new(before + 1) else {
+                unreachable!();
+            };
+            sites.push(Site::open(alloc, me, last)?)?;
+        }
+        Ok(Sites { sites })
+    }
+
+    /// The site of this number takes an input, where there is one. It gives what came out. After `NoMemory` the sites are
+    /// as before.
+    pub fn step(
+        &mut self,
+        alloc: Global,
+        number: SiteNo,
+        input: &Input,
+    ) -> Result<Option<Outs>, NoMemory>
+        ensures sites { IfOk result (λ _. self.new ≡ spec.sites_after self.old (number - 1) input.now (slice_get self.old (number - 1))) }
+        ensures outs { IfOk result (λ outs. outs ≡ spec.outs_of input.now (slice_get self.old (number - 1))) }
+    {
+        match self.sites.get_mut(usize::from(number.number() - 1)) {
+            Some(site) => Ok(Some(site.step(alloc, input)?)),
+            None => Ok(None),
+        }
+    }
+
+    /// What each site shows.
+    pub fn into_views(self, alloc: Global) -> Result<SiteViews, NoMemory>
+        ensures { IfOk result (λ views. views ≡ map view_of self) }
+    {
+        let Sites { sites } = self;
+        let mut views = SiteViews::new(alloc);
+        for site in sites {
+            views.push(SiteView::of(site))?;
+        }
+        Ok(views)
+    }
+}

@@ -1,0 +1,90 @@
+//! A site of the world takes an input.
+
+ghost use Rattle.std.specs.Prelude.{◌≡◌, ◌++◌, map, flat_map, OnOk};
+ghost use Rattle.rs_world.specs.Course as spec;
+
+use crate::queue::turned;
+use crate::report::{Given, ReplyList};
+use crate::world::{Datagram, World};
+use rs_base::{Bytes, Datagrams, NoMemory, Peer, SiteNo};
+use rs_site::{Input, Outs, Tolds};
+use sqlite_items::Items;
+use std::alloc::Global;
+
+/// What one send of this site adds to the datagrams: nothing where it goes to a client.
+fn send_one(
+    sent: &mut Items<Datagram>,
+    site: SiteNo,
+    to: Peer,
+    bytes: Bytes,
+) -> Result<(), NoMemory>
+    ensures { OnOk result (sent.new ≡ sent.old ++ spec.sent_by site (to, bytes)) }
+{
+    if let Peer::Site(to) = to {
+        sent.push(Datagram {
+            from: Peer::Site(site),
+            to,
+            bytes,
+        })?;
+    }
+    Ok(())
+}
+
+fn send_all(
+    alloc: Global,
+    sent: &mut Items<Datagram>,
+    site: SiteNo,
+    sends: Datagrams,
+) -> Result<(), NoMemory>
+    ensures { OnOk result (sent.new ≡ sent.old ++ flat_map (spec.sent_by site) sends) }
+{
+    let mut left = turned(alloc, sends)?;
+    while let Some((to, bytes)) = left.pop() {
+        send_one(sent, site, to, bytes)?;
+    }
+    Ok(())
+}
+
+fn give_all(alloc: Global, replies: &mut ReplyList, told: Tolds) -> Result<(), NoMemory>
+    ensures { OnOk result (replies.new ≡ replies.old ++ map spec.given_of told) }
+{
+    let mut left = turned(alloc, told)?;
+    while let Some(told) = left.pop() {
+        replies.push(Given {
+            origin: told.origin,
+            reply: told.reply,
+        })?;
+    }
+    Ok(())
+}
+
+impl World {
+    fn take_outs(&mut self, alloc: Global, site: SiteNo, outs: Outs) -> Result<(), NoMemory>
+        ensures { OnOk result (self.new ≡ spec.after_outs self.old site outs) }
+    {
+        let Outs {
+            sends,
+            replies,
+            decided,
+        } = outs;
+        send_all(alloc, &mut self.sent, site, sends)?;
+        give_all(alloc, &mut self.replies, replies)?;
+        self.history.append(decided)?;
+        Ok(())
+    }
+
+    /// The site of this number takes an input, where there is one.
+    pub(crate) fn take_input(
+        &mut self,
+        alloc: Global,
+        site: SiteNo,
+        input: &Input,
+    ) -> Result<(), NoMemory>
+        ensures { OnOk result (self.new ≡ spec.taken_by self.old site input.now) }
+    {
+        match self.sites.step(alloc, site, input)? {
+            Some(outs) => self.take_outs(alloc, site, outs),
+            None => Ok(()),
+        }
+    }
+}
