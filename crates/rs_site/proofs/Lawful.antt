@@ -34,11 +34,11 @@ IsPut user other session book =
 pub session_put : (user other : List ℕ) (session : Session) (book : Book) → IsPut user other session book
 session_put user other session book =
     let same : slice_cmp nat_cmp other user ≡ Equal → IsPut user other session book
-        = λ h.
-        let e : other ≡ user = exact_bytes other user h in
-        inl (e, ap (λ u. session_of u (with_session user session book)) e ∙ ap or_fresh (lookup_put nat_list_cmp_total user session book)) in
+    = λ h.
+    let e : other ≡ user = exact_bytes other user h in
+    inl (e, ap (λ u. session_of u (with_session user session book)) e ∙ ap or_fresh (lookup_put nat_list_cmp_total user session book)) in
     let beside : is_eq (slice_cmp nat_cmp other user) ≡ false → IsPut user other session book
-        = λ h. inr (ap or_fresh (lookup_beside nat_list_cmp_total user session other h book)) in
+    = λ h. inr (ap or_fresh (lookup_beside nat_list_cmp_total user session other h book)) in
     elim (slice_cmp nat_cmp other user) as (λ r. slice_cmp nat_cmp other user ≡ r → IsPut user other session book) [
       | Less ↦ λ h. beside (ap is_eq h)
       | Equal ↦ λ h. same h
@@ -50,12 +50,12 @@ last_rises site origin reply user next =
     let session : Session = record { last = origin.number; reply = Some reply } in
     elim (session_put origin.user user session site.sessions) [
       | inl here ↦
-        let now : last_of user (remembering site origin reply) ≡ origin.number = ap (λ s. s.last) here.1 in
-        let before : last_of user site ≡ last_of origin.user site = ap (λ u. last_of u site) here.0 in
-        omega (arith, now, before, next)
+          let now : last_of user (remembering site origin reply) ≡ origin.number = ap (λ s. s.last) here.1 in
+          let before : last_of user site ≡ last_of origin.user site = ap (λ u. last_of u site) here.0 in
+          omega (arith, now, before, next)
       | inr beside ↦
-        let now : last_of user (remembering site origin reply) ≡ last_of user site = ap (λ s. s.last) beside in
-        omega (arith, now)
+          let now : last_of user (remembering site origin reply) ≡ last_of user site = ap (λ s. s.last) beside in
+          omega (arith, now)
     ]
 
 -- ---- numbers rise
@@ -66,8 +66,8 @@ Rises site new = ((user : List ℕ) → last_of user site ≤ last_of user new) 
 numbers : (site : SiteState) (step : Step) → Kind site step → Rises site step.0
 numbers site step (inl stays) =
     let last : (user : List ℕ) → last_of user site ≤ last_of user step.0 = λ user.
-        let e : last_of user step.0 ≡ last_of user site = ap (λ t. last_of user t) stays.0 in
-        omega (arith, e) in
+    let e : last_of user step.0 ≡ last_of user site = ap (λ t. last_of user t) stays.0 in
+    omega (arith, e) in
     let e : step.0.begun ≡ site.begun = ap (λ t. t.begun) stays.0 in
     (last, omega (arith, e))
 numbers site step (inr (inl r)) =
@@ -76,9 +76,9 @@ numbers site step (inr (inl r)) =
     (λ user. subst (λ t. last_of user site ≤ last_of user t) (sym e) (last_rises site r.origin (replies.Syntax 0) user r.next), omega (arith, begun))
 numbers site step (inr (inr x)) =
     let last : (user : List ℕ) → last_of user site ≤ last_of user step.0 = λ user.
-        let e : last_of user step.0 ≡ _ = ap (λ s. last_of user s.0) x.is in
-        let rises = last_rises site x.origin _ user x.next in
-        subst (λ n. last_of user site ≤ n) (sym e) rises in
+    let e : last_of user step.0 ≡ _ = ap (λ s. last_of user s.0) x.is in
+    let rises = last_rises site x.origin _ user x.next in
+    subst (λ n. last_of user site ≤ n) (sym e) rises in
     let begun : step.0.begun ≡ site.begun + 1 = ap (λ s. s.0.begun) x.is in
     (last, omega (arith, begun))
 
@@ -98,7 +98,7 @@ commits site step (inr (inl r)) = inl (ap (λ s. s.1.decided) r.is, ap (λ s. s.
 commits site step (inr (inr x)) =
     let entry : Decided = record { txn = next_txn site; origin = x.origin; text = x.text } in
     let next : IsNextCommit site entry step.0
-        = record { txn = refl; begun = ap (λ s. s.0.begun) x.is; stmt = x.stmt; spelled = x.spelled; database = ap (λ s. s.0.database) x.is } in
+    = record { txn = refl; begun = ap (λ s. s.0.begun) x.is; stmt = x.stmt; spelled = x.spelled; database = ap (λ s. s.0.database) x.is } in
     inr (entry, ap (λ s. s.1.decided) x.is, next)
 
 pub commits_are_meaning : CommitsAreMeaning

@@ -60,9 +60,10 @@ remembering site origin reply = record site { sessions = with_session origin.use
 -- The statement is executed by the next transaction, and its outcome told.
 abbrev pub executed : SiteState → Peer → Origin → List ℕ → Stmt → SiteState × Outs
 executed site from origin text stmt =
-    let m = meaning site.database (execution_of (next_txn site) origin stmt) in
-    (record (remembering site origin (reply_of m.1)) { begun = site.begun + 1; database = m.0 },
-     record (tells from origin 0 (reply_of m.1)) { decided = (record { txn = next_txn site; origin = origin; text = text }) ∷ [] })
+    let m = meaning site.database (execution_of (next_txn site) origin stmt) in (
+      record (remembering site origin (reply_of m.1)) { begun = site.begun + 1; database = m.0 },
+      record (tells from origin 0 (reply_of m.1)) { decided = (record { txn = next_txn site; origin = origin; text = text }) ∷ [] },
+    )
 
 -- the number of the last transaction of an epoch
 abbrev pub last_number : ℕ

@@ -80,12 +80,7 @@ impl Site {
     }
 
     /// An ask comes from a peer.
-    pub(crate) fn on_ask(
-        &mut self,
-        alloc: Global,
-        from: &Peer,
-        ask: Ask,
-    ) -> Result<Outs, NoMemory>
+    pub(crate) fn on_ask(&mut self, alloc: Global, from: &Peer, ask: Ask) -> Result<Outs, NoMemory>
         ensures ok { IfOk result (λ outs. spec.on_ask self.old from.now ask ≡ (self.new, outs)) }
         ensures err { OnErr result (self.new ≡ self.old) }
     {

@@ -17,6 +17,5 @@ pub use outs::{Decided, Decideds, Outs, Told, Tolds};
 pub use session::{Session, Sessions};
 pub use site::Site;
 
-
 #[cfg(test)]
 mod tests;

@@ -19,12 +19,7 @@ const MOST_BYTES: usize = 32_768;
 
 impl Site {
     /// A message comes from a peer.
-    fn on_message(
-        &mut self,
-        alloc: Global,
-        from: &Peer,
-        message: Message,
-    ) -> Result<Outs, NoMemory>
+    fn on_message(&mut self, alloc: Global, from: &Peer, message: Message) -> Result<Outs, NoMemory>
         ensures ok { IfOk result (λ outs. spec.on_message self.old from.now message ≡ (self.new, outs)) }
         ensures err { OnErr result (self.new ≡ self.old) }
     {
@@ -35,12 +30,7 @@ impl Site {
     }
 
     /// A datagram comes from a peer.
-    fn on_datagram(
-        &mut self,
-        alloc: Global,
-        from: &Peer,
-        bytes: &[u8],
-    ) -> Result<Outs, NoMemory>
+    fn on_datagram(&mut self, alloc: Global, from: &Peer, bytes: &[u8]) -> Result<Outs, NoMemory>
         ensures ok { IfOk result (λ outs. spec.on_datagram self.old from.now bytes.now ≡ (self.new, outs)) }
         ensures err { OnErr result (self.new ≡ self.old) }
     {

@@ -63,13 +63,37 @@ fn asks_are_answered_by_their_numbers(rt: HostRuntime) -> Result<(), Fail> {
     for (asked, want, commits) in [
         (Asked(1, 1, 0, CREATE), created, 1),
         (Asked(1, 1, 0, INSERT), created, 0),
-        (Asked(1, 3, 0, CREATE), b"reply 1 ann 1 3 gap 1\n".as_slice(), 0),
-        (Asked(2, 1, 0, CREATE), b"reply 1 ann 2 1 oldepoch 1\n".as_slice(), 0),
-        (Asked(1, 2, 0, INSERT), b"reply 1 ann 1 2 done 1\nchanged 1\n".as_slice(), 1),
-        (Asked(1, 1, 0, CREATE), b"reply 1 ann 1 1 oldrequest 2\n".as_slice(), 0),
+        (
+            Asked(1, 3, 0, CREATE),
+            b"reply 1 ann 1 3 gap 1\n".as_slice(),
+            0,
+        ),
+        (
+            Asked(2, 1, 0, CREATE),
+            b"reply 1 ann 2 1 oldepoch 1\n".as_slice(),
+            0,
+        ),
+        (
+            Asked(1, 2, 0, INSERT),
+            b"reply 1 ann 1 2 done 1\nchanged 1\n".as_slice(),
+            1,
+        ),
+        (
+            Asked(1, 1, 0, CREATE),
+            b"reply 1 ann 1 1 oldrequest 2\n".as_slice(),
+            0,
+        ),
         (Asked(1, 2, 1, b""), b"".as_slice(), 0),
-        (Asked(1, 3, 0, b"no request"), b"reply 1 ann 1 3 syntax 0\n".as_slice(), 0),
-        (Asked(1, 3, 0, b"no request"), b"reply 1 ann 1 3 syntax 0\n".as_slice(), 0),
+        (
+            Asked(1, 3, 0, b"no request"),
+            b"reply 1 ann 1 3 syntax 0\n".as_slice(),
+            0,
+        ),
+        (
+            Asked(1, 3, 0, b"no request"),
+            b"reply 1 ann 1 3 syntax 0\n".as_slice(),
+            0,
+        ),
     ] {
         let input = datagram(rt.alloc(), asked)?;
         let is_so = tells_so(rt.alloc(), &mut site, &input, want, commits)?;
