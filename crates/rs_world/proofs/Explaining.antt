@@ -1,10 +1,13 @@
 -- The report of the course explains each valid and accepted list of events.
-use Rattle.std.proofs.Common.{false, List, IsTrue, refl}
+use Rattle.std.specs.Prelude.{Result, Ok, Err, IfOk}
+use Rattle.std.proofs.Common.{false, List, IsTrue, refl, subst, sym, ap, ◌∙◌, ◌≡◌}
 use Rattle.rs_sched.specs.declared.event.Event.{Event}
 use Rattle.rs_sched.specs.Schedule.{IsValid}
 use Rattle.rs_world.specs.Accepted.{are_accepted}
 use Rattle.rs_world.specs.Course.{course, report_of}
 use Rattle.rs_world.specs.Explains.{Explains}
+use Rattle.rs_world.specs.declared.report.Report.{Report}
+use Rattle.rs_world.specs.declared.world.World.{World}
 use Rattle.rs_world.proofs.HistoryFields as history
 use Rattle.rs_world.proofs.Played.{playable}
 use Rattle.rs_world.proofs.Refusals.{refusals_true, syntax_true}
@@ -29,3 +32,14 @@ explains given valid are =
       stores_agree = history.stores_agree given can;
       tables_in_order = history.tables_in_order given can;
     }
+
+-- so does the report of a world that came to be by them
+pub of_world : (world : World) (report : Report) → report ≡ report_of world → (given : List Event) → IsValid given → IsTrue (are_accepted false given) → world ≡ course given → Explains given report
+of_world world report is_report given valid are came =
+    subst (Explains given) (sym (is_report ∙ ap report_of came)) (explains given valid are)
+
+-- what explains a report explains the one that a function gives, if it gives one
+pub of_result : {E : Type 0} (world : World) (r : Result Report E) → IfOk r (λ report. report ≡ report_of world)
+    → IfOk r (λ report. (given : List Event) → IsValid given → IsTrue (are_accepted false given) → world ≡ course given → Explains given report)
+of_result world (Ok report) is_report = of_world world report is_report
+of_result world (Err fault) is_report = is_report

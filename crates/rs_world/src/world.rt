@@ -76,10 +76,8 @@ impl World {
         Ok(world)
     }
 
-    /// What the world reports. It explains each valid and accepted list of events by which the world came to be.
-    pub fn into_report(self, alloc: Global) -> Result<Report, NoMemory>
-        ensures value { IfOk result (λ report. report ≡ spec.report_of self) }
-        ensures explains { IfOk result (λ report. (events : List Event) → IsValid events → IsTrue (are_accepted false events) → self ≡ spec.course events → Explains events report) }
+    fn reported(self, alloc: Global) -> Result<Report, NoMemory>
+        ensures { IfOk result (λ report. report ≡ spec.report_of self) }
     {
         let World {
             sites,
@@ -93,5 +91,13 @@ impl World {
             runs: 0,
             sites: sites.into_views(alloc)?,
         })
+    }
+
+    /// What the world reports. It explains each valid and accepted list of events by which the world came to be.
+    pub fn into_report(self, alloc: Global) -> Result<Report, NoMemory>
+        ensures value { IfOk result (λ report. report ≡ spec.report_of self) }
+        ensures explains { IfOk result (λ report. (events : List Event) → IsValid events → IsTrue (are_accepted false events) → self ≡ spec.course events → Explains events report) }
+    {
+        self.reported(alloc)
     }
 }
