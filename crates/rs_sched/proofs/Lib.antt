@@ -1,8 +1,10 @@
 pub mod CauseLaws
 pub mod EventLaws
+pub mod FaultLaws
 pub mod FieldLaws
 pub mod HexLaws
 pub mod LineLaws
+pub mod NextLaws
 pub mod NumberLaws
 pub mod PrintLaws
 pub mod ReadLoop

@@ -18,7 +18,7 @@ use Rattle.rs_sched.specs.Reading.{GivesSchedule, FailsSchedule, TellsFault}
 use Rattle.rs_sched.proofs.LineLaws.{line_of_part}
 use Rattle.rs_sched.proofs.CauseLaws.{later_is, later_right, later_cause, later_wrong, first_is, first_right, first_cause, first_wrong}
 
-not_ltb : (a b : ℕ) → b ≤ a → ltb a b ≡ false
+pub not_ltb : (a b : ℕ) → b ≤ a → ltb a b ≡ false
 not_ltb a b h = by_test (ltb a b) refl
   where
     by_test : (test : Bool) → ltb a b ≡ test → ltb a b ≡ false
@@ -27,7 +27,7 @@ not_ltb a b h = by_test (ltb a b) refl
 
 -- ---- the lines of a text have no line feeds
 
-abbrev Feedless : List (List ℕ) → Type 0
+abbrev pub Feedless : List (List ℕ) → Type 0
 Feedless [] = Unit {0}
 Feedless (line ∷ lines) = (list_all is_before_feed line ≡ true) × Feedless lines
 
@@ -39,40 +39,40 @@ feedless_by : (b : ℕ) (bytes : List ℕ) (test : Bool) → eqb b 10 ≡ test �
 feedless_by b bytes true e h = rw e (refl, h)
 feedless_by b bytes false e h = rw e (onto_feedless b (lines_of bytes) (ap not e) h)
 
-lines_feedless : (bytes : List ℕ) → Feedless (lines_of bytes)
+pub lines_feedless : (bytes : List ℕ) → Feedless (lines_of bytes)
 lines_feedless [] = tt
 lines_feedless (b ∷ bytes) = feedless_by b bytes (eqb b 10) refl (lines_feedless bytes)
 
 -- ---- behind a state
 
 -- the number of sites that are known is at most 16
-abbrev Few : Option ℕ → Type 0
+abbrev pub Few : Option ℕ → Type 0
 Few None = Unit {0}
 Few (Some sites) = sites ≤ 16
 
 -- the events of a front of what may come behind this state
-abbrev Continues : Option ℕ → List Event → Type 0
+abbrev pub Continues : Option ℕ → List Event → Type 0
 Continues None given = IsBegun given
 Continues (Some sites) given = AreLater sites given
 
 -- all that may come
-abbrev Completes : Option ℕ → List Event → Type 0
+abbrev pub Completes : Option ℕ → List Event → Type 0
 Completes None given = IsValid given
 Completes (Some sites) given = AreLater sites given
 
-abbrev known : Option ℕ → List Event → Option ℕ
+abbrev pub known : Option ℕ → List Event → Option ℕ
 known None given = sites_of given
 known (Some sites) given = Some sites
 
 -- an event was read behind this state
-record Follows (sites : Option ℕ) (line : List ℕ) (event : Event) : Type 0 where
-  written : line ≡ line_of event
-  few : Few (sites_after sites event)
-  begins : (others : List Event) → Continues (sites_after sites event) others → Continues sites (event ∷ others)
-  completes : (others : List Event) → Completes (sites_after sites event) others → Completes sites (event ∷ others)
-  knows : (others : List Event) → known sites (event ∷ others) ≡ known (sites_after sites event) others
+pub record Follows (sites : Option ℕ) (line : List ℕ) (event : Event) : Type 0 where
+  pub written : line ≡ line_of event
+  pub few : Few (sites_after sites event)
+  pub begins : (others : List Event) → Continues (sites_after sites event) others → Continues sites (event ∷ others)
+  pub completes : (others : List Event) → Completes (sites_after sites event) others → Completes sites (event ∷ others)
+  pub knows : (others : List Event) → known sites (event ∷ others) ≡ known (sites_after sites event) others
 
-line_follows : (sites : Option ℕ) (line : List ℕ) (event : Event) → Few sites → IsLine line → line_at sites line ≡ Ok event → Follows sites line event
+pub line_follows : (sites : Option ℕ) (line : List ℕ) (event : Event) → Few sites → IsLine line → line_at sites line ≡ Ok event → Follows sites line event
 line_follows None line event few right e =
     let first = first_is line event e in
     let n = first.number in
@@ -101,7 +101,7 @@ record AreRead (sites : Option ℕ) (lines : List (List ℕ)) (given : List Even
   completes : Completes sites given
   written : AreLines lines given
 
-comment_more : (line : List ℕ) (lines : List (List ℕ)) (given : List Event) → IsTrue (is_comment (without_returns line)) → AreLines lines given → AreLines (line ∷ lines) given
+pub comment_more : (line : List ℕ) (lines : List (List ℕ)) (given : List Event) → IsTrue (is_comment (without_returns line)) → AreLines lines given → AreLines (line ∷ lines) given
 comment_more line lines [] comment h = (comment, h)
 comment_more line lines (event ∷ given) comment h = inl (comment, h)
 
@@ -159,7 +159,7 @@ events_are bytes given e = by_length (ltb 16777216 (length bytes)) refl e
 
 -- ---- what is a schedule is read
 
-no_comment_line : (event : Event) → is_comment (line_of event) ≡ false
+pub no_comment_line : (event : Event) → is_comment (line_of event) ≡ false
 no_comment_line (events.Sites n) = refl
 no_comment_line (events.Ask origin text) = refl
 no_comment_line (events.Deliver k) = refl
@@ -172,11 +172,11 @@ no_comment_line (events.Settle None) = refl
 no_comment_line (events.Settle (Some n)) = refl
 no_comment_line (events.Noise site bytes) = refl
 
-record Next (sites : Option ℕ) (event : Event) (others : List Event) : Type 0 where
-  read : line_at sites (line_of event) ≡ Ok event
-  completes : Completes (sites_after sites event) others
+pub record Next (sites : Option ℕ) (event : Event) (others : List Event) : Type 0 where
+  pub read : line_at sites (line_of event) ≡ Ok event
+  pub completes : Completes (sites_after sites event) others
 
-next_of : (sites : Option ℕ) (event : Event) (others : List Event) → Completes sites (event ∷ others) → Next sites event others
+pub next_of : (sites : Option ℕ) (event : Event) (others : List Event) → Completes sites (event ∷ others) → Next sites event others
 next_of (Some sites) event others h = record { read = later_right sites event h.0; completes = h.1 }
 next_of None (events.Sites n) others h = record { read = first_right n h.0; completes = h.1 }
 next_of None (events.Ask origin text) others h = absurd h
@@ -287,7 +287,7 @@ event_failed sites before line lines event fault some follows (bad at why is h) 
 })
 event_failed sites before line lines event fault some follows (none at why is h) = absurd (some h.unknown)
 
-line_cause : (sites : Option ℕ) (line : List ℕ) (why : Why) → Few sites → line_at sites line ≡ Err why → IsCause (known sites []) line why
+pub line_cause : (sites : Option ℕ) (line : List ℕ) (why : Why) → Few sites → line_at sites line ≡ Err why → IsCause (known sites []) line why
 line_cause None line why few e = first_cause line why e
 line_cause (Some sites) line why few e = later_cause sites line why few e
 

@@ -1,5 +1,7 @@
 -- What holds of every schedule.
 use Rattle.std.specs.Prelude.{◌≡◌, ℕ, ◌≤◌, List, length}
+use Rattle.rs_sched.specs.declared.fault.Why.{Why}
+use Rattle.rs_sched.specs.Faults.{IsFault}
 use Rattle.rs_sched.specs.declared.event.Event.{Event}
 use Rattle.rs_sched.specs.Schedule.{IsValid, IsSchedule, text_of}
 
@@ -10,3 +12,10 @@ PrintedIsSchedule = (given : List Event) → IsValid given → length (text_of g
 -- bytes are a schedule of one list
 abbrev pub ScheduleOnce : Type 0
 ScheduleOnce = (bytes : List ℕ) (given others : List Event) → IsSchedule bytes given → IsSchedule bytes others → given ≡ others
+
+-- bytes have one first bad line and one first cause, and a schedule has none
+abbrev pub FaultOnce : Type 0
+FaultOnce = (bytes : List ℕ) (line other : ℕ) (why cause : Why) → IsFault bytes line why → IsFault bytes other cause → (line ≡ other) × (why ≡ cause)
+
+abbrev pub ScheduleHasNoFault : Type 0
+ScheduleHasNoFault = (bytes : List ℕ) (given : List Event) (line : ℕ) (why : Why) → IsSchedule bytes given → IsFault bytes line why → ⊥

@@ -1,6 +1,7 @@
 pub mod Faults
 pub mod Laws
 pub mod Lines
+pub mod Next
 pub mod Numbers
 pub mod Reader
 pub mod Reading

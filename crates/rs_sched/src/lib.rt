@@ -2,6 +2,7 @@
 #![tactic(auto)]
 
 mod event;
+mod event_lines;
 mod event_reader;
 mod fault;
 mod fields;
@@ -17,6 +18,7 @@ mod tests;
 mod word;
 
 pub use event::{Event, Events};
+pub use event_lines::EventLines;
 pub use fault::{SchedFault, Why};
 pub use print::print_event;
-pub use reader::parse_schedule;
+pub use reader::{MOST_BYTES, parse_schedule};

@@ -6,36 +6,16 @@ ghost use Rattle.rs_sched.specs.Schedule.{IsSchedule};
 ghost use Rattle.rs_sched.specs.Reader as spec;
 ghost use Rattle.rs_sched.specs.Reading.{GivesSchedule, TellsFault};
 
-use crate::event::{Event, Events};
+use crate::event::Events;
+use crate::event_lines::sites_after;
 use crate::fault::{LineFault, SchedFault, Why};
 use crate::line_reader::event_of_line;
 use crate::lines::{Lines, is_comment, without_returns};
-use rs_base::SiteNo;
 use sqlite_items::Items;
 use std::alloc::Global;
 
 /// How many bytes a schedule has at most.
-const MOST_BYTES: usize = 16_777_216;
-
-fn sites_after(sites: Option<SiteNo>, event: &Event) -> Option<SiteNo>
-    ensures { result ≡ spec.sites_after sites event.now }
-{
-    match sites {
-        Some(_) => sites,
-        None => match event {
-            Event::Sites(last) => Some(*last),
-            Event::Ask { .. } => None,
-            Event::Deliver(_) => None,
-            Event::Lose(_) => None,
-            Event::Tick(_, _) => None,
-            Event::Stop(_, _, _) => None,
-            Event::Arm(_, _, _, _) => None,
-            Event::Restart(_) => None,
-            Event::Settle(_) => None,
-            Event::Noise(_, _) => None,
-        },
-    }
-}
+pub const MOST_BYTES: usize = 16_777_216;
 
 fn events_of(alloc: Global, bytes: &[u8]) -> Result<Events, SchedFault>
     ensures { GivesSchedule result (spec.lines_at None 0 (spec.lines_of bytes.now)) }

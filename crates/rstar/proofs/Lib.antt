@@ -1,11 +1,4 @@
-pub mod AskLoop
-pub mod Columns
-pub mod ExplainsLaw
-pub mod Fronts
-pub mod Gets
-pub mod Places
-pub mod RunLaws
-pub mod SourceLaws
-pub mod SourceParts
-pub mod Statements
+pub mod ReadSource
+pub mod RefusalLaws
 pub mod ReplayWord
+pub mod RunLaws

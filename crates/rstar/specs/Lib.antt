@@ -1,7 +1,3 @@
-pub mod Course
-pub mod Explains
-pub mod History
-pub mod ReportText
+pub mod Refusal
 pub mod Run
-pub mod Source
 pub mod SourceReader

@@ -4,13 +4,14 @@ use Rattle.std.specs.Io.KnownBytes.{Appends, IsAtEnd, Keeps}
 use Rattle.std.specs.Prelude.{String}
 use Rattle.std.specs.declared.alloc.Global.{Global}
 use Rattle.rs_base.specs.Streams.{AppendsFront}
-use Rattle.rstar.specs.declared.ask.Ask.{Ask}
-use Rattle.rstar.specs.declared.report.Report.{Report}
+use Rattle.rs_sched.specs.declared.event.Event.{Event}
+use Rattle.rs_world.specs.declared.report.Report.{Report}
+use Rattle.rs_world.specs.Explains.{Explains}
+use Rattle.rs_world.specs.ReportText.{printed_report}
+use Rattle.rstar.specs.declared.source.Cause.{Cause}
 use Rattle.rstar.specs.declared.run.Finding.{Finding}
 use Rattle.rstar.specs.declared.run.Finding.TheVariants as findings
-use Rattle.rstar.specs.Explains.{Explains}
-use Rattle.rstar.specs.ReportText.{printed_report}
-use Rattle.rstar.specs.Source.{IsSource}
+use Rattle.rstar.specs.Refusal.{IsSource, IsRefusal, refusal_text}
 
 -- the one word `replay`
 abbrev pub IsReplay : List (String Global) → Type 0
@@ -22,19 +23,26 @@ most_read = 16777217
 
 -- no source has these bytes
 abbrev pub IsNoSource : List ℕ → Type 0
-IsNoSource bytes = (asks : List Ask) → IsSource bytes asks → ⊥
+IsNoSource bytes = (given : List Event) → IsSource bytes given → ⊥
 
--- The text reports a source of these bytes: they stand for asks, and the text is that of a report that explains them.
+-- The text reports a source of these bytes: they stand for events, and the text is that of a report that explains them.
 pub record Reports (bytes text : List ℕ) : Type 0 where
-  pub asks : List Ask
-  pub is_source : IsSource bytes asks
+  pub given : List Event
+  pub is_source : IsSource bytes given
   pub report : Report
-  pub explains : Explains asks report
+  pub explains : Explains given report
   pub prints : text ≡ printed_report report
+
+-- The text says at which line these bytes can't be played, and why.
+pub record Refuses (bytes text : List ℕ) : Type 0 where
+  pub line : ℕ
+  pub cause : Cause
+  pub refused : IsRefusal bytes line cause
+  pub says : text ≡ refusal_text line cause
 
 -- What is to be written where the words are `replay` and these bytes were read.
 abbrev pub OwesReplay : List ℕ → List ℕ → Type 0
-OwesReplay bytes text = Reports bytes text ⊎ (IsNoSource bytes × (text ≡ codes "later\n"))
+OwesReplay bytes text = Reports bytes text ⊎ Refuses bytes text
 
 -- What is to be written by these words over a source with these bytes left, where it tells them.
 abbrev pub Owes : List (String Global) → Option (List ℕ) → List ℕ → Type 0
@@ -48,14 +56,18 @@ WritesFront words left old new = ((text : List ℕ) × Owes words left text × A
 abbrev pub WritesReport : Option (List ℕ) → Option (List ℕ) → Option (List ℕ) → Type 0
 WritesReport left old new = IfSome left (λ bytes. (text : List ℕ) × Reports bytes text × Appends old new text)
 
--- As far as the bytes are read they are no source, where the source tells them.
-abbrev pub ReadsNoSource : Option (List ℕ) → Type 0
-ReadsNoSource left = IfSome left (λ bytes. IsNoSource (take most_read bytes))
+-- The text says at which line the bytes can't be played as far as they are read, where the source tells them.
+abbrev pub ReadsRefused : Option (List ℕ) → List ℕ → Type 0
+ReadsRefused left text = IfSome left (λ bytes. Refuses (take most_read bytes) text)
 
--- The source told its bytes, and they are a source with some asks.
+-- The refusal of the bytes that were left, as far as they are read, was written.
+abbrev pub WritesRefusal : Option (List ℕ) → Option (List ℕ) → Option (List ℕ) → Type 0
+WritesRefusal left old new = IfSome left (λ bytes. (text : List ℕ) × Refuses (take most_read bytes) text × Appends old new text)
+
+-- The source told its bytes, and they are a source with some events.
 abbrev pub HoldsSource : Option (List ℕ) → Type 0
 HoldsSource None = ⊥
-HoldsSource (Some bytes) = (asks : List Ask) × IsSource bytes asks
+HoldsSource (Some bytes) = (given : List Event) × IsSource bytes given
 
 -- The source told its bytes, and as far as they are read they are no source.
 abbrev pub HoldsNoSource : Option (List ℕ) → Type 0
@@ -67,16 +79,16 @@ HoldsNoSource (Some bytes) = IsNoSource (take most_read bytes)
 abbrev pub status_of : Finding → ℕ
 status_of findings.Reported = 0
 status_of findings.Usage = 1
-status_of findings.Later = 2
+status_of findings.Refused = 2
 
 -- what is to be written of these bytes
 abbrev pub FoundIn : List ℕ → Finding → List ℕ → Type 0
 FoundIn bytes findings.Reported text = Reports bytes text
 FoundIn bytes findings.Usage text = ⊥
-FoundIn bytes findings.Later text = IsNoSource bytes × (text ≡ codes "later\n")
+FoundIn bytes findings.Refused text = Refuses bytes text
 
 -- what is to be written by these words, over a source with these bytes left, and after it was read
 abbrev pub Finds : List (String Global) → Option (List ℕ) → Option (List ℕ) → Finding → List ℕ → Type 0
 Finds words left after findings.Reported text = IsReplay words × IsAtEnd after × IfSome left (λ bytes. Reports bytes text)
 Finds words left after findings.Usage text = (IsReplay words → ⊥) × (text ≡ codes "usage\n")
-Finds words left after findings.Later text = IsReplay words × ReadsNoSource left × (text ≡ codes "later\n")
+Finds words left after findings.Refused text = IsReplay words × ReadsRefused left text

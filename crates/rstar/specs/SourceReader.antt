@@ -1,69 +1,66 @@
--- Reading a source from the left.
-use Rattle.std.specs.Prelude.{ℕ, zero, suc, ◌+◌, Bool, true, false, ◌&&◌, not, ◌==◌, nat_le, List, [], ◌∷◌, ◌++◌, length, take, drop, Option, Some, None, decimal, codes, if◌then◌else◌}
-use Rattle.std.specs.List.{list_all, prefix_len}
-use Rattle.rs_base.specs.Ident.{is_ident}
-pub use Rattle.rs_base.specs.Ident.{is_name_byte}
-use Rattle.rs_base.specs.Reading.{◌>>=◌, push_first}
-use Rattle.rs_ast.specs.declared.stmt.Stmt.{Stmt}
-pub use Rattle.rs_parse.specs.Parsing.{statement_of}
-use Rattle.rstar.specs.declared.ask.Ask.{Ask}
-pub use Rattle.rstar.specs.Source.{asked_by, names_columns_once, is_inner}
+-- Reading a source: its events, or the first line at which it can't be played.
+use Rattle.std.specs.Prelude.{◌≡◌, ℕ, ◌+◌, Bool, true, false, nat_lt, List, [], ◌∷◌, ◌++◌, length, Option, Some, None, Result, Ok, Err, if◌then◌else◌}
+use Rattle.rs_sched.specs.declared.event.Event.{Event}
+use Rattle.rs_sched.specs.declared.fault.Why.{Why}
+use Rattle.rs_sched.specs.declared.fault.Why.TheVariants as whys
+use Rattle.rs_sched.specs.declared.fault.SchedFault.{SchedFault}
+use Rattle.rs_sched.specs.declared.fault.SchedFault.TheVariants as scheds
+pub use Rattle.rs_sched.specs.Lines.{lines_of, without_returns, is_comment}
+use Rattle.rs_sched.specs.Reader.{line_at, sites_after}
+pub use Rattle.rs_world.specs.Accepted.{may_come, is_open_after}
+use Rattle.rstar.specs.declared.source.Cause.{Cause}
+use Rattle.rstar.specs.declared.source.Cause.TheVariants as causes
+use Rattle.rstar.specs.declared.source.Refusal.{Refusal}
+use Rattle.rstar.specs.declared.source.SourceFault.{SourceFault}
+use Rattle.rstar.specs.declared.source.SourceFault.TheVariants as faults
 
--- what stands behind this front
-abbrev pub behind : List ℕ → List ℕ → Option (List ℕ)
-behind [] bytes = Some bytes
-behind (c ∷ front) [] = None
-behind (c ∷ front) (b ∷ bytes) = if b == c then behind front bytes else None
+abbrev pub Read : Type 0
+Read = Result (List Event) Refusal
 
--- an identifier, as long as it goes
-unfoldable pub user_at : List ℕ → Option (List ℕ × List ℕ)
-user_at bytes =
-    let n = prefix_len is_name_byte bytes in
-    if is_ident (take n bytes) then Some (take n bytes, drop n bytes) else None
+abbrev pub refused : ℕ → Cause → Read
+refused line cause = Err (record { line = line; cause = cause })
 
-abbrev pub is_allowed : Option Stmt → Bool
-is_allowed None = false
-is_allowed (Some stmt) = names_columns_once stmt
+-- events before those that are still read
+abbrev pub with_events : List Event → Read → Read
+with_events front (Ok others) = Ok (front ++ others)
+with_events front (Err refusal) = Err refusal
 
-abbrev pub are_inner : List ℕ → Bool
-are_inner bytes = list_all is_inner bytes
+-- what the end is, where a sites line was read
+abbrev pub ended : Bool → ℕ → Read
+ended true before = refused (before + 1) causes.Later
+ended false before = Ok []
 
-abbrev pub is_ask_text : List ℕ → Bool
-is_ask_text text = nat_le (length text) 1000 && are_inner text && is_allowed (statement_of text)
+-- what the end is behind so many lines
+abbrev pub end_by : Bool → Option ℕ → ℕ → Read
+end_by unsettled None before = refused (before + 1) (causes.Bad whys.NoSites)
+end_by unsettled (Some sites) before = ended unsettled before
 
-abbrev pub is_before_feed : ℕ → Bool
-is_before_feed b = not (b == 10)
+-- the event of this line, and those behind it
+abbrev pub further_by : Bool → ℕ → Result Event Why → (Event → Read) → Read
+further_by unsettled line (Err why) others = refused line (causes.Bad why)
+further_by unsettled line (Ok event) others = if may_come unsettled event then with_events (event ∷ []) (others event) else refused line causes.Later
 
--- the text of an ask, up to the line feed
-unfoldable pub text_at : List ℕ → Option (List ℕ × List ℕ)
-text_at bytes =
-    let n = prefix_len is_before_feed bytes in
-    if is_ask_text (take n bytes) then Some (take n bytes, drop n bytes) else None
+-- the events of lines behind so many
+abbrev pub source_at : Bool → Option ℕ → ℕ → List (List ℕ) → Read
+source_at unsettled sites before [] = end_by unsettled sites before
+source_at unsettled sites before (line ∷ lines) =
+    if is_comment (without_returns line) then source_at unsettled sites (before + 1) lines
+    else further_by unsettled (before + 1) (line_at sites (without_returns line)) (λ event. source_at (is_open_after unsettled event) (sites_after sites event) (before + 1) lines)
 
--- an ask behind these, and its settle
-unfoldable pub ask_at : List Ask → List ℕ → Option (Ask × List ℕ)
-ask_at before bytes = do
-  word ← behind (codes "\nask 1 ") bytes
-  user ← user_at word
-  epoch ← behind (codes " 1 ") user.1
-  number ← behind (decimal (asked_by user.0 before + 1)) epoch
-  space ← behind (codes " ") number
-  text ← text_at space
-  settle ← behind (codes "\nsettle") text.1
-  Some (record { origin = record { site = 1; user = user.0; epoch = 1; number = asked_by user.0 before + 1 }; text = text.0 }, settle)
+unfoldable pub source_of : List ℕ → Read
+source_of bytes = if nat_lt 16777216 (length bytes) then refused 0 (causes.Bad whys.TooLong) else source_at false None 0 (lines_of bytes)
 
--- nothing more stands there than a last line feed
-abbrev pub is_end : List ℕ → Bool
-is_end [] = true
-is_end (b ∷ []) = b == 10
-is_end (b ∷ c ∷ bytes) = false
+-- ---- what a function gives, against what reading gives
 
--- at most so many asks, behind those before, up to the end
-unfoldable pub asks_within : ℕ → List Ask → List ℕ → Option (List Ask)
-asks_within zero before bytes = if is_end bytes then Some [] else None
-asks_within (suc n) before bytes =
-    if is_end bytes then Some []
-    else ask_at before bytes >>= λ ask. asks_within n (before ++ ask.0 ∷ []) ask.1 >>= λ others. Some (ask.0 ∷ others)
+abbrev pub of_sched : SchedFault → SourceFault
+of_sched (scheds.BadLine line why) = faults.Refused (record { line = line; cause = causes.Bad why })
+of_sched scheds.NoMemory = faults.NoMemory
 
-unfoldable pub asks_of : List ℕ → Option (List Ask)
-asks_of bytes = if nat_le (length bytes) 16777216 then behind (codes "sites 1") bytes >>= asks_within 200 [] else None
+-- Want of memory says nothing of what was read.
+abbrev pub FailsSource : SourceFault → Read → Type 0
+FailsSource (faults.Refused refusal) read = read ≡ Err refusal
+FailsSource faults.NoMemory read = Unit {0}
+
+abbrev pub GivesSource : Result (List Event) SourceFault → Read → Type 0
+GivesSource (Ok given) read = read ≡ Ok given
+GivesSource (Err fault) read = FailsSource fault read

@@ -1,33 +1,21 @@
 //! From the bytes of a source to the text of its report.
 
-ghost use Rattle.std.specs.Prelude.{◌≡◌, IfOk, IsErrOf};
-ghost use Rattle.rstar.specs.Course.{course};
-ghost use Rattle.rstar.specs.Run.{Reports, IsNoSource};
+ghost use Rattle.std.specs.Prelude.{◌≡◌, Err, IfOk};
+ghost use Rattle.rstar.specs.Refusal.{IsRefusal};
+ghost use Rattle.rstar.specs.Run.{Reports};
 
-use crate::ask::Ask;
-use crate::print_report::print_report;
-use crate::source_reader::asks_of;
-use crate::world::World;
-use rs_base::{Bytes, NoMemory, ReadFault};
+use crate::source::{Refusal, SourceFault, events_of};
+use rs_base::Bytes;
+use rs_world::{World, print_report};
 use std::alloc::Global;
 
-fn play(alloc: Global, asks: Vec<Ask>) -> Result<World, NoMemory>
-    ensures { IfOk result (λ world. world ≡ course asks.items) }
-{
-    let mut world = World::new(alloc);
-    for ask in asks {
-        world.step(alloc, ask)?;
-    }
-    Ok(world)
-}
-
-/// The text of the report of a source, or `Malformed` where the bytes are no source.
-pub fn report_text(alloc: Global, bytes: &[u8]) -> Result<Bytes, ReadFault>
+/// The text of the report of a source, or the line at which the bytes can't be played.
+pub fn report_text(alloc: Global, bytes: &[u8]) -> Result<Bytes, SourceFault>
     ensures reported { IfOk result (λ text. Reports bytes.now text) }
-    ensures malformed { IsErrOf result ReadFault.Malformed → IsNoSource bytes.now }
+    ensures refused { (refusal : Refusal) → result ≡ Err (SourceFault.Refused refusal) → IsRefusal bytes.now refusal.line refusal.cause }
 {
-    let asks = asks_of(alloc, bytes)?;
-    let report = play(alloc, asks)?.into_report(alloc)?;
+    let events = events_of(alloc, bytes)?;
+    let report = World::play(alloc, events.as_slice())?.into_report(alloc)?;
     let mut text = Bytes::new(alloc);
     print_report(alloc, &report, &mut text)?;
     Ok(text)

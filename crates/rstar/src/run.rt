@@ -4,10 +4,12 @@ ghost use Rattle.std.specs.Prelude.{◌≡◌, ◌≢◌, ◌≤◌, ◌⊎◌, 
 ghost use Rattle.std.specs.Io.KnownBytes.{Appends, IsAtEnd, Keeps};
 ghost use Rattle.rs_base.specs.Faults.{Rises, CountsFault};
 ghost use Rattle.rs_base.specs.Streams.{ConsumesAtMost};
+ghost use Rattle.rstar.specs.Refusal.{refusal_text};
 ghost use Rattle.rstar.specs.Run as spec;
 
 use crate::replay::report_text;
-use rs_base::{Bytes, Fault, ReadFault, Sink, Source, read_to_end, write_whole};
+use crate::source::{Refusal, SourceFault};
+use rs_base::{Bytes, Fault, NoMemory, Sink, Source, print_number, read_to_end, write_whole};
 use std::alloc::Global;
 
 /// One byte more than a source has.
@@ -20,8 +22,8 @@ pub enum Finding {
     Reported,
     /// How it is used, since the words are no command.
     Usage,
-    /// That the source is none that is played yet.
-    Later,
+    /// At which line the source can't be played, and why.
+    Refused,
 }
 
 /// What a run has to write.
@@ -38,7 +40,7 @@ impl Finding {
         match self {
             Finding::Reported => 0,
             Finding::Usage => 1,
-            Finding::Later => 2,
+            Finding::Refused => 2,
         }
     }
 }
@@ -52,6 +54,18 @@ fn is_replay(words: &[String]) -> bool
     }
 }
 
+/// The text that says what is refused.
+fn refusal_text(alloc: Global, refusal: &Refusal) -> Result<Bytes, NoMemory>
+    ensures { IfOk result (λ text. text ≡ refusal_text refusal.now.line refusal.now.cause) }
+{
+    let mut text = Bytes::from_slice(alloc, b"line ")?;
+    print_number(alloc, refusal.line, &mut text)?;
+    text.extend(b" ")?;
+    text.extend(refusal.cause.text())?;
+    text.extend(b"\n")?;
+    Ok(text)
+}
+
 fn find_in(alloc: Global, bytes: &[u8]) -> Result<Owed, Fault>
     ensures found { IfOk result (λ owed. spec.FoundIn bytes.now owed.finding owed.text) }
     ensures memory { IfErr result (λ fault. fault ≡ Fault.NoMemory) }
@@ -61,11 +75,11 @@ fn find_in(alloc: Global, bytes: &[u8]) -> Result<Owed, Fault>
             finding: Finding::Reported,
             text,
         }),
-        Err(ReadFault::Malformed) => Ok(Owed {
-            finding: Finding::Later,
-            text: Bytes::from_slice(alloc, b"later\n")?,
+        Err(SourceFault::Refused(refusal)) => Ok(Owed {
+            finding: Finding::Refused,
+            text: refusal_text(alloc, &refusal)?,
         }),
-        Err(ReadFault::NoMemory) => Err(Fault::NoMemory),
+        Err(SourceFault::NoMemory) => Err(Fault::NoMemory),
     }
 }
 
@@ -87,10 +101,10 @@ fn find_owed<S: Source>(alloc: Global, words: &[String], source: &mut S) -> Resu
 
 /// Does the work of the program whose words these are, and answers its status:
 ///
-/// - 0: the source was read to its end, and the report of its asks was written;
+/// - 0: the source was read to its end, and the report of its events was written;
 /// - 1: the words are not the one word `replay`; `usage` was written;
-/// - 2: the bytes read, to the end of the source or one byte more than a source has, are no source; `later` was
-///   written;
+/// - 2: the bytes read, to the end of the source or one byte more than a source has, are no source; the first line at
+///   which they can't be played was written, and the cause;
 /// - 3: the source failed, and nothing was written;
 /// - 4: the sink failed;
 /// - 5: memory was wanting.
@@ -101,8 +115,8 @@ pub fn run<S: Source, K: Sink>(alloc: Global, words: &[String], source: &mut S, 
         × spec.WritesReport (S.left source.old) (K.written sink.old) (K.written sink.new) }
     ensures usage { result ≡ 1 → (spec.IsReplay words.now → ⊥)
         × Appends (K.written sink.old) (K.written sink.new) (codes "usage\n") }
-    ensures later { result ≡ 2 → spec.IsReplay words.now × spec.ReadsNoSource (S.left source.old)
-        × Appends (K.written sink.old) (K.written sink.new) (codes "later\n") }
+    ensures no_source { result ≡ 2 → spec.IsReplay words.now
+        × spec.WritesRefusal (S.left source.old) (K.written sink.old) (K.written sink.new) }
     ensures source { result ≡ 3 → Rises (S.faults source.old) (S.faults source.new)
         × Keeps (K.written sink.old) (K.written sink.new) }
     ensures sink { result ≡ 4 → Rises (K.faults sink.old) (K.faults sink.new)

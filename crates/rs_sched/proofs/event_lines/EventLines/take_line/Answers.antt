@@ -1,0 +1,26 @@
+use Rattle.std.proofs.Common.{◌≡◌, ◌+◌, ◌≤◌, ℕ, List, length, ap, ◌∙◌, arith, false}
+use Rattle.rs_sched.specs.Lines.{lines_of, without_returns}
+use Rattle.rs_sched.specs.Next.{Left, is_none}
+use Rattle.rs_sched.proofs.ReadLoop.{Taken, taken_smaller}
+use Rattle.rs_sched.proofs.NextLaws.{some_left, first_left, rest_left}
+use Rattle.rs_sched.proofs.event_lines.EventLines.take_line.Goals as goal
+
+pub invariant_of-self : goal.invariant_of-self
+invariant_of-self c =
+    let left = c.self.inside.left in
+    let some : 1 ≤ length left = some_left left (ap (λ (l : Left). is_none l.lines) c.self.view_is ∙ c.requires) in
+    let taken : Taken left c.next.result.now c.without_returns-line.result.now c.next.new.self = record { some = some; line_is = c.next.ensures.line; rest_is = c.next.ensures.rest; text_is = c.without_returns-line.ensures } in
+    let less = taken_smaller _ _ _ _ taken in
+    omega (arith, c.self.invariant)
+
+pub returns-clause-line : goal.returns-clause-line
+returns-clause-line c =
+    let left = c.self.inside.left in
+    let some : 1 ≤ length left = some_left left (ap (λ (l : Left). is_none l.lines) c.self.view_is ∙ c.requires) in
+    rw (← c.self.view_is, c.without_returns-line.ensures, c.next.ensures.line) (ap without_returns (first_left left some))
+
+pub returns-clause-rest : goal.returns-clause-rest
+returns-clause-rest c =
+    let left = c.self.inside.left in
+    let some : 1 ≤ length left = some_left left (ap (λ (l : Left). is_none l.lines) c.self.view_is ∙ c.requires) in
+    rw (← c.self.view_is, c.next.ensures.rest) (ap (λ (lines : List (List ℕ)). record { sites = c.self.inside.sites; before = c.self.inside.line + 1; lines = lines }) (rest_left left some))

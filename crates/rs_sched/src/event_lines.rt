@@ -1,0 +1,132 @@
+//! The events of a schedule, read one after the other.
+
+ghost use Rattle.std.specs.Prelude.{◌≡◌, false};
+ghost use Rattle.rs_sched.specs.Lines.{without_returns};
+ghost use Rattle.rs_sched.specs.Reader.{line_at, sites_after};
+ghost use Rattle.rs_sched.specs.Next as spec;
+
+use crate::event::Event;
+use crate::fault::{LineFault, SchedFault, Why};
+use crate::line_reader::event_of_line;
+use crate::lines::{Lines, is_comment, without_returns};
+use rs_base::SiteNo;
+use std::alloc::Global;
+use std::marker::Model;
+
+/// A schedule that is read event by event.
+#[derive(Drop)]
+pub struct EventLines<'a> {
+    sites: Option<SiteNo>,
+    line: u64,
+    left: Lines<'a>,
+}
+
+impl<'a> Model for EventLines<'a> {
+    ghost use Rattle.std.specs.Prelude.{ℕ, ◌+◌, ◌^◌, ◌≤◌, length};
+    ghost use Rattle.rs_sched.specs.Lines.{lines_of};
+    ghost use Rattle.rs_sched.specs.Next.{Left};
+
+    ghost Value = { Left };
+
+    ghost view = { λ it. record { sites = it.sites; before = it.line; lines = lines_of it.left } };
+
+    ghost invariant = { λ it. it.line + length it.left ≤ 2 ^ 63 };
+}
+
+/// How many sites there are behind this event.
+pub fn sites_after(sites: Option<SiteNo>, event: &Event) -> Option<SiteNo>
+    ensures { result ≡ sites_after sites event.now }
+{
+    match sites {
+        Some(_) => sites,
+        None => match event {
+            Event::Sites(last) => Some(*last),
+            Event::Ask { .. } => None,
+            Event::Deliver(_) => None,
+            Event::Lose(_) => None,
+            Event::Tick(_, _) => None,
+            Event::Stop(_, _, _) => None,
+            Event::Arm(_, _, _, _) => None,
+            Event::Restart(_) => None,
+            Event::Settle(_) => None,
+            Event::Noise(_, _) => None,
+        },
+    }
+}
+
+impl<'a> EventLines<'a> {
+    /// All lines of these bytes.
+    pub fn new(bytes: &'a [u8]) -> EventLines<'a>
+        ensures { result ≡ spec.all_of bytes.now }
+    {
+        EventLines {
+            sites: None,
+            line: 0,
+            left: Lines::new(bytes),
+        }
+    }
+
+    /// How many lines were read: the number of the last event's line, or of the last line where no event came.
+    pub fn line(&self) -> u64
+        ensures { result ≡ self.now.before }
+    {
+        self.line
+    }
+
+    fn is_at_end(&self) -> bool
+        ensures { result ≡ spec.is_none self.now.lines }
+    {
+        self.left.len() == 0
+    }
+
+    /// Takes the next line, where there is one, and gives it without the carriage returns at its end.
+    fn take_line(&mut self) -> &'a [u8]
+        requires { spec.is_none self.now.lines ≡ false }
+        ensures line { result.now ≡ without_returns (spec.first_of self.old.lines) }
+        ensures rest { self.new ≡ spec.behind_first self.old }
+    {
+        let line = without_returns(self.left.next());
+        self.line += 1;
+        line
+    }
+
+    fn event(&mut self, alloc: Global, line: &[u8]) -> Result<Option<Event>, SchedFault>
+        ensures { spec.GivesNext result (spec.event_by self.old (line_at self.old.sites line.now)) self.new }
+    {
+        match event_of_line(alloc, self.sites, line) {
+            Ok(event) => {
+                self.sites = sites_after(self.sites, &event);
+                Ok(Some(event))
+            }
+            Err(LineFault::Bad(why)) => Err(SchedFault::BadLine {
+                line: self.line,
+                why,
+            }),
+            Err(LineFault::NoMemory) => Err(SchedFault::NoMemory),
+        }
+    }
+
+    /// The next event, or `None` at the end of the lines.
+    ///
+    /// `BadLine` says the line, from 1, that should give the next event and doesn't, and the first cause that fits it.
+    /// `NoMemory` says nothing of the lines. After an error what is left is not told. The time goes with the bytes of
+    /// the lines that are read.
+    #[tactic(auto, unfolding(crate::specs::Next::next_of))]
+    pub fn next(&mut self, alloc: Global) -> Result<Option<Event>, SchedFault>
+        ensures { spec.GivesNext result (spec.next_of self.old) self.new }
+    {
+        while !self.is_at_end() {
+            let line = self.take_line();
+            if !is_comment(line) {
+                return self.event(alloc, line);
+            }
+        }
+        match self.sites {
+            None => Err(SchedFault::BadLine {
+                line: self.line + 1,
+                why: Why::NoSites,
+            }),
+            Some(_) => Ok(None),
+        }
+    }
+}

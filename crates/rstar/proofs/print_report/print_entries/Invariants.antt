@@ -1,8 +1,0 @@
-use Rattle.std.proofs.Common.{◌≡◌, ◌++◌, ◌+◌, take}
-use Rattle.std.specs.Prelude.{flat_map}
-use Rattle.std.specs.List.{enumerate_from}
-use Rattle.rstar.specs.ReportText.{printed_entry}
-use Rattle.rstar.proofs.print_report.print_entries.Given as goal
-
-abbrev pub invariant-loop-entry : goal.invariant-loop-entry
-invariant-loop-entry l = (l.place ≡ 1 + l.entry-index) × (l.out ≡ l.fn.out ++ flat_map printed_entry (enumerate_from 1 (take l.entry-index l.entries)))
