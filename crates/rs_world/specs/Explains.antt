@@ -1,7 +1,7 @@
 -- The report explains the events: all committed executions stand in one serial history, each once and after whatever was
 -- reported before it was asked; each answer is its meaning over the database of the executions before it; what the site
 -- shows is the database of the whole history; each refusal is true.
-use Rattle.std.specs.Prelude.{◌≡◌, ◌≢◌, ℕ, ◌+◌, ◌<◌, List, [], ◌∷◌, ◌++◌, length, take, Option, Some, None, Err, ◌⊎◌}
+use Rattle.std.specs.Prelude.{◌≡◌, ◌≢◌, ℕ, ◌+◌, ◌<◌, List, [], ◌∷◌, ◌++◌, length, take, Some, None, Err}
 use Rattle.std.specs.List.{slice_get, Contains}
 use Rattle.rs_base.specs.declared.txn.Origin.{Origin}
 use Rattle.rs_base.specs.declared.reply.Denial.{Denial}
