@@ -1,8 +1,8 @@
 -- Deliveries one after the other, and what each of no datagram does.
-use Rattle.std.proofs.Common.{◌≡◌, ℕ, zero, suc, ◌+◌, ◌-◌, ◌<◌, ◌≤◌, List, [], ◌∷◌, length, replicate, fold, refl, ap, ◌∙◌, arith}
+use Rattle.std.proofs.Common.{◌≡◌, ℕ, zero, suc, ◌+◌, ◌-◌, ◌<◌, ◌≤◌, length, replicate, fold, refl, ap, ◌∙◌, arith}
 use Rattle.std.proofs.lemmas.Option.{slice_get_past}
 use Rattle.rs_world.specs.declared.world.World.{World}
-use Rattle.rs_world.specs.Course.{Happening, Deliver, happen, delivered}
+use Rattle.rs_world.specs.Course.{Deliver, happen, delivered}
 
 -- where nothing is left, a delivery does nothing
 pub nothing_left : (world : World) → length world.sent ≤ world.delivered → happen world Deliver ≡ world

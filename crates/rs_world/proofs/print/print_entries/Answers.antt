@@ -1,4 +1,4 @@
-use Rattle.std.proofs.Common.{◌∙◌, sym, arith}
+use Rattle.std.proofs.Common.{arith}
 use Rattle.rs_world.specs.ReportText.{printed_entry}
 use Rattle.rs_world.proofs.Places.{flat_map-enumerate-more, put_more}
 use Rattle.rs_world.proofs.print.print_entries.Goals as goal

@@ -1,4 +1,4 @@
-use Rattle.std.proofs.Common.{rules, ◌≡◌, ◌+◌, ◌++◌, [], ◌∷◌, arith}
+use Rattle.std.proofs.Common.{rules}
 use Rattle.rs_world.proofs.Opened.{opened_more}
 use Rattle.rs_world.proofs.sites.Sites.open.Goals as goal
 
