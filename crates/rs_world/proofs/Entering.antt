@@ -74,5 +74,5 @@ pub entered_law : (given : List Event) → IsLaw given (λ before state givens h
 entered_law given = record {
   first = entered_first given;
   later = λ before happening state givens history holds. holds;
-  heard = λ before state origin text came hearing cases holds. entered_heard given before state origin text hearing holds came cases;
+  heard = λ before state origin text came hearing delivers cases holds. entered_heard given before state origin text hearing holds came cases;
 }

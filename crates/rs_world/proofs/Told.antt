@@ -18,7 +18,7 @@ use Rattle.rs_site.specs.Asking.{reply_of, execution_of, executed, remembering}
 use Rattle.rs_site.specs.Truth.{IsTrueReply}
 use Rattle.rs_site.proofs.Asked.{Asked, Refused, ToldAgain, Silent, NoRequest, Spent, Executed, IsRefusal, IsLast, IsNext}
 use Rattle.rs_world.specs.declared.report.Given.{Given}
-use Rattle.rs_world.specs.Course.{Happening, given_of}
+use Rattle.rs_world.specs.Course.{Happening, Deliver, given_of}
 use Rattle.rs_world.specs.Moments.{world_after, Hears}
 use Rattle.rs_world.specs.Explains.{IsFinal, IsCommitted, IsGivenTruly, IsNoRequest}
 use Rattle.rs_world.proofs.Kept.{Kept, IsKeepable, IsEntered, last_origin, same_origin, said, remembered, kept_then}
@@ -79,54 +79,66 @@ module _ (all : List Event) (before : List Happening) (site : SiteState) (from :
   abbrev told_as : Reply → Given
   told_as reply = record { origin = origin; reply = reply }
 
-  abbrev After : SiteState × Outs → Type 0
-  After came = Kept all came.0 (tolds ++ map given_of came.1.replies) (history ++ came.1.decided)
+  -- the delivery by which it is heard gives these replies
+  abbrev Gives : List Given → Type 0
+  Gives more = (world_after (before ++ Deliver ∷ [])).replies ≡ tolds ++ more
 
-  truly_as : (reply : Reply) → IsTrueReply site origin reply → IsGivenTruly all (length tolds) (told_as reply)
-  truly_as reply is = record { before = before; site = site; text = text; hears = hears; number = number; true = is }
+  abbrev After : SiteState × Outs → Type 0
+  After came = Gives (map given_of came.1.replies) → Kept all came.0 (tolds ++ map given_of came.1.replies) (history ++ came.1.decided)
+
+  truly_as : (reply : Reply) → Gives (told_as reply ∷ []) → IsTrueReply site origin reply → IsGivenTruly all (length tolds) (told_as reply)
+  truly_as reply gives is = record {
+    before = before;
+    site = site;
+    text = text;
+    hears = hears;
+    number = number;
+    gives = ap (λ (gs : List Given). slice_get gs (length tolds)) gives ∙ get_last tolds (told_as reply);
+    true = is;
+  }
 
   without_entry : (more : List Given) → Kept all site (tolds ++ more) history → Kept all site (tolds ++ more) (history ++ [])
   without_entry more kept = subst (λ (h : List Decided). Kept all site (tolds ++ more) h) (sym (append-nil history)) kept
 
-  on_nothing : Kept all site (tolds ++ []) (history ++ [])
-  on_nothing = without_entry [] (subst (λ (t : List Given). Kept all site t history) (sym (append-nil tolds)) holds)
+  on_nothing : Gives [] → Kept all site (tolds ++ []) (history ++ [])
+  on_nothing gives = without_entry [] (subst (λ (t : List Given). Kept all site t history) (sym (append-nil tolds)) holds)
 
-  on_refusal : (reply : Reply) → IsRefusal reply → IsTrueReply site origin reply → Kept all site (tolds ++ told_as reply ∷ []) (history ++ [])
-  on_refusal reply refusal is = without_entry (told_as reply ∷ []) (said all site tolds history holds (told_as reply) (truly_as reply is)
+  on_refusal : (reply : Reply) → IsRefusal reply → IsTrueReply site origin reply → Gives (told_as reply ∷ []) → Kept all site (tolds ++ told_as reply ∷ []) (history ++ [])
+  on_refusal reply refusal is gives = without_entry (told_as reply ∷ []) (said all site tolds history holds (told_as reply) (truly_as reply gives is)
       (λ place e. absurd (refusal_is_no_syntax reply place refusal e))
       (λ final. absurd (refusal_is_not_final reply refusal final))
       (λ committed. absurd (refusal_is_not_final reply refusal (committed_is_final reply committed))))
 
-  on_repeat : (reply : Reply) → IsLast site origin → (session_of origin.user site.sessions).reply ≡ Some reply → Kept all site (tolds ++ told_as reply ∷ []) (history ++ [])
-  on_repeat reply last kept =
+  on_repeat : (reply : Reply) → IsLast site origin → (session_of origin.user site.sessions).reply ≡ Some reply → Gives (told_as reply ∷ []) → Kept all site (tolds ++ told_as reply ∷ []) (history ++ [])
+  on_repeat reply last kept gives =
       let is : last_origin site origin.user ≡ origin = same_origin (last_origin site origin.user) origin (sym home) refl (sym last.epoch) (sym last.number) in
-      without_entry (told_as reply ∷ []) (said all site tolds history holds (told_as reply) (truly_as reply (true_if_keepable site origin reply (holds.keepable origin.user reply kept)))
+      without_entry (told_as reply ∷ []) (said all site tolds history holds (told_as reply) (truly_as reply gives (true_if_keepable site origin reply (holds.keepable origin.user reply kept)))
       (λ place e. subst (λ (o : Origin). (place ≡ 0) × IsNoRequest all o) is (holds.syntax_kept origin.user place (kept ∙ ap (λ (r : Reply). Some r) e)))
       (λ final. record { number = last.number; reply = kept })
       (λ committed. subst (λ (o : Origin). IsEntered history o) is (holds.entered_kept origin.user reply kept committed)))
 
   on_taken : IsNext site origin → (reply : Reply) → (after : SiteState) → after.me ≡ site.me → after.epoch ≡ site.epoch → after.sessions ≡ (remembering site origin reply).sessions → (more : List Decided)
       → IsKeepable reply → ((place : ℕ) → reply ≡ replies.Syntax place → (place ≡ 0) × IsNoRequest all origin) → (IsCommitted reply → IsEntered (history ++ more) origin)
-      → Kept all after (tolds ++ told_as reply ∷ []) (history ++ more)
-  on_taken next reply after me epoch sessions more may syntax_is entered =
+      → Gives (told_as reply ∷ []) → Kept all after (tolds ++ told_as reply ∷ []) (history ++ more)
+  on_taken next reply after me epoch sessions more may syntax_is entered gives =
       said all after tolds (history ++ more) (remembered all site tolds history holds origin home next reply after me epoch sessions more may syntax_is entered) (told_as reply)
-      (truly_as reply (true_if_keepable site origin reply may)) syntax_is
+      (truly_as reply gives (true_if_keepable site origin reply may)) syntax_is
       (λ final. kept_then all site tolds history holds origin home next reply after me epoch sessions more may syntax_is entered) entered
 
-  on_no_request : IsNext site origin → statement_of text ≡ None → Kept all (remembering site origin (replies.Syntax 0)) (tolds ++ told_as (replies.Syntax 0) ∷ []) (history ++ [])
-  on_no_request next none =
+  on_no_request : IsNext site origin → statement_of text ≡ None → Gives (told_as (replies.Syntax 0) ∷ []) → Kept all (remembering site origin (replies.Syntax 0)) (tolds ++ told_as (replies.Syntax 0) ∷ []) (history ++ [])
+  on_no_request next none gives =
       let no_request : IsNoRequest all origin = record { text = text; takes = record { before = before; site = site; hears = hears; epoch = next.epoch; number = next.number }; no_request = none } in
       on_taken next (replies.Syntax 0) (remembering site origin (replies.Syntax 0)) refl refl refl [] tt
       (λ place e. (let zero_is : 0 ≡ place = cc in sym zero_is, no_request))
-      (λ committed. absurd committed)
+      (λ committed. absurd committed) gives
 
   on_executed : IsNext site origin → (stmt : Stmt) → After (executed site from origin text stmt)
-  on_executed next stmt =
+  on_executed next stmt gives =
       let outcome : Outcome = (meaning site.database (execution_of (next_txn site) origin stmt)).1 in
       let entry : Decided = record { txn = next_txn site; origin = origin; text = text } in
       on_taken next (reply_of outcome) (executed site from origin text stmt).0 refl refl refl (entry ∷ []) (keepable_outcome outcome)
       (λ place e. absurd (outcome_is_no_syntax outcome place e))
-      (λ committed. record { place = length history; entry = entry; there = get_last history entry; origin = refl })
+      (λ committed. record { place = length history; entry = entry; there = get_last history entry; origin = refl }) gives
 
   pub told_keeps : (came : SiteState × Outs) → Asked site from origin text came → After came
   told_keeps came (Refused reply refusal is e) = subst After (sym e) (on_refusal reply refusal is)

@@ -17,7 +17,7 @@ use Rattle.rs_site.specs.Truth.{IsTrueReply}
 use Rattle.rs_site.specs.declared.outs.Decided.{Decided}
 use Rattle.rs_world.specs.declared.report.Given.{Given}
 use Rattle.rs_world.specs.declared.report.Report.{Report}
-use Rattle.rs_world.specs.Course.{Happening, Post, course, report_of}
+use Rattle.rs_world.specs.Course.{Happening, Post, Deliver, course, report_of}
 use Rattle.rs_world.specs.History.{database_of, outcome_behind}
 use Rattle.rs_world.specs.Moments.{happenings, world_after, Hears, Takes}
 
@@ -60,6 +60,8 @@ pub record IsGivenTruly (events : List Event) (place : ℕ) (given : Given) : Ty
   pub text : List ℕ
   pub hears : Hears events before site given.origin text
   pub number : length (world_after before).replies ≡ place
+  -- and the delivery gave it
+  pub gives : slice_get (world_after (before ++ Deliver ∷ [])).replies place ≡ Some given
   pub true : IsTrueReply site given.origin given.reply
 
 -- the request was taken with a text that is no request
