@@ -1,5 +1,5 @@
 -- The loop over the events of a source: what was read, in front of what is still read.
-use Rattle.std.proofs.Common.{◌≡◌, ℕ, ◌+◌, ◌≤◌, Bool, true, false, cond, List, [], ◌∷◌, ◌++◌, length, Option, Some, None, Result, Ok, Err, refl, sym, ap, ◌∙◌, append_assoc, arith}
+use Rattle.std.proofs.Common.{◌≡◌, ℕ, ◌+◌, ◌≤◌, Bool, true, false, cond, List, [], ◌∷◌, ◌++◌, length, Option, Some, None, Result, Ok, Err, refl, sym, ap, ◌∙◌, subst, append_assoc, arith}
 use Rattle.rs_sched.specs.declared.event.Event.{Event}
 use Rattle.rs_sched.specs.declared.fault.Why.{Why}
 use Rattle.rs_sched.specs.declared.fault.SchedFault.{SchedFault}
@@ -9,7 +9,8 @@ use Rattle.rs_sched.specs.Reader.{line_at, sites_after}
 use Rattle.rs_sched.specs.Next.{Left, next_in, next_of, event_by, none_by, FailsNext}
 use Rattle.rs_world.specs.Accepted.{may_come, is_open_after}
 use Rattle.rstar.specs.declared.source.Cause.TheVariants as causes
-use Rattle.rstar.specs.SourceReader.{Read, refused, with_events, ended, end_by, further_by, source_at, of_sched, FailsSource}
+use Rattle.rstar.specs.declared.source.SourceFault.{SourceFault}
+use Rattle.rstar.specs.SourceReader.{Read, refused, with_events, ended, end_by, further_by, source_at, of_sched, FailsSource, GivesSource}
 
 abbrev Next : Type 0
 Next = Result (Option Event × Left) SchedFault
@@ -78,6 +79,10 @@ abbrev found_in : Next → Option Event
 found_in (Ok found) = found.0
 found_in (Err fault) = None
 
+abbrev lines_in : Next → List (List ℕ)
+lines_in (Ok found) = found.1.lines
+lines_in (Err fault) = []
+
 fewer_in : (lines : List (List ℕ)) (sites : Option ℕ) (before : ℕ) (event : Event) (new : Left) → next_in sites before lines ≡ Ok (Some event, new) → length new.lines + 1 ≤ length lines
 fewer_in [] None before event new e = absurd cc
 fewer_in [] (Some sites) before event new e = let f : None ≡ Some event = ap found_in e in absurd cc
@@ -86,7 +91,7 @@ fewer_in (line ∷ lines) sites before event new e = by_comment (is_comment (wit
     by_line : (read : Result Event Why) → event_by (record { sites = sites; before = before + 1; lines = lines }) read ≡ Ok (Some event, new) → length new.lines + 1 ≤ length (line ∷ lines)
     by_line (Err why) e = absurd cc
     by_line (Ok given) e =
-        let same : lines ≡ new.lines = cc in
+        let same : lines ≡ new.lines = ap lines_in e in
         omega (arith, ap (λ (ls : List (List ℕ)). length ls) same)
 
     by_comment : (comment : Bool) → ((sites : Option ℕ) (before : ℕ) (event : Event) (new : Left) → next_in sites before lines ≡ Ok (Some event, new) → length new.lines + 1 ≤ length lines)
@@ -97,3 +102,24 @@ fewer_in (line ∷ lines) sites before event new e = by_comment (is_comment (wit
 pub fewer : (left new : Left) (event : Event) → next_of left ≡ Ok (Some event, new) → length new.lines + 1 ≤ length left.lines
 unfolding next_of
 fewer left new event e = fewer_in left.lines left.sites left.before event new e
+
+-- ---- by what came of the next line
+
+some_next : (left new : Left) (next : Option Event) (event : Event) → next_of left ≡ Ok (next, new) → next ≡ Some event → next_of left ≡ Ok (Some event, new)
+some_next left new next event e is = e ∙ ap (λ (n : Option Event). Ok (n, new)) is
+
+pub goes_on : (found : List Event) (unsettled : Bool) (left new : Left) (next : Option Event) (event : Event) (total : Read) → next_of left ≡ Ok (next, new) → next ≡ Some event → may_come unsettled event ≡ true
+    → with_events found (source_at unsettled left.sites left.before left.lines) ≡ total → with_events (found ++ event ∷ []) (source_at (is_open_after unsettled event) new.sites new.before new.lines) ≡ total
+goes_on found unsettled left new next event total e is may so_far = read_more found unsettled left new event total (some_next left new next event e is) may so_far
+
+pub comes_later : (found : List Event) (unsettled : Bool) (left new : Left) (next : Option Event) (event : Event) (total : Read) → next_of left ≡ Ok (next, new) → next ≡ Some event → may_come unsettled event ≡ false
+    → with_events found (source_at unsettled left.sites left.before left.lines) ≡ total → total ≡ refused new.before causes.Later
+comes_later found unsettled left new next event total e is may so_far = read_later found unsettled left new event total (some_next left new next event e is) may so_far
+
+pub fewer_left : (left new : Left) (next : Option Event) (event : Event) → next_of left ≡ Ok (next, new) → next ≡ Some event → length new.lines + 1 ≤ length left.lines
+fewer_left left new next event e is = fewer left new event (some_next left new next event e is)
+
+pub ends : (found : List Event) (unsettled : Bool) (left new : Left) (next : Option Event) (total : Read) (result : Result (List Event) SourceFault) → next_of left ≡ Ok (next, new) → ((event : Event) → next ≡ Some event → ⊥)
+    → with_events found (source_at unsettled left.sites left.before left.lines) ≡ total → GivesSource result (with_events found (ended unsettled new.before)) → GivesSource result total
+ends found unsettled left new (Some event) total result e none so_far gives = absurd (none event refl)
+ends found unsettled left new None total result e none so_far gives = subst (GivesSource result) (sym (read_end found unsettled left new total e so_far)) gives

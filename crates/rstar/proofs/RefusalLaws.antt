@@ -21,7 +21,10 @@ use Rattle.rstar.specs.declared.source.Cause.{Cause}
 use Rattle.rstar.specs.declared.source.Cause.TheVariants as causes
 use Rattle.rstar.specs.declared.source.Refusal.{Refusal}
 use Rattle.rstar.specs.Refusal.{IsSource, may_all_come, is_open_behind, IsLaterLine, LacksSettle, IsRefusal}
-use Rattle.rstar.specs.SourceReader.{Read, refused, with_events, end_by, further_by, source_at, source_of}
+use Rattle.std.specs.Prelude.{IfOk}
+use Rattle.rstar.specs.declared.source.SourceFault.{SourceFault}
+use Rattle.rstar.specs.declared.source.SourceFault.TheVariants as faults
+use Rattle.rstar.specs.SourceReader.{GivesSource, Read, refused, with_events, end_by, further_by, source_at, source_of}
 
 -- ---- which events may come
 
@@ -288,6 +291,12 @@ played_as given = Ok given
 abbrev refused_as : Refusal → Read
 refused_as refusal = Err refusal
 
+abbrev read_as : List Event → Given
+read_as given = Ok given
+
+same_read : (given others : List Event) → read_as given ≡ read_as others → given ≡ others
+same_read given others e = cc
+
 same_events : (given others : List Event) → played_as given ≡ played_as others → given ≡ others
 same_events given others e = cc
 
@@ -324,19 +333,18 @@ source_again bytes given source = by_found (found_bytes bytes short)
     reads = sym (events_of-short bytes source.schedule.short) ∙ events_again bytes given source.schedule
 
     by_found : Found false None 0 (lines_of bytes) (source_of bytes) → source_of bytes ≡ Ok given
-    by_found (played others is right accepted) = let same : Ok others ≡ Ok given = sym right ∙ reads in is ∙ same
+    by_found (played others is right accepted) = is ∙ ap played_as (same_read others given (sym right ∙ reads))
     by_found (bad at why is wrong) = let e = sym wrong ∙ reads in absurd cc
     by_found (later at is h) = let e = sym (h.not_all given reads) ∙ (accepted_parts given false source.accepted).0 in absurd cc
     by_found (lacks at is h) =
-        let same : Ok h.given ≡ Ok given = sym h.read ∙ reads in
-        let also : h.given ≡ given = cc in
+        let also = same_read h.given given (sym h.read ∙ reads) in
         let e = sym h.left_open ∙ ap (is_open_behind false) also ∙ (accepted_parts given false source.accepted).1 in
         absurd cc
 
 later_line_again : (bytes : List ℕ) (at : ℕ) → IsLaterLine bytes at → source_of bytes ≡ refused at causes.Later
 later_line_again bytes at h =
     let place : at ≡ 0 + length h.before + 1 = omega (arith, h.place) in
-    source_of-short bytes h.short ∙ ap (source_at false None 0) h.parted ∙ later_again h.before false None 0 h.given h.event h.line h.behind at h.given_lines h.event_line h.right h.may_come h.may_not place
+    source_of-short bytes h.short ∙ ap (source_at false None 0) h.parted ∙ later_again h.before false None 0 h.given h.event h.line h.behind at h.given_lines h.event_line h.right h.all_may h.may_not place
 
 lacks_again : (bytes : List ℕ) (at : ℕ) → LacksSettle bytes at → source_of bytes ≡ refused at causes.Later
 lacks_again bytes at h = by_found (found_bytes bytes h.schedule.short)
@@ -346,12 +354,11 @@ lacks_again bytes at h = by_found (found_bytes bytes h.schedule.short)
 
     by_found : Found false None 0 (lines_of bytes) (source_of bytes) → source_of bytes ≡ refused at causes.Later
     by_found (played others is right accepted) =
-        let same : Ok others ≡ Ok h.given = sym right ∙ reads in
-        let also : h.given ≡ others = cc in
+        let also = same_read h.given others (sym reads ∙ right) in
         let e = sym h.unsettled ∙ ap (is_open_behind false) also ∙ (accepted_parts others false accepted).1 in
         absurd cc
     by_found (bad line why is wrong) = let e = sym wrong ∙ reads in absurd cc
-    by_found (later line is k) = let e = sym (k.not_all h.given reads) ∙ h.may_come in absurd cc
+    by_found (later line is k) = let e = sym (k.not_all h.given reads) ∙ h.all_may in absurd cc
     by_found (lacks line is k) =
         let same : line ≡ at = omega (arith, k.place, h.place) in
         is ∙ ap (λ (n : ℕ). refused n causes.Later) same
@@ -375,7 +382,7 @@ later_is bytes at short h = record {
   given_lines = h.given_lines;
   event_line = h.event_line;
   right = h.right;
-  may_come = h.may;
+  all_may = h.may;
   may_not = h.may_not;
 }
 
@@ -405,12 +412,16 @@ refusal_again bytes at (causes.Bad why) h = fault_source bytes at why h.0 h.1
 refusal_again bytes at causes.Later (inl line) = later_line_again bytes at line
 refusal_again bytes at causes.Later (inr lacking) = lacks_again bytes at lacking
 
+abbrev cause_in : Read → Cause
+cause_in (Ok given) = causes.Later
+cause_in (Err r) = r.cause
+
 -- no later line stands before a bad line that is found
 none_before : (bytes : List ℕ) (at : ℕ) (why : Why) → source_of bytes ≡ refused at (causes.Bad why) → (earlier : ℕ) → earlier < at → ¬ IsLaterLine bytes earlier
 none_before bytes at why e earlier lt = λ h. other_cause earlier at why (sym (later_line_again bytes earlier h) ∙ e)
   where
     other_cause : (m n : ℕ) (w : Why) → refused m causes.Later ≡ refused n (causes.Bad w) → ⊥
-    other_cause m n w e = cc
+    other_cause m n w e = let f : causes.Later ≡ causes.Bad w = ap cause_in e in absurd cc
 
 data Result_of (bytes : List ℕ) : Type 0 where
   source : (given : List Event) → source_of bytes ≡ Ok given → IsSource bytes given → Result_of bytes
@@ -429,7 +440,7 @@ result_of bytes = by_length (ltb 16777216 (length bytes)) refl
     by_found short (lacks at is h) = refusal at causes.Later is (inr (record {
       given = h.given;
       schedule = events_are bytes h.given (reads short (Ok h.given) h.read);
-      may_come = h.may;
+      all_may = h.may;
       unsettled = h.left_open;
       place = omega (arith, h.place);
     }))
@@ -475,3 +486,12 @@ played_or_refused bytes = by_result (result_of bytes)
     by_result : Result_of bytes → ((given : List Event) × IsSource bytes given) ⊎ ((at : ℕ) × (cause : Cause) × IsRefusal bytes at cause)
     by_result (source given is h) = inl (given, h)
     by_result (refusal at cause is h) = inr (at, cause, h)
+
+-- ---- the clauses of the call
+
+pub found_source : (bytes : List ℕ) (result : Result (List Event) SourceFault) → GivesSource result (source_of bytes) → IfOk result (λ given. IsSource bytes given)
+found_source bytes (Ok given) e = source_is bytes given e
+found_source bytes (Err fault) e = tt
+
+pub refused_source : (bytes : List ℕ) (result : Result (List Event) SourceFault) → GivesSource result (source_of bytes) → (refusal : Refusal) → result ≡ Err (faults.Refused refusal) → IsRefusal bytes refusal.line refusal.cause
+refused_source bytes result e r is = refusal_is bytes r (subst (λ (r : Result (List Event) SourceFault). GivesSource r (source_of bytes)) is e)

@@ -108,4 +108,4 @@ pub writes_refusal : (words : List (String Global)) (left after old new : Option
 writes_refusal words left after old new findings.Reported text found is appends = absurd cc
 writes_refusal words left after old new findings.Usage text found is appends = absurd cc
 writes_refusal words None after old new findings.Refused text found is appends = (found.0, tt)
-writes_refusal words (Some bytes) after old new findings.Refused text found is appends = (found.0, text, found.1, appends)
+writes_refusal words (Some bytes) after old new findings.Refused text found is appends = (found.0, (text, found.1, appends))

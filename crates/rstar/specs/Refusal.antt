@@ -39,14 +39,14 @@ pub record IsLaterLine (bytes : List ℕ) (at : ℕ) : Type 0 where
   pub given_lines : AreLines before given
   pub event_line : without_returns line ≡ line_of event
   pub right : IsValid (given ++ event ∷ [])
-  pub may_come : IsTrue (may_all_come false given)
+  pub all_may : IsTrue (may_all_come false given)
   pub may_not : may_come (is_open_behind false given) event ≡ false
 
 -- All lines give events that may come, and behind the last ask there is no settle: it is wanted behind the last line.
 pub record LacksSettle (bytes : List ℕ) (at : ℕ) : Type 0 where
   pub given : List Event
   pub schedule : IsSchedule bytes given
-  pub may_come : IsTrue (may_all_come false given)
+  pub all_may : IsTrue (may_all_come false given)
   pub unsettled : IsTrue (is_open_behind false given)
   pub place : at ≡ length (lines_of bytes) + 1
 
