@@ -1,6 +1,6 @@
 //! The events of a schedule, read one after the other.
 
-ghost use Rattle.std.specs.Prelude.{◌≡◌, false};
+ghost use Rattle.std.specs.Prelude.{◌≡◌, ◌≤◌, ◌^◌, false};
 ghost use Rattle.rs_sched.specs.Lines.{without_returns};
 ghost use Rattle.rs_sched.specs.Reader.{line_at, sites_after};
 ghost use Rattle.rs_sched.specs.Next as spec;
@@ -68,7 +68,8 @@ impl<'a> EventLines<'a> {
 
     /// How many lines were read: the number of the last event's line, or of the last line where no event came.
     pub fn line(&self) -> u64
-        ensures { result ≡ self.now.before }
+        ensures value { result ≡ self.now.before }
+        ensures within { result ≤ 2 ^ 63 }
     {
         self.line
     }

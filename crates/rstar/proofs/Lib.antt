@@ -1,4 +1,5 @@
 pub mod ReadSource
+pub mod ReadingOf
 pub mod RefusalLaws
 pub mod ReplayWord
 pub mod RunLaws

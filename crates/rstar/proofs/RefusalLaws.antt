@@ -1,4 +1,4 @@
--- Bytes are a source or refused, and in one way.
+-- What reading a source line by line finds: its events, or where it stops.
 use Rattle.std.proofs.Common.{◌≡◌, ℕ, ◌+◌, ◌<◌, ◌≤◌, Bool, true, false, cond, ◌&&◌, not, ltb, List, [], ◌∷◌, ◌++◌, length, Option, Some, None, Result, Ok, Err, IsTrue, ◌⊎◌, refl, sym, ap, ◌∙◌, subst, inl, inr, arith}
 use Rattle.std.proofs.lemmas.Bool.{and_parts, and_from, ltb-true, ltb-false, lt-ltb}
 use Rattle.rs_sched.specs.declared.event.Event.{Event}
@@ -20,7 +20,7 @@ use Rattle.rs_world.specs.Accepted.{may_come, is_open_after, are_accepted}
 use Rattle.rstar.specs.declared.source.Cause.{Cause}
 use Rattle.rstar.specs.declared.source.Cause.TheVariants as causes
 use Rattle.rstar.specs.declared.source.Refusal.{Refusal}
-use Rattle.rstar.specs.Refusal.{IsSource, may_all_come, is_open_behind, IsLaterLine, LacksSettle, IsRefusal}
+use Rattle.rstar.specs.Refusal.{IsSource, may_all_come, is_open_behind, IsLaterLine, LacksSettle}
 use Rattle.std.specs.Prelude.{IfOk}
 use Rattle.rstar.specs.declared.source.SourceFault.{SourceFault}
 use Rattle.rstar.specs.declared.source.SourceFault.TheVariants as faults
@@ -341,12 +341,12 @@ source_again bytes given source = by_found (found_bytes bytes short)
         let e = sym h.left_open ∙ ap (is_open_behind false) also ∙ (accepted_parts given false source.accepted).1 in
         absurd cc
 
-later_line_again : (bytes : List ℕ) (at : ℕ) → IsLaterLine bytes at → source_of bytes ≡ refused at causes.Later
+pub later_line_again : (bytes : List ℕ) (at : ℕ) → IsLaterLine bytes at → source_of bytes ≡ refused at causes.Later
 later_line_again bytes at h =
     let place : at ≡ 0 + length h.before + 1 = omega (arith, h.place) in
     source_of-short bytes h.short ∙ ap (source_at false None 0) h.parted ∙ later_again h.before false None 0 h.given h.event h.line h.behind at h.given_lines h.event_line h.right h.all_may h.may_not place
 
-lacks_again : (bytes : List ℕ) (at : ℕ) → LacksSettle bytes at → source_of bytes ≡ refused at causes.Later
+pub lacks_again : (bytes : List ℕ) (at : ℕ) → LacksSettle bytes at → source_of bytes ≡ refused at causes.Later
 lacks_again bytes at h = by_found (found_bytes bytes h.schedule.short)
   where
     reads : lines_at None 0 (lines_of bytes) ≡ Ok h.given
@@ -386,48 +386,16 @@ later_is bytes at short h = record {
   may_not = h.may_not;
 }
 
--- a fault, where no line before it is a later line, is what is found
-short_again : (bytes : List ℕ) (at : ℕ) (why : Why) → length bytes ≤ 16777216 → IsFault bytes at why → ((earlier : ℕ) → earlier < at → ¬ IsLaterLine bytes earlier) → source_of bytes ≡ refused at (causes.Bad why)
-short_again bytes at why short fault none = by_found (found_bytes bytes short)
-  where
-    reads : lines_at None 0 (lines_of bytes) ≡ Err (scheds.BadLine at why)
-    reads = sym (events_of-short bytes short) ∙ fault_again bytes at why fault
+-- where reading stops: at a fault, or at a line that isn't played yet
+abbrev pub Stops : List ℕ → ℕ → Cause → Type 0
+Stops bytes at (causes.Bad why) = IsFault bytes at why
+Stops bytes at causes.Later = IsLaterLine bytes at ⊎ LacksSettle bytes at
 
-    by_found : Found false None 0 (lines_of bytes) (source_of bytes) → source_of bytes ≡ refused at (causes.Bad why)
-    by_found (played given is right accepted) = let e = sym right ∙ reads in absurd cc
-    by_found (bad line other is wrong) =
-        let same = same_fault line at other why (sym wrong ∙ reads) in
-        is ∙ ap (λ (n : ℕ). refused n (causes.Bad other)) same.0 ∙ ap (λ (w : Why). refused at (causes.Bad w)) same.1
-    by_found (later line is h) = absurd (none line (h.fault_behind at why reads) (later_is bytes line short h))
-    by_found (lacks line is h) = let e = sym h.read ∙ reads in absurd cc
-
-fault_source : (bytes : List ℕ) (at : ℕ) (why : Why) → IsFault bytes at why → ((earlier : ℕ) → earlier < at → ¬ IsLaterLine bytes earlier) → source_of bytes ≡ refused at (causes.Bad why)
-fault_source bytes at why (inl many) none = long_read bytes many.long ∙ rw (many.place, many.cause) refl
-fault_source bytes at why (inr (inl line)) none = short_again bytes at why line.short (inr (inl line)) none
-fault_source bytes at why (inr (inr line)) none = short_again bytes at why line.short (inr (inr line)) none
-
--- what a refusal may say is what is read
-pub refusal_again : (bytes : List ℕ) (at : ℕ) (cause : Cause) → IsRefusal bytes at cause → source_of bytes ≡ refused at cause
-refusal_again bytes at (causes.Bad why) h = fault_source bytes at why h.0 h.1
-refusal_again bytes at causes.Later (inl line) = later_line_again bytes at line
-refusal_again bytes at causes.Later (inr lacking) = lacks_again bytes at lacking
-
-abbrev cause_in : Read → Cause
-cause_in (Ok given) = causes.Later
-cause_in (Err r) = r.cause
-
--- no later line stands before a bad line that is found
-none_before : (bytes : List ℕ) (at : ℕ) (why : Why) → source_of bytes ≡ refused at (causes.Bad why) → (earlier : ℕ) → earlier < at → ¬ IsLaterLine bytes earlier
-none_before bytes at why e earlier lt = λ h. other_cause earlier at why (sym (later_line_again bytes earlier h) ∙ e)
-  where
-    other_cause : (m n : ℕ) (w : Why) → refused m causes.Later ≡ refused n (causes.Bad w) → ⊥
-    other_cause m n w e = let f : causes.Later ≡ causes.Bad w = ap cause_in e in absurd cc
-
-data Result_of (bytes : List ℕ) : Type 0 where
+pub data Result_of (bytes : List ℕ) : Type 0 where
   source : (given : List Event) → source_of bytes ≡ Ok given → IsSource bytes given → Result_of bytes
-  refusal : (at : ℕ) (cause : Cause) → source_of bytes ≡ refused at cause → IsRefusal bytes at cause → Result_of bytes
+  refusal : (at : ℕ) (cause : Cause) → source_of bytes ≡ refused at cause → Stops bytes at cause → Result_of bytes
 
-result_of : (bytes : List ℕ) → Result_of bytes
+pub result_of : (bytes : List ℕ) → Result_of bytes
 result_of bytes = by_length (ltb 16777216 (length bytes)) refl
   where
     reads : length bytes ≤ 16777216 → (read : Result (List Event) SchedFault) → lines_at None 0 (lines_of bytes) ≡ read → events_of bytes ≡ read
@@ -435,7 +403,7 @@ result_of bytes = by_length (ltb 16777216 (length bytes)) refl
 
     by_found : length bytes ≤ 16777216 → Found false None 0 (lines_of bytes) (source_of bytes) → Result_of bytes
     by_found short (played given is right accepted) = source given is (record { schedule = events_are bytes given (reads short (Ok given) right); accepted = accepted })
-    by_found short (bad at why is wrong) = refusal at (causes.Bad why) is (fault_is bytes at why (reads short (Err (scheds.BadLine at why)) wrong), none_before bytes at why is)
+    by_found short (bad at why is wrong) = refusal at (causes.Bad why) is (fault_is bytes at why (reads short (Err (scheds.BadLine at why)) wrong))
     by_found short (later at is h) = refusal at causes.Later is (inl (later_is bytes at short h))
     by_found short (lacks at is h) = refusal at causes.Later is (inr (record {
       given = h.given;
@@ -450,48 +418,4 @@ result_of bytes = by_length (ltb 16777216 (length bytes)) refl
     by_length true l =
         let long = ltb-true 16777216 (length bytes) l in
         let is = long_read bytes long in
-        refusal 0 (causes.Bad whys.TooLong) is (inl (record { long = long; place = refl; cause = refl }), none_before bytes 0 whys.TooLong is)
-
--- ---- what is read is so
-
-pub source_is : (bytes : List ℕ) (given : List Event) → source_of bytes ≡ Ok given → IsSource bytes given
-source_is bytes given e = by_result (result_of bytes)
-  where
-    by_result : Result_of bytes → IsSource bytes given
-    by_result (source others is h) = let same : others ≡ given = same_events others given (sym is ∙ e) in subst (IsSource bytes) same h
-    by_result (refusal at cause is h) = absurd (apart given at cause (sym e ∙ is))
-
-pub refusal_is : (bytes : List ℕ) (refusal : Refusal) → source_of bytes ≡ Err refusal → IsRefusal bytes refusal.line refusal.cause
-refusal_is bytes r e = by_result (result_of bytes)
-  where
-    by_result : Result_of bytes → IsRefusal bytes r.line r.cause
-    by_result (source given is h) = absurd (not_both given r (sym is ∙ e))
-    by_result (refusal at cause is h) =
-        let same = same_refusal (record { line = at; cause = cause }) r (sym is ∙ e) in
-        subst (λ (f : Refusal). IsRefusal bytes f.line f.cause) same h
-
--- ---- laws
-
-pub source_is_played : (bytes : List ℕ) (given : List Event) (at : ℕ) (cause : Cause) → IsSource bytes given → IsRefusal bytes at cause → ⊥
-source_is_played bytes given at cause h k = apart given at cause (sym (source_again bytes given h) ∙ refusal_again bytes at cause k)
-
-pub refused_once : (bytes : List ℕ) (at other : ℕ) (cause also : Cause) → IsRefusal bytes at cause → IsRefusal bytes other also → (at ≡ other) × (cause ≡ also)
-refused_once bytes at other cause also h k =
-    let same = same_refusal (record { line = at; cause = cause }) (record { line = other; cause = also }) (sym (refusal_again bytes at cause h) ∙ refusal_again bytes other also k) in
-    (ap (λ (r : Refusal). r.line) same, ap (λ (r : Refusal). r.cause) same)
-
-pub played_or_refused : (bytes : List ℕ) → ((given : List Event) × IsSource bytes given) ⊎ ((at : ℕ) × (cause : Cause) × IsRefusal bytes at cause)
-played_or_refused bytes = by_result (result_of bytes)
-  where
-    by_result : Result_of bytes → ((given : List Event) × IsSource bytes given) ⊎ ((at : ℕ) × (cause : Cause) × IsRefusal bytes at cause)
-    by_result (source given is h) = inl (given, h)
-    by_result (refusal at cause is h) = inr (at, cause, h)
-
--- ---- the clauses of the call
-
-pub found_source : (bytes : List ℕ) (result : Result (List Event) SourceFault) → GivesSource result (source_of bytes) → IfOk result (λ given. IsSource bytes given)
-found_source bytes (Ok given) e = source_is bytes given e
-found_source bytes (Err fault) e = tt
-
-pub refused_source : (bytes : List ℕ) (result : Result (List Event) SourceFault) → GivesSource result (source_of bytes) → (refusal : Refusal) → result ≡ Err (faults.Refused refusal) → IsRefusal bytes refusal.line refusal.cause
-refused_source bytes result e r is = refusal_is bytes r (subst (λ (r : Result (List Event) SourceFault). GivesSource r (source_of bytes)) is e)
+        refusal 0 (causes.Bad whys.TooLong) is (inl (record { long = long; place = refl; cause = refl }))

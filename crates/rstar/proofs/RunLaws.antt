@@ -13,7 +13,7 @@ use Rattle.rstar.specs.declared.run.Finding.{Finding}
 use Rattle.rstar.specs.declared.run.Finding.TheVariants as findings
 use Rattle.rstar.specs.Refusal.{IsSource}
 use Rattle.rstar.specs.Run.{IsReplay, most_read, IsNoSource, Reports, Refuses, OwesReplay, Owes, WritesFront, ReadsRefused, WritesRefusal, HoldsSource, HoldsNoSource, status_of, FoundIn, Finds}
-use Rattle.rstar.proofs.RefusalLaws.{source_is_played}
+use Rattle.rstar.proofs.ReadingOf.{source_is_played}
 
 -- ---- from bytes to the report
 

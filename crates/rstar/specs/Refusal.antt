@@ -1,5 +1,6 @@
--- Which bytes are a source that is played, and which line of other bytes is refused, and why.
-use Rattle.std.specs.Prelude.{◌≡◌, ℕ, ◌+◌, ◌<◌, ◌≤◌, Bool, true, false, ◌&&◌, List, [], ◌∷◌, ◌++◌, fold, length, decimal, codes, IsTrue, ◌⊎◌}
+-- Which bytes are a source that is played, and which line of other bytes is refused, and why. A wrong line goes before
+-- every line that is right and not played yet.
+use Rattle.std.specs.Prelude.{◌≡◌, ℕ, ◌+◌, ◌≤◌, Bool, true, false, ◌&&◌, List, [], ◌∷◌, ◌++◌, fold, length, decimal, codes, IsTrue, ◌⊎◌}
 use Rattle.rs_sched.specs.declared.event.Event.{Event}
 use Rattle.rs_sched.specs.Lines.{lines_of, without_returns}
 use Rattle.rs_sched.specs.Spelling.{line_of}
@@ -52,11 +53,10 @@ pub record LacksSettle (bytes : List ℕ) (at : ℕ) : Type 0 where
 
 -- ---- refusals
 
--- What a refusal says: the first line at which the bytes can't be played, and the cause. A wrong line is one of which
--- no line before gives an event that may not come.
+-- What a refusal says: the fault of bytes that are no schedule; of a schedule, the first line that isn't played yet.
 abbrev pub IsRefusal : List ℕ → ℕ → Cause → Type 0
-IsRefusal bytes line (causes.Bad why) = IsFault bytes line why × ((earlier : ℕ) → earlier < line → ¬ IsLaterLine bytes earlier)
-IsRefusal bytes line causes.Later = IsLaterLine bytes line ⊎ LacksSettle bytes line
+IsRefusal bytes line (causes.Bad why) = IsFault bytes line why
+IsRefusal bytes line causes.Later = ((given : List Event) × IsSchedule bytes given) × (IsLaterLine bytes line ⊎ LacksSettle bytes line)
 
 abbrev pub cause_text : Cause → List ℕ
 cause_text (causes.Bad why) = text_of why

@@ -1,4 +1,4 @@
--- Reading a source: its events, or the first line at which it can't be played.
+-- Reading a source: its events, or the line at which it is refused.
 use Rattle.std.specs.Prelude.{◌≡◌, ℕ, ◌+◌, Bool, true, false, nat_lt, List, [], ◌∷◌, ◌++◌, length, Option, Some, None, Result, Ok, Err, if◌then◌else◌}
 use Rattle.rs_sched.specs.declared.event.Event.{Event}
 use Rattle.rs_sched.specs.declared.fault.Why.{Why}
@@ -6,8 +6,8 @@ use Rattle.rs_sched.specs.declared.fault.Why.TheVariants as whys
 use Rattle.rs_sched.specs.declared.fault.SchedFault.{SchedFault}
 use Rattle.rs_sched.specs.declared.fault.SchedFault.TheVariants as scheds
 pub use Rattle.rs_sched.specs.Lines.{lines_of, without_returns, is_comment}
-use Rattle.rs_sched.specs.Reader.{line_at, sites_after}
-pub use Rattle.rs_world.specs.Accepted.{may_come, is_open_after}
+use Rattle.rs_sched.specs.Reader.{line_at, sites_after, events_of}
+pub use Rattle.rs_world.specs.Accepted.{may_come, is_open_after, are_accepted}
 use Rattle.rstar.specs.declared.source.Cause.{Cause}
 use Rattle.rstar.specs.declared.source.Cause.TheVariants as causes
 use Rattle.rstar.specs.declared.source.Refusal.{Refusal}
@@ -49,6 +49,15 @@ source_at unsettled sites before (line ∷ lines) =
 
 unfoldable pub source_of : List ℕ → Read
 source_of bytes = if nat_lt 16777216 (length bytes) then refused 0 (causes.Bad whys.TooLong) else source_at false None 0 (lines_of bytes)
+
+-- the fault of the schedule, if there is one; else what is read of its lines
+abbrev pub judged : Result (List Event) SchedFault → Read → Read
+judged (Err (scheds.BadLine line why)) read = refused line (causes.Bad why)
+judged (Err scheds.NoMemory) read = read
+judged (Ok given) read = read
+
+unfoldable pub reading_of : List ℕ → Read
+reading_of bytes = judged (events_of bytes) (source_of bytes)
 
 -- ---- what a function gives, against what reading gives
 

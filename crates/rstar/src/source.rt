@@ -5,7 +5,7 @@ ghost use Rattle.rstar.specs.Refusal.{IsSource, IsRefusal, cause_text};
 ghost use Rattle.rstar.specs.SourceReader as spec;
 
 use rs_base::NoMemory;
-use rs_sched::{Event, EventLines, Events, MOST_BYTES, SchedFault, Why};
+use rs_sched::{Event, EventLines, Events, MOST_BYTES, SchedFault, Why, parse_schedule};
 use sqlite_items::Items;
 use std::alloc::{AllocError, Global};
 use thiserror::Error;
@@ -175,13 +175,39 @@ fn read(alloc: Global, bytes: &[u8]) -> Result<Events, SourceFault>
     read_lines(alloc, bytes)
 }
 
+/// Whether each of the events is played, and the last ask has its settle.
+fn are_accepted(events: &[Event]) -> bool
+    ensures { result ≡ spec.are_accepted false events.now }
+{
+    let mut unsettled = false;
+    let mut left = events;
+    while let [event, others @ ..] = left {
+        if !may_come(unsettled, event) {
+            return false;
+        }
+        unsettled = is_open_after(unsettled, event);
+        left = others;
+    }
+    !unsettled
+}
+
+fn read_source(alloc: Global, bytes: &[u8]) -> Result<Events, SourceFault>
+    ensures { spec.GivesSource result (spec.reading_of bytes.now) }
+{
+    let events = parse_schedule(alloc, bytes)?;
+    if are_accepted(events.as_slice()) {
+        return Ok(events);
+    }
+    read(alloc, bytes)
+}
+
 /// The events of a source, all of its bytes.
 ///
-/// `Refused` says the first line at which the bytes can't be played. `NoMemory` says nothing of the bytes. The time goes
-/// with their number.
+/// `Refused` says why the bytes are no schedule, or the first line of a schedule that isn't played yet. `NoMemory` says
+/// nothing of the bytes. The time goes with their number.
 pub fn events_of(alloc: Global, bytes: &[u8]) -> Result<Events, SourceFault>
     ensures found { IfOk result (λ given. IsSource bytes.now given) }
     ensures refused { (refusal : Refusal) → result ≡ Err (SourceFault.Refused refusal) → IsRefusal bytes.now refusal.line refusal.cause }
 {
-    read(alloc, bytes)
+    read_source(alloc, bytes)
 }

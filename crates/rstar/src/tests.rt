@@ -1,1 +1,1 @@
-use crate::run::run;
+

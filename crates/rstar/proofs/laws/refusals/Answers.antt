@@ -1,4 +1,4 @@
-use Rattle.rstar.proofs.RefusalLaws.{source_is_played, refused_once, played_or_refused}
+use Rattle.rstar.proofs.ReadingOf.{source_is_played, refused_once, played_or_refused}
 use Rattle.rstar.proofs.laws.refusals.Goals as goal
 
 pub returns-clause-played : goal.returns-clause-played
