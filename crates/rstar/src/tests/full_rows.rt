@@ -1,0 +1,82 @@
+use super::{fill, gives};
+use rs_base::{Bytes, NoMemory};
+use std::alloc::Global;
+use std::test::*;
+
+const SOURCE: &[u8] = b"sites 1\n\
+    ask 1 ann 1 1 CREATE TABLE t (a TEXT, b TEXT, c TEXT, d TEXT)\n\
+    settle\n\
+    ask 1 ann 1 2 INSERT INTO t VALUES ('', '', '', ''), (";
+
+const DONE: &[u8] = b"reply 1 ann 1 1 done 1\n\
+    ok\n\
+    reply 1 ann 1 2 done 1\n\
+    changed 2\n";
+
+const FULL: &[u8] = b"reply 1 ann 1 1 done 1\n\
+    ok\n\
+    reply 1 ann 1 2 denied 16 TableFull\n";
+
+const HISTORY: &[u8] = b"history 2\n\
+    1 1.1.1 1 ann 1 1 CREATE TABLE t (a TEXT, b TEXT, c TEXT, d TEXT)\n\
+    2 1.1.2 1 ann 1 2 INSERT INTO t VALUES ('', '', '', ''), (";
+
+const TWO_ROWS: &[u8] = b")\n\
+    runs 0\n\
+    site 1 up 1\n\
+    table ann@1.t@1 made 1.1.1 rows 2\n\
+    '','','',''\n";
+
+const NO_ROWS: &[u8] = b")\n\
+    runs 0\n\
+    site 1 up 1\n\
+    table ann@1.t@1 made 1.1.1 rows 0\n";
+
+/// Three texts of 255 bytes and one of so many, from 128 to 255. Each is spelled by three bytes more than it has.
+fn row_of(alloc: Global, last: u64) -> Result<Bytes, NoMemory> {
+    let mut row = Bytes::from_slice(alloc, b"'")?;
+    for count in [255, 255, 255] {
+        fill(&mut row, b'x', count)?;
+        row.extend(b"','")?;
+    }
+    fill(&mut row, b'x', last)?;
+    row.extend(b"'")?;
+    Ok(row)
+}
+
+fn source_of(alloc: Global, row: &Bytes) -> Result<Bytes, NoMemory> {
+    let mut source = Bytes::from_slice(alloc, SOURCE)?;
+    source.extend(row.as_slice())?;
+    source.extend(b")\nsettle\n")?;
+    Ok(source)
+}
+
+/// The replies and the history with this row.
+fn history_of(alloc: Global, replies: &[u8], row: &Bytes) -> Result<Bytes, NoMemory> {
+    let mut report = Bytes::from_slice(alloc, replies)?;
+    report.extend(HISTORY)?;
+    report.extend(row.as_slice())?;
+    Ok(report)
+}
+
+#[test]
+fn a_row_of_1024_bytes_fits(rt: HostRuntime) -> Result<(), Fail> {
+    let row = row_of(rt.alloc(), 247)?;
+    let source = source_of(rt.alloc(), &row)?;
+    let mut report = history_of(rt.alloc(), DONE, &row)?;
+    report.extend(TWO_ROWS)?;
+    report.extend(row.as_slice())?;
+    report.extend(b"\n")?;
+    assert!(rt; gives(rt.alloc(), source.as_slice(), 0, report.as_slice()));
+    Ok(())
+}
+
+#[test]
+fn a_row_of_1025_bytes_is_denied(rt: HostRuntime) -> Result<(), Fail> {
+    let row = row_of(rt.alloc(), 248)?;
+    let source = source_of(rt.alloc(), &row)?;
+    let mut report = history_of(rt.alloc(), FULL, &row)?;
+    report.extend(NO_ROWS)?;
+    assert!(rt; gives(rt.alloc(), source.as_slice(), 0, report.as_slice()));
+    Ok(())
+}
