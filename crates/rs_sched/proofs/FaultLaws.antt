@@ -1,5 +1,5 @@
 -- Bytes have one fault: what a refusal may say of them is what reading them says.
-use Rattle.std.proofs.Common.{◌≡◌, ℕ, zero, suc, ◌+◌, ◌<◌, ◌≤◌, Bool, true, false, cond, List, [], ◌∷◌, ◌++◌, length, Option, Some, None, Result, Ok, Err, IsTrue, ◌⊎◌, refl, sym, ap, ◌∙◌, subst, inl, inr, arith}
+use Rattle.std.proofs.Common.{◌≡◌, ℕ, zero, suc, ◌+◌, ◌<◌, Bool, true, false, List, [], ◌∷◌, ◌++◌, length, Option, Some, None, Result, Ok, Err, IsTrue, ◌⊎◌, refl, sym, ap, ◌∙◌, subst, inl, inr, arith}
 use Rattle.std.proofs.lemmas.Bool.{lt-ltb}
 use Rattle.rs_sched.specs.declared.event.Event.{Event}
 use Rattle.rs_sched.specs.declared.event.Event.TheVariants as events
@@ -8,13 +8,13 @@ use Rattle.rs_sched.specs.declared.fault.Why.TheVariants as whys
 use Rattle.rs_sched.specs.declared.fault.SchedFault.{SchedFault}
 use Rattle.rs_sched.specs.declared.fault.SchedFault.TheVariants as faults
 use Rattle.rs_sched.specs.Lines.{lines_of, without_returns, is_comment}
-use Rattle.rs_sched.specs.Spelling.{line_of, IsLine, IsSiteNo}
-use Rattle.rs_sched.specs.Schedule.{IsLater, AreLines, IsValid, IsSchedule}
-use Rattle.rs_sched.specs.Faults.{IsRightLine, Fits, rank, IsCause, sites_of, IsBegun, IsFault, IsBadLine, HasNoLine, HasTooMany}
-use Rattle.rs_sched.specs.Reader.{lines_at, line_at, at_end, further, sites_after, with_events, events_of}
+use Rattle.rs_sched.specs.Spelling.{line_of, IsLine}
+use Rattle.rs_sched.specs.Schedule.{IsLater, AreLines, IsSchedule}
+use Rattle.rs_sched.specs.Faults.{IsRightLine, rank, IsCause, IsFault}
+use Rattle.rs_sched.specs.Reader.{lines_at, line_at, sites_after, events_of}
 use Rattle.rs_sched.proofs.LineLaws.{line_of_part}
 use Rattle.rs_sched.proofs.CauseLaws.{first_is, later_is}
-use Rattle.rs_sched.proofs.ScheduleLaws.{Feedless, lines_feedless, not_ltb, Few, Continues, Completes, known, no_comment_line, Next, next_of, line_cause, events_again}
+use Rattle.rs_sched.proofs.ScheduleLaws.{Feedless, lines_feedless, not_ltb, Few, Continues, known, no_comment_line, next_of, line_cause, events_again}
 
 -- ---- one cause
 

@@ -1,4 +1,3 @@
-use Rattle.std.proofs.Common.{ap, ◌∙◌, nat_eq}
 use Rattle.rs_sched.proofs.NextLaws.{none_left}
 use Rattle.rs_sched.proofs.event_lines.EventLines.is_at_end.Goals as goal
 

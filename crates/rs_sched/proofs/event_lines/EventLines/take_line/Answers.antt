@@ -1,5 +1,5 @@
-use Rattle.std.proofs.Common.{◌≡◌, ◌+◌, ◌≤◌, ℕ, List, length, ap, ◌∙◌, arith, false}
-use Rattle.rs_sched.specs.Lines.{lines_of, without_returns}
+use Rattle.std.proofs.Common.{◌+◌, ◌≤◌, ℕ, List, length, ap, ◌∙◌, arith}
+use Rattle.rs_sched.specs.Lines.{without_returns}
 use Rattle.rs_sched.specs.Next.{Left, is_none}
 use Rattle.rs_sched.proofs.ReadLoop.{Taken, taken_smaller}
 use Rattle.rs_sched.proofs.NextLaws.{some_left, first_left, rest_left}
