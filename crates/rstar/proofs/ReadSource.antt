@@ -6,11 +6,11 @@ use Rattle.rs_sched.specs.declared.fault.SchedFault.{SchedFault}
 use Rattle.rs_sched.specs.declared.fault.SchedFault.TheVariants as scheds
 use Rattle.rs_sched.specs.Lines.{without_returns, is_comment}
 use Rattle.rs_sched.specs.Reader.{line_at, sites_after}
-use Rattle.rs_sched.specs.Next.{Left, next_in, next_of, event_by, none_by, FailsNext}
+use Rattle.rs_sched.specs.Next.{Left, next_in, next_of, event_by, FailsNext}
 use Rattle.rs_world.specs.Accepted.{may_come, is_open_after}
 use Rattle.rstar.specs.declared.source.Cause.TheVariants as causes
 use Rattle.rstar.specs.declared.source.SourceFault.{SourceFault}
-use Rattle.rstar.specs.SourceReader.{Read, refused, with_events, ended, end_by, further_by, source_at, of_sched, FailsSource, GivesSource}
+use Rattle.rstar.specs.SourceReader.{Read, refused, with_events, ended, further_by, source_at, of_sched, FailsSource, GivesSource}
 
 abbrev Next : Type 0
 Next = Result (Option Event × Left) SchedFault

@@ -7,7 +7,6 @@ use Rattle.rs_sched.specs.declared.fault.Why.TheVariants as whys
 use Rattle.rs_sched.specs.declared.fault.SchedFault.{SchedFault}
 use Rattle.rs_sched.specs.declared.fault.SchedFault.TheVariants as scheds
 use Rattle.rs_sched.specs.Lines.{lines_of, without_returns, is_comment}
-use Rattle.rs_sched.specs.Schedule.{IsSchedule}
 use Rattle.rs_sched.specs.Reader as sched
 use Rattle.rs_sched.specs.Reader.{lines_at, line_at, further, sites_after, events_of}
 use Rattle.rs_sched.specs.Reading.{FailsSchedule}

@@ -1,5 +1,5 @@
 -- What reading a source line by line finds: its events, or where it stops.
-use Rattle.std.proofs.Common.{◌≡◌, ℕ, ◌+◌, ◌<◌, ◌≤◌, Bool, true, false, cond, ◌&&◌, not, ltb, List, [], ◌∷◌, ◌++◌, length, Option, Some, None, Result, Ok, Err, IsTrue, ◌⊎◌, refl, sym, ap, ◌∙◌, subst, inl, inr, arith}
+use Rattle.std.proofs.Common.{◌≡◌, ℕ, ◌+◌, ◌<◌, ◌≤◌, Bool, true, false, cond, ◌&&◌, ltb, List, [], ◌∷◌, ◌++◌, length, Option, Some, None, Result, Ok, Err, ◌⊎◌, refl, sym, ap, ◌∙◌, subst, inl, inr, arith}
 use Rattle.std.proofs.lemmas.Bool.{and_parts, and_from, ltb-true, ltb-false, lt-ltb}
 use Rattle.rs_sched.specs.declared.event.Event.{Event}
 use Rattle.rs_sched.specs.declared.fault.Why.{Why}
@@ -8,23 +8,19 @@ use Rattle.rs_sched.specs.declared.fault.SchedFault.{SchedFault}
 use Rattle.rs_sched.specs.declared.fault.SchedFault.TheVariants as scheds
 use Rattle.rs_sched.specs.Lines.{lines_of, without_returns, is_comment}
 use Rattle.rs_sched.specs.Spelling.{line_of}
-use Rattle.rs_sched.specs.Schedule.{AreLines, IsValid, IsSchedule}
+use Rattle.rs_sched.specs.Schedule.{AreLines}
 use Rattle.rs_sched.specs.Faults.{IsFault}
 use Rattle.rs_sched.specs.Reader as sched
 use Rattle.rs_sched.specs.Reader.{lines_at, line_at, further, sites_after, events_of}
 use Rattle.rs_sched.proofs.CauseLaws.{first_is}
 use Rattle.rs_sched.proofs.LineLaws.{line_of_part}
-use Rattle.rs_sched.proofs.ScheduleLaws.{not_ltb, Feedless, lines_feedless, Few, Completes, Follows, line_follows, comment_more, no_comment_line, Next, next_of, events_are, events_again, fault_is}
-use Rattle.rs_sched.proofs.FaultLaws.{fault_again}
+use Rattle.rs_sched.proofs.ScheduleLaws.{not_ltb, Feedless, lines_feedless, Few, Completes, Follows, line_follows, comment_more, no_comment_line, next_of, events_are, events_again, fault_is}
 use Rattle.rs_world.specs.Accepted.{may_come, is_open_after, are_accepted}
 use Rattle.rstar.specs.declared.source.Cause.{Cause}
 use Rattle.rstar.specs.declared.source.Cause.TheVariants as causes
 use Rattle.rstar.specs.declared.source.Refusal.{Refusal}
 use Rattle.rstar.specs.Refusal.{IsSource, may_all_come, is_open_behind, IsLaterLine, LacksSettle}
-use Rattle.std.specs.Prelude.{IfOk}
-use Rattle.rstar.specs.declared.source.SourceFault.{SourceFault}
-use Rattle.rstar.specs.declared.source.SourceFault.TheVariants as faults
-use Rattle.rstar.specs.SourceReader.{GivesSource, Read, refused, with_events, end_by, further_by, source_at, source_of}
+use Rattle.rstar.specs.SourceReader.{Read, refused, with_events, end_by, further_by, source_at, source_of}
 
 -- ---- which events may come
 

@@ -1,6 +1,6 @@
 -- Which bytes are a source that is played, and which line of other bytes is refused, and why. A wrong line goes before
 -- every line that is right and not played yet.
-use Rattle.std.specs.Prelude.{◌≡◌, ℕ, ◌+◌, ◌≤◌, Bool, true, false, ◌&&◌, List, [], ◌∷◌, ◌++◌, fold, length, decimal, codes, IsTrue, ◌⊎◌}
+use Rattle.std.specs.Prelude.{◌≡◌, ℕ, ◌+◌, ◌≤◌, Bool, true, false, ◌&&◌, List, [], ◌∷◌, ◌++◌, length, decimal, codes, IsTrue, ◌⊎◌}
 use Rattle.rs_sched.specs.declared.event.Event.{Event}
 use Rattle.rs_sched.specs.Lines.{lines_of, without_returns}
 use Rattle.rs_sched.specs.Spelling.{line_of}

@@ -1,4 +1,4 @@
-use Rattle.std.proofs.Common.{ℕ, ap, ◌∙◌, subst, sym, rules, arith}
+use Rattle.std.proofs.Common.{ℕ, subst, rules, arith}
 use Rattle.std.proofs.lemmas.Result.{err_from_is_err_and}
 use Rattle.rstar.specs.SourceReader.{GivesSource, with_events, ended}
 use Rattle.rstar.proofs.ReadSource.{read_bad, ends, comes_later, goes_on, fewer_left}
