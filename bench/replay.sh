@@ -1,6 +1,7 @@
 #!/usr/bin/env bash
-# Plays a table and 10,000, 20,000 and 40,000 asks that insert one row each, and prints how long the built program took
-# and the most memory that it held. It is no test. PROGRAM names another program than the built one.
+# Plays a table and 10,000, 20,000 and 40,000 asks that insert one row each, and prints how long the built program took,
+# the best of five runs, and the most memory that it held. It is no test. PROGRAM names another program than the built
+# one.
 set -eu
 cd "$(dirname "${BASH_SOURCE[0]}")/.."
 if [ -z "${PROGRAM:-}" ]; then
@@ -27,8 +28,14 @@ def write_source(path, inserts):
     return len(lines)
 
 
+def best(source, report):
+    """The least seconds and memory of five runs."""
+    runs = [play(source, report) for _ in range(5)]
+    return min(seconds for seconds, _ in runs), min(kib for _, kib in runs)
+
+
 def play(source, report):
-    """Seconds, and the most memory in KiB."""
+    """Seconds, and the most memory in KiB. That of this script before it started the program counts too."""
     with open(source, "rb") as given, open(report, "wb") as taken:
         start = time.perf_counter()
         child = subprocess.Popen([os.environ["PROGRAM"], "replay"], stdin=given, stdout=taken)
@@ -42,10 +49,12 @@ def play(source, report):
 
 with tempfile.TemporaryDirectory() as folder:
     source, report = f"{folder}/source", f"{folder}/report"
+    write_source(source, 0)
+    print(f"no asks but that for the table: at most {play(source, report)[1]} KiB, of which most are this script's")
     before = None
     for inserts in (10_000, 20_000, 40_000):
         events = write_source(source, inserts)
-        seconds, kib = play(source, report)
+        seconds, kib = best(source, report)
         size = os.path.getsize(source)
         print(
             f"{inserts} asks, {size} bytes in, {os.path.getsize(report)} bytes out: "
