@@ -1,46 +1,66 @@
 #!/usr/bin/env bash
-# Plays the largest source that is accepted, 200 asks with texts of 1,000 bytes, and prints how long the built program
-# took and the most memory that it held. It is no test.
+# Plays a table and 10,000, 20,000 and 40,000 asks that insert one row each, and prints how long the built program took,
+# the best of five runs, and the most memory that it held. It is no test. PROGRAM names another program than the built
+# one.
 set -eu
 cd "$(dirname "${BASH_SOURCE[0]}")/.."
-echo 'sites 1' | ./rstar replay >/dev/null
+if [ -z "${PROGRAM:-}" ]; then
+  echo 'sites 1' | ./rstar replay >/dev/null
+  PROGRAM=crates/rstar/out/rstar
+fi
+export PROGRAM
 
 python3 - <<'PYTHON'
-import resource
+import os
 import subprocess
 import sys
+import tempfile
 import time
 
 
-def source(asks):
-    """A table, and then INSERTs of 1,000 bytes into it."""
-    lines = ["sites 1"]
-    for number in range(1, asks + 1):
-        text = "CREATE TABLE t (a INT, b TEXT)"
-        if number > 1:
-            text = "INSERT INTO t VALUES "
-            values = []
-            while len(text) + sum(len(value) + 1 for value in values) + 12 <= 1000:
-                values.append(f"({number % 10},'bird')")
-            text += ",".join(values)
-            text += " " * (1000 - len(text))
-        lines += [f"ask 1 ann 1 {number} {text}", "settle"]
-    return ("\n".join(lines) + "\n").encode()
+def write_source(path, inserts):
+    """A table, and then so many INSERTs of one row into it, each with its settle. Gives the number of events."""
+    lines = ["sites 1", "ask 1 ann 1 1 CREATE TABLE t (a INT, b TEXT)", "settle"]
+    for number in range(2, inserts + 2):
+        lines += [f"ask 1 ann 1 {number} INSERT INTO t VALUES ({number}, 'bird')", "settle"]
+    with open(path, "w") as file:
+        file.write("\n".join(lines) + "\n")
+    return len(lines)
 
 
-def play(schedule):
-    before = resource.getrusage(resource.RUSAGE_CHILDREN)
-    start = time.perf_counter()
-    done = subprocess.run(["crates/rstar/out/rstar", "replay"], input=schedule, stdout=subprocess.PIPE)
-    seconds = time.perf_counter() - start
-    after = resource.getrusage(resource.RUSAGE_CHILDREN)
-    if done.returncode != 0:
-        sys.exit(f"the status is {done.returncode}")
-    return seconds, after.ru_utime - before.ru_utime, after.ru_maxrss, len(done.stdout)
+def best(source, report):
+    """The least seconds and memory of five runs."""
+    runs = [play(source, report) for _ in range(5)]
+    return min(seconds for seconds, _ in runs), min(kib for _, kib in runs)
 
 
-for asks in (50, 100, 200):
-    schedule = source(asks)
-    seconds, user, kib, out = play(schedule)
-    print(f"{asks} asks, {len(schedule)} bytes in, {out} bytes out: {seconds:.3f} s ({user:.3f} s of processor), at most {kib} KiB")
+def play(source, report):
+    """Seconds, and the most memory in KiB. That of this script before it started the program counts too."""
+    with open(source, "rb") as given, open(report, "wb") as taken:
+        start = time.perf_counter()
+        child = subprocess.Popen([os.environ["PROGRAM"], "replay"], stdin=given, stdout=taken)
+        _, status, used = os.wait4(child.pid, 0)
+        seconds = time.perf_counter() - start
+    child.returncode = os.waitstatus_to_exitcode(status)
+    if child.returncode != 0:
+        sys.exit(f"the status is {child.returncode}")
+    return seconds, used.ru_maxrss
+
+
+with tempfile.TemporaryDirectory() as folder:
+    source, report = f"{folder}/source", f"{folder}/report"
+    write_source(source, 0)
+    print(f"no asks but that for the table: at most {play(source, report)[1]} KiB, of which most are this script's")
+    before = None
+    for inserts in (10_000, 20_000, 40_000):
+        events = write_source(source, inserts)
+        seconds, kib = best(source, report)
+        size = os.path.getsize(source)
+        print(
+            f"{inserts} asks, {size} bytes in, {os.path.getsize(report)} bytes out: "
+            f"{seconds:.3f} s, {events / seconds:.0f} events a second; "
+            f"at most {kib} KiB, {kib * 1024 / size:.1f} times the schedule"
+            + ("" if before is None else f"; {seconds / before:.2f} times the time before")
+        )
+        before = seconds
 PYTHON
