@@ -8,6 +8,10 @@ const CREATE: &[u8] = b"CREATE TABLE t (a INT)";
 
 const INSERT: &[u8] = b"INSERT INTO t VALUES (7)";
 
+const NO_REQUEST: &[u8] = b"no request";
+
+const SYNTAX: &[u8] = b"reply 1 ann 1 3 syntax 0\n";
+
 /// An ask of ann: the epoch, the number, the part and the text.
 #[derive(Clone, Copy)]
 struct Asked<'a>(u32, u64, u32, &'a [u8]);
@@ -84,16 +88,8 @@ fn asks_are_answered_by_their_numbers(rt: HostRuntime) -> Result<(), Fail> {
             0,
         ),
         (Asked(1, 2, 1, b""), b"".as_slice(), 0),
-        (
-            Asked(1, 3, 0, b"no request"),
-            b"reply 1 ann 1 3 syntax 0\n".as_slice(),
-            0,
-        ),
-        (
-            Asked(1, 3, 0, b"no request"),
-            b"reply 1 ann 1 3 syntax 0\n".as_slice(),
-            0,
-        ),
+        (Asked(1, 3, 0, NO_REQUEST), SYNTAX, 0),
+        (Asked(1, 3, 0, NO_REQUEST), SYNTAX, 0),
     ] {
         let input = datagram(rt.alloc(), asked)?;
         let is_so = tells_so(rt.alloc(), &mut site, &input, want, commits)?;
