@@ -103,8 +103,8 @@ fn find_owed<S: Source>(alloc: Global, words: &[String], source: &mut S) -> Resu
 ///
 /// - 0: the source was read to its end, and the report of its events was written;
 /// - 1: the words are not the one word `replay`; `usage` was written;
-/// - 2: the bytes read, to the end of the source or one byte more than a source has, are no source; the first line at
-///   which they can't be played was written, and the cause;
+/// - 2: the bytes read, to the end of the source or one byte more than a source has, are no source; the line at which
+///   they are refused was written, and the cause;
 /// - 3: the source failed, and nothing was written;
 /// - 4: the sink failed;
 /// - 5: memory was wanting.

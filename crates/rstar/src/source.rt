@@ -19,7 +19,7 @@ pub enum Cause {
     Later,
 }
 
-/// The first line at which bytes can't be played, from 1, and the cause; line 0 for too many bytes.
+/// The line at which bytes are refused, from 1, and the cause; line 0 for too many bytes.
 #[derive(Clone, Copy, Debug, PartialEq, Eq)]
 pub struct Refusal {
     pub line: u64,
