@@ -33,7 +33,7 @@ pub record Reports (bytes text : List ℕ) : Type 0 where
   pub explains : Explains given report
   pub prints : text ≡ printed_report report
 
--- The text says at which line these bytes can't be played, and why.
+-- The text says at which line these bytes are refused, and why.
 pub record Refuses (bytes text : List ℕ) : Type 0 where
   pub line : ℕ
   pub cause : Cause
@@ -56,7 +56,7 @@ WritesFront words left old new = ((text : List ℕ) × Owes words left text × A
 abbrev pub WritesReport : Option (List ℕ) → Option (List ℕ) → Option (List ℕ) → Type 0
 WritesReport left old new = IfSome left (λ bytes. (text : List ℕ) × Reports bytes text × Appends old new text)
 
--- The text says at which line the bytes can't be played as far as they are read, where the source tells them.
+-- The text says at which line the bytes are refused as far as they are read, where the source tells them.
 abbrev pub ReadsRefused : Option (List ℕ) → List ℕ → Type 0
 ReadsRefused left text = IfSome left (λ bytes. Refuses (take most_read bytes) text)
 

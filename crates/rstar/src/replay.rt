@@ -9,7 +9,7 @@ use rs_base::Bytes;
 use rs_world::{World, print_report};
 use std::alloc::Global;
 
-/// The text of the report of a source, or the line at which the bytes can't be played.
+/// The text of the report of a source, or the line at which the bytes are refused.
 pub fn report_text(alloc: Global, bytes: &[u8]) -> Result<Bytes, SourceFault>
     ensures reported { IfOk result (λ text. Reports bytes.now text) }
     ensures refused { (refusal : Refusal) → result ≡ Err (SourceFault.Refused refusal) → IsRefusal bytes.now refusal.line refusal.cause }

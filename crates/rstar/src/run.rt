@@ -22,7 +22,7 @@ pub enum Finding {
     Reported,
     /// How it is used, since the words are no command.
     Usage,
-    /// At which line the source can't be played, and why.
+    /// At which line the source is refused, and why.
     Refused,
 }
 
