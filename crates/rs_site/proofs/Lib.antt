@@ -1,5 +1,6 @@
 pub mod Asked
 pub mod Books
+pub mod Divided
 pub mod Lawful
 pub mod PutSessions
 pub mod Quiet

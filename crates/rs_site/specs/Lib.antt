@@ -1,6 +1,8 @@
 pub mod Asking
 pub mod Dropped
 pub mod Laws
+pub mod PartLaws
+pub mod Parts
 pub mod Sessions
 pub mod State
 pub mod Step

@@ -10,7 +10,7 @@ use rs_base::{Bytes, NoMemory, Origin, Peer, Reply, print_reply};
 use std::alloc::Global;
 
 /// How many bytes a part of a reply has, but for the last.
-const PART_SIZE: u64 = 30_000;
+pub(crate) const PART_SIZE: u64 = 30_000;
 
 /// Whether the printed reply has this part, by printing it.
 fn printed_has_part(

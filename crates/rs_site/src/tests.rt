@@ -1,6 +1,6 @@
 use super::*;
-use rs_base::{Bytes, Ident, Peer, SiteNo, print_reply};
-use rs_msg::{Ask, Message, encode};
+use rs_base::{Bytes, Ident, Origin, Peer, Reply, SiteNo, print_reply};
+use rs_msg::{Ask, Message, decode, encode};
 use std::alloc::Global;
 use std::test::*;
 
@@ -111,5 +111,39 @@ fn noise_is_dropped(rt: HostRuntime) -> Result<(), Fail> {
     assert!(rt; is_so);
     let is_so = tells_so(rt.alloc(), &mut site, &Input::Tick, b"".as_slice(), 0)?;
     assert!(rt; is_so);
+    Ok(())
+}
+
+/// A part of the reply to ann's third request, which is told that its text is no request.
+fn told_syntax(part: u32) -> Result<Told, Fail> {
+    let user = Ident::new(b"ann").ok_or("no identifier")?;
+    Ok(Told {
+        to: Peer::Client(7),
+        origin: Origin {
+            site: SiteNo::first(),
+            user,
+            epoch: 1,
+            number: 3,
+        },
+        part,
+        reply: Reply::Syntax(0),
+    })
+}
+
+#[test]
+fn part_of_a_reply_is_a_message(rt: HostRuntime) -> Result<(), Fail> {
+    let message = told_syntax(0)?.message(rt.alloc())?.ok_or("no message")?;
+    let mut bytes = Bytes::new(rt.alloc());
+    encode(rt.alloc(), &message, &mut bytes)?;
+    let Ok(Message::Reply(read)) = decode(rt.alloc(), bytes.as_slice()) else {
+        return Err(Fail::from("another message"));
+    };
+    assert_eq!(rt; read.origin.user.as_bytes(), b"ann".as_slice());
+    assert_eq!(rt; read.origin.number, 3);
+    assert_eq!(rt; read.part, 0);
+    assert_eq!(rt; read.parts, 1);
+    assert_eq!(rt; read.bytes.as_slice(), SYNTAX);
+    let further = told_syntax(1)?.message(rt.alloc())?;
+    assert!(rt; further.is_none());
     Ok(())
 }
