@@ -39,26 +39,6 @@ and_false false = refl
 
 -- ---- lines that are read by the grammar alone
 
--- a fault stands behind the lines that were read
-beyond : (lines : List (List ℕ)) (sites : Option ℕ) (before at : ℕ) (why : Why) → lines_at sites before lines ≡ Err (scheds.BadLine at why) → before < at
-beyond [] None before at why e = let same : before + 1 ≡ at = cc in omega (arith, same)
-beyond [] (Some sites) before at why e = absurd cc
-beyond (line ∷ lines) sites before at why e = by_comment (is_comment (without_returns line)) (beyond lines) e
-  where
-    with_err : (event : Event) (read : Result (List Event) SchedFault) → sched.with_events (event ∷ []) read ≡ Err (scheds.BadLine at why) → read ≡ Err (scheds.BadLine at why)
-    with_err event (Err other) e = e
-    with_err event (Ok others) e = absurd cc
-
-    by_line : (read : Result Event Why) → further (before + 1) read (λ event. lines_at (sites_after sites event) (before + 1) lines) ≡ Err (scheds.BadLine at why)
-        → ((sites : Option ℕ) (before at : ℕ) (why : Why) → lines_at sites before lines ≡ Err (scheds.BadLine at why) → before < at) → before < at
-    by_line (Err other) e others = let same : before + 1 ≡ at = cc in omega (arith, same)
-    by_line (Ok event) e others = omega (arith, others (sites_after sites event) (before + 1) at why (with_err event (lines_at (sites_after sites event) (before + 1) lines) e))
-
-    by_comment : (comment : Bool) → ((sites : Option ℕ) (before at : ℕ) (why : Why) → lines_at sites before lines ≡ Err (scheds.BadLine at why) → before < at)
-        → cond comment (lines_at sites (before + 1) lines) (further (before + 1) (line_at sites (without_returns line)) (λ event. lines_at (sites_after sites event) (before + 1) lines)) ≡ Err (scheds.BadLine at why) → before < at
-    by_comment true others e = omega (arith, others sites (before + 1) at why e)
-    by_comment false others e = by_line (line_at sites (without_returns line)) e others
-
 -- what is read of a line that gives an event, and of those behind it
 event_lines_at : (line : List ℕ) (lines : List (List ℕ)) (sites : Option ℕ) (before : ℕ) (event : Event) → is_comment (without_returns line) ≡ false → line_at sites (without_returns line) ≡ Ok event
     → lines_at sites before (line ∷ lines) ≡ sched.with_events (event ∷ []) (lines_at (sites_after sites event) (before + 1) lines)
@@ -76,10 +56,6 @@ with_ok : (event : Event) (read : Result (List Event) SchedFault) (given : List 
 with_ok event (Err fault) given e = absurd cc
 with_ok event (Ok others) given e = record { others = others; read_is = refl; given_is = cc }
 
-with_bad : (event : Event) (read : Result (List Event) SchedFault) (at : ℕ) (why : Why) → sched.with_events (event ∷ []) read ≡ Err (scheds.BadLine at why) → read ≡ Err (scheds.BadLine at why)
-with_bad event (Err other) at why e = e
-with_bad event (Ok others) at why e = absurd cc
-
 -- ---- what reading a source finds in these lines
 
 -- one of the lines gives an event that may not come
@@ -96,8 +72,6 @@ record LaterAmong (unsettled : Bool) (sites : Option ℕ) (before : ℕ) (lines 
   right : Completes sites (given ++ event ∷ [])
   may : may_all_come unsettled given ≡ true
   may_not : may_come (is_open_behind unsettled given) event ≡ false
-  -- a fault stands behind it
-  fault_behind : (line : ℕ) (why : Why) → lines_at sites before lines ≡ Err (scheds.BadLine line why) → at < line
   -- where all lines are right, not all events may come
   not_all : (all : List Event) → lines_at sites before lines ≡ Ok all → may_all_come unsettled all ≡ false
 
@@ -143,7 +117,6 @@ found_comment unsettled sites before line lines read comment (later at is h) = l
   right = h.right;
   may = h.may;
   may_not = h.may_not;
-  fault_behind = λ at why e. h.fault_behind at why (sym (comment_lines_at line lines sites before comment) ∙ e);
   not_all = λ all e. h.not_all all (sym (comment_lines_at line lines sites before comment) ∙ e);
 })
 
@@ -186,7 +159,6 @@ found_event unsettled sites before line lines event read here may (later at is h
       right = here.follows.completes (h.given ++ h.event ∷ []) h.right;
       may = and_from (may_come unsettled event) (may_all_come (is_open_after unsettled event) h.given) may h.may;
       may_not = h.may_not;
-      fault_behind = λ at why e. h.fault_behind at why (with_bad event rest at why (sym all ∙ e));
       not_all = λ given e. not_all_of given (with_ok event rest given (sym all ∙ e)) h.not_all;
     })
   where
@@ -213,7 +185,6 @@ found_later unsettled sites before line lines event here none may =
       right = here.follows.completes [] none;
       may = refl;
       may_not = may;
-      fault_behind = λ at why e. beyond lines (sites_after sites event) (before + 1) at why (with_bad event rest at why (sym all ∙ e));
       not_all = λ given e. not_all_of given (with_ok event rest given (sym all ∙ e));
     })
   where
