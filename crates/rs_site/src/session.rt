@@ -21,7 +21,7 @@ pub struct Session {
     pub reply: Option<Reply>,
 }
 
-/// The sessions of a site. Contracts see a session for each user: one who was never taken has a fresh one.
+/// The sessions of the users whose requests a site took. Contracts see them as a list, in order of users.
 #[derive(Drop)]
 pub struct Sessions {
     by_user: BTreeMap<Ident, Session>,

@@ -28,7 +28,7 @@ start = record { sites = []; sent = []; delivered = 0; replies = []; history = [
 
 -- ---- a site takes an input
 
--- a datagram to a site is numbered and kept; a client's is its reply
+-- what is sent to a site is numbered and kept; what goes to a client isn't
 abbrev pub sent_by : ℕ → Peer × List ℕ → List Datagram
 sent_by site (peers.Site to, bytes) = (record { from = peers.Site site; to = to; bytes = bytes }) ∷ []
 sent_by site (peers.Client port, bytes) = []
@@ -90,7 +90,7 @@ happen world (Noise site bytes) = heard world site bytes (message_of bytes)
 unfoldable pub deliveries : List Happening
 deliveries = replicate 16777216 Deliver
 
--- Deliveries by number, losses, ticks, stops, arms and restarts aren't played yet.
+-- Settles with a count, deliveries by number, losses, ticks, stops, arms and restarts aren't played yet: they do nothing.
 abbrev pub happenings_of : Event → List Happening
 happenings_of (events.Sites last) = Open last ∷ []
 happenings_of (events.Ask origin text) = Post origin text ∷ []

@@ -92,7 +92,7 @@ pub record Explains (events : List Event) (report : Report) : Type 0 where
       → i < j
   -- each reply was true when it was given
   pub refusals_true : (k : ℕ) (given : Given) → slice_get report.replies k ≡ Some given → IsGivenTruly events k given
-  -- a text that was told to be no request is none, at its first byte
+  -- a text that was told to be no request is none; the place is 0 until the whole grammar is built
   pub syntax_true : (k place : ℕ) (given : Given) → slice_get report.replies k ≡ Some given → given.reply ≡ replies.Syntax place → (place ≡ 0) × IsNoRequest events given.origin
   -- what a request is told again is what it was told first
   pub told_again_the_same : (k l : ℕ) (a b : Given) → slice_get report.replies k ≡ Some a → slice_get report.replies l ≡ Some b → a.origin ≡ b.origin → IsFinal a.reply → IsFinal b.reply → a.reply ≡ b.reply
