@@ -12,6 +12,7 @@ use Rattle.rs_world.proofs.HistoryFields as history
 use Rattle.rs_world.proofs.Played.{playable}
 use Rattle.rs_world.proofs.Refusals.{refusals_true, syntax_true}
 use Rattle.rs_world.proofs.Reported.{after_what_was_reported}
+use Rattle.rs_world.proofs.Replied.{entries_told}
 use Rattle.rs_world.proofs.ToldAgain.{told_again_the_same}
 
 pub explains : (given : List Event) → IsValid given → IsTrue (are_accepted false given) → Explains given (report_of (course given))
@@ -21,6 +22,7 @@ explains given valid are =
       from_last_state = refl;
       entries_distinct = history.entries_distinct given can;
       entries_asked = history.entries_asked given can;
+      entries_told = entries_told given can;
       history_grows = history.history_grows given;
       answers_are_meaning = history.answers_are_meaning given can;
       denied_changes_nothing = history.denied_changes_nothing (course given).history;

@@ -14,6 +14,7 @@ pub mod Opened
 pub mod Places
 pub mod Played
 pub mod Refusals
+pub mod Replied
 pub mod Reported
 pub mod Standing
 pub mod Told

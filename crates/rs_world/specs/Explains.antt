@@ -53,6 +53,14 @@ pub record IsMeaningAt (history : List Decided) (i : ℕ) (given : Given) : Type
   pub meaning : outcome_behind (take i history) entry ≡ Some outcome
   pub reply : given.reply ≡ reply_of outcome
 
+-- The request of this entry was told that it is committed.
+pub record IsTold (givens : List Given) (entry : Decided) : Type 0 where
+  pub place : ℕ
+  pub given : Given
+  pub there : slice_get givens place ≡ Some given
+  pub origin : given.origin ≡ entry.origin
+  pub committed : IsCommitted given.reply
+
 -- The reply of this place was given when the site heard its request, and is true by what the site was then.
 pub record IsGivenTruly (events : List Event) (place : ℕ) (given : Given) : Type 0 where
   pub before : List Happening
@@ -77,6 +85,8 @@ pub record Explains (events : List Event) (report : Report) : Type 0 where
   pub entries_distinct : (i j : ℕ) (a b : Decided) → i < j → slice_get report.history i ≡ Some a → slice_get report.history j ≡ Some b → (a.txn ≢ b.txn) × (a.origin ≢ b.origin)
   -- each entry was asked, and taken by its site, with its text
   pub entries_asked : (i : ℕ) (entry : Decided) → slice_get report.history i ≡ Some entry → Takes events entry.origin entry.text
+  -- each entry has its reply
+  pub entries_told : (i : ℕ) (entry : Decided) → slice_get report.history i ≡ Some entry → IsTold report.replies entry
   -- the history at each moment is a front of the last
   pub history_grows : (before behind : List Happening) → happenings events ≡ before ++ behind → (more : List Decided) × (report.history ≡ (world_after before).history ++ more)
   -- each reply that tells of a committed request is the meaning of its entry over the database of the entries before it
