@@ -1,4 +1,5 @@
 pub mod Joined
 pub mod Loops
 pub mod SizeLaws
+pub mod Steps
 pub mod Streams

@@ -40,12 +40,14 @@ printed_row row = join_with_byte 44 (map printed_value row) ++ codes "\n"
 -- ---- names
 
 -- site.epoch.number
-abbrev pub printed_txn : Txn → List ℕ
-printed_txn txn = decimal txn.site ++ codes "." ++ decimal txn.epoch ++ codes "." ++ decimal txn.number
+abbrev pub dotted : ℕ → ℕ → ℕ → List ℕ
+dotted site epoch number = decimal site ++ codes "." ++ decimal epoch ++ codes "." ++ decimal number
 
--- site.epoch.number
+abbrev pub printed_txn : Txn → List ℕ
+printed_txn txn = dotted txn.site txn.epoch txn.number
+
 abbrev pub printed_enlist : Enlist → List ℕ
-printed_enlist enlist = decimal enlist.site ++ codes "." ++ decimal enlist.epoch ++ codes "." ++ decimal enlist.number
+printed_enlist enlist = dotted enlist.site enlist.epoch enlist.number
 
 -- creator@site.object@birth site
 abbrev pub printed_swn : Swn → List ℕ

@@ -1,6 +1,6 @@
 //! A list of bytes that grows.
 
-ghost use Rattle.std.specs.Prelude.{◌≡◌, [], ◌∷◌, ◌++◌, length, OnOk, OnErr, IfOk};
+ghost use Rattle.std.specs.Prelude.{◌≡◌, [], ◌∷◌, ◌++◌, length, take, OnOk, OnErr, IfOk};
 
 use crate::fault::NoMemory;
 use std::alloc::Global;
@@ -27,6 +27,14 @@ impl Bytes {
         Bytes {
             bytes: Vec::new(alloc),
         }
+    }
+
+    /// No bytes, with room for so many.
+    pub fn with_room(alloc: Global, room: usize) -> Result<Bytes, NoMemory>
+        ensures { IfOk result (λ it. it ≡ []) }
+    {
+        let bytes = Vec::with_capacity(alloc, room)?;
+        Ok(Bytes { bytes })
     }
 
     pub fn from_slice(alloc: Global, bytes: &[u8]) -> Result<Bytes, NoMemory>
@@ -68,5 +76,17 @@ impl Bytes {
     {
         self.bytes.extend_from_slice(more)?;
         Ok(())
+    }
+    /// Keeps the first bytes: so many, or all where there are fewer.
+    pub fn truncate(&mut self, len: usize)
+        ensures { self.new ≡ take len self.old }
+    {
+        self.bytes.truncate(len);
+    }
+    /// The list, moved.
+    pub(crate) fn into_vec(self) -> Vec<u8>
+        ensures { result.items ≡ self }
+    {
+        self.bytes
     }
 }

@@ -1,6 +1,7 @@
 //! Identifiers.
 
-ghost use Rattle.std.specs.Prelude.{◌≡◌, ◌-◌, ◌++◌, ◌≤◌, ◌==◌, length, replicate, SomeIff, IsTrue};
+ghost use Rattle.std.specs.Prelude.{◌≡◌, ◌-◌, ◌++◌, ◌≤◌, ◌==◌, length, replicate, map, SomeIff, IsTrue};
+ghost use Rattle.std.specs.Char.{to_ascii_lowercase};
 ghost use Rattle.std.specs.Cmp.{partial_order_from_own_ties};
 ghost use Rattle.std.specs.Cmp.Lexicographic.{pointwise, slice_cmp};
 ghost use Rattle.std.specs.Cmp.Rules.{comparing};
@@ -91,6 +92,19 @@ impl Ident {
             bytes: padded(bytes),
             len: bytes.len(),
         })
+    }
+
+    /// The identifier of these bytes in lower case, or `None` where they are none.
+    pub fn lowered(bytes: &[u8]) -> Option<Ident>
+        ensures { SomeIff result (IsTrue (spec.is_ident (map to_ascii_lowercase bytes.now))) (map to_ascii_lowercase bytes.now) }
+    {
+        if 24 < bytes.len() {
+            return None;
+        }
+        let mut lower = padded(bytes);
+        let (front, _) = lower.split_at_mut(bytes.len());
+        front.make_ascii_lowercase();
+        Ident::new(front)
     }
 
     pub fn as_bytes(&self) -> &[u8]

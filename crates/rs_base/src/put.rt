@@ -106,24 +106,32 @@ fn rows(out: &mut Bytes, rows: &[Row]) -> Result<(), NoMemory>
     Ok(())
 }
 
+fn site(out: &mut Bytes, site: SiteNo) -> Result<(), NoMemory>
+    ensures { OnOk result (out.new ≡ out.old ++ decimal site) }
+{
+    number(out, u64::from(site.number()))
+}
+
+fn dotted(out: &mut Bytes, at: SiteNo, epoch: u32, n: u64) -> Result<(), NoMemory>
+    ensures { OnOk result (out.new ≡ out.old ++ spec.dotted at epoch n) }
+{
+    site(out, at)?;
+    out.extend(b".")?;
+    number(out, u64::from(epoch))?;
+    out.extend(b".")?;
+    number(out, n)
+}
+
 pub fn txn(out: &mut Bytes, txn: &Txn) -> Result<(), NoMemory>
     ensures { OnOk result (out.new ≡ out.old ++ spec.printed_txn txn.now) }
 {
-    number(out, u64::from(txn.site.number()))?;
-    out.extend(b".")?;
-    number(out, u64::from(txn.epoch))?;
-    out.extend(b".")?;
-    number(out, txn.number)
+    dotted(out, txn.site, txn.epoch, txn.number)
 }
 
 fn enlist(out: &mut Bytes, enlist: &Enlist) -> Result<(), NoMemory>
     ensures { OnOk result (out.new ≡ out.old ++ spec.printed_enlist enlist.now) }
 {
-    number(out, u64::from(enlist.site.number()))?;
-    out.extend(b".")?;
-    number(out, u64::from(enlist.epoch))?;
-    out.extend(b".")?;
-    number(out, enlist.number)
+    dotted(out, enlist.site, enlist.epoch, enlist.number)
 }
 
 pub fn swn(out: &mut Bytes, name: &Swn) -> Result<(), NoMemory>
@@ -131,17 +139,17 @@ pub fn swn(out: &mut Bytes, name: &Swn) -> Result<(), NoMemory>
 {
     out.extend(name.creator.as_bytes())?;
     out.extend(b"@")?;
-    number(out, u64::from(name.creator_site.number()))?;
+    site(out, name.creator_site)?;
     out.extend(b".")?;
     out.extend(name.object.as_bytes())?;
     out.extend(b"@")?;
-    number(out, u64::from(name.birth.number()))
+    site(out, name.birth)
 }
 
 pub fn origin(out: &mut Bytes, origin: &Origin) -> Result<(), NoMemory>
     ensures { OnOk result (out.new ≡ out.old ++ spec.printed_origin origin.now) }
 {
-    number(out, u64::from(origin.site.number()))?;
+    site(out, origin.site)?;
     out.extend(b" ")?;
     out.extend(origin.user.as_bytes())?;
     out.extend(b" ")?;
@@ -224,12 +232,6 @@ fn resource(out: &mut Bytes, what: &Resource) -> Result<(), NoMemory>
             out.extend(user.as_bytes())
         }
     }
-}
-
-fn site(out: &mut Bytes, site: SiteNo) -> Result<(), NoMemory>
-    ensures { OnOk result (out.new ≡ out.old ++ decimal site) }
-{
-    number(out, u64::from(site.number()))
 }
 
 #[tactic(auto, unfolding(crate::specs::Printing::printed_holder))]

@@ -5,6 +5,7 @@ ghost use Rattle.std.specs.Prelude.{◌≡◌, IfOk, take};
 use crate::bytes::Bytes;
 use crate::fault::NoMemory;
 use crate::lock::Resource;
+use crate::room::with_room;
 use crate::site_no::SiteNo;
 use crate::txn::Enlist;
 use crate::value::{Row, Rows, copy_row};
@@ -91,7 +92,7 @@ pub enum Reply {
 fn copy_rows(alloc: Global, rows: &[Row]) -> Result<Rows, NoMemory>
     ensures { IfOk result (λ copy. copy ≡ rows.now) }
 {
-    let mut copy = Rows::new(alloc);
+    let mut copy = with_room(alloc, rows.len())?;
     for row in rows {
         copy.push(copy_row(alloc, row.as_slice())?)?;
     }
@@ -113,7 +114,7 @@ impl Answer {
 fn copy_answers(alloc: Global, answers: &[Answer]) -> Result<Answers, NoMemory>
     ensures { IfOk result (λ copy. copy ≡ answers.now) }
 {
-    let mut copy = Answers::new(alloc);
+    let mut copy = with_room(alloc, answers.len())?;
     for answer in answers {
         copy.push(answer.copy(alloc)?)?;
     }
@@ -123,7 +124,7 @@ fn copy_answers(alloc: Global, answers: &[Answer]) -> Result<Answers, NoMemory>
 fn copy_lines(alloc: Global, lines: &[Bytes]) -> Result<Lines, NoMemory>
     ensures { IfOk result (λ copy. copy ≡ lines.now) }
 {
-    let mut copy = Lines::new(alloc);
+    let mut copy = with_room(alloc, lines.len())?;
     for line in lines {
         copy.push(line.copy(alloc)?)?;
     }

@@ -1,6 +1,6 @@
 //! Text values.
 
-ghost use Rattle.std.specs.Prelude.{◌≡◌, ◌↔◌, ◌==◌, IsTrue, IsFalse, IfOk, IsErrOf};
+ghost use Rattle.std.specs.Prelude.{◌≡◌, ◌↔◌, ◌==◌, IsTrue, IsFalse, IfOk, IsErrOf, SomeIff};
 ghost use Rattle.std.specs.Cmp.{partial_order_from_own_ties};
 ghost use Rattle.std.specs.Cmp.Lexicographic.{pointwise, slice_cmp};
 ghost use Rattle.std.specs.Cmp.Rules.{comparing};
@@ -8,6 +8,7 @@ ghost use Rattle.std.specs.Ordering.{nat_cmp, as_partial_cmp};
 ghost use Rattle.std.proofs.Common.{rules};
 ghost use Rattle.rs_base.specs.Txt as spec;
 
+use crate::bytes::Bytes;
 use crate::fault::NoMemory;
 use std::alloc::Global;
 use std::cmp::Ordering;
@@ -52,7 +53,8 @@ fn are_text_bytes(bytes: &[u8]) -> bool
     bytes.iter().all(|byte| is_text_byte(*byte))
 }
 
-fn is_utf8(bytes: &[u8]) -> bool
+/// Whether these bytes are UTF-8.
+pub fn is_utf8(bytes: &[u8]) -> bool
     ensures { result ≡ spec.is_utf8 bytes.now }
 {
     match std::str::from_utf8(bytes) {
@@ -80,6 +82,18 @@ impl Txt {
             Ok(bytes) => Ok(Txt { bytes }),
             Err(_) => Err(TxtFault::NoMemory),
         }
+    }
+
+    /// The text value of these bytes, which it takes as they are, or `None` where they are none.
+    pub fn from_bytes(bytes: Bytes) -> Option<Txt>
+        ensures { SomeIff result (IsTrue (spec.is_txt bytes)) bytes }
+    {
+        if !is_txt(bytes.as_slice()) {
+            return None;
+        }
+        Some(Txt {
+            bytes: bytes.into_vec(),
+        })
     }
 
     pub fn as_bytes(&self) -> &[u8]

@@ -4,6 +4,7 @@ ghost use Rattle.std.specs.Prelude.{◌≡◌, IfOk, take};
 ghost use Rattle.rs_base.specs.Value as spec;
 
 use crate::fault::NoMemory;
+use crate::room::with_room;
 use crate::txt::Txt;
 use sqlite_items::Items;
 use std::alloc::Global;
@@ -54,7 +55,7 @@ impl Value {
 pub fn copy_row(alloc: Global, row: &[Value]) -> Result<Row, NoMemory>
     ensures { IfOk result (λ copy. copy ≡ row.now) }
 {
-    let mut copy = Items::new(alloc);
+    let mut copy = with_room(alloc, row.len())?;
     for value in row {
         copy.push(value.copy(alloc)?)?;
     }
