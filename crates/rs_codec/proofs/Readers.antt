@@ -8,6 +8,7 @@ use Rattle.std.proofs.lemmas.List.{take_at, drop_at, take-append-drop}
 use Rattle.std.proofs.lemmas.Nat.{from_be_bytes-to_be_bytes_4, from_be_bytes-to_be_bytes_8}
 use Rattle.std.proofs.lemmas.Option.{cond_some, same_Some}
 use Rattle.std.proofs.lemmas.Slice.Eq.{bytes_eq-Decides}
+use Rattle.rs_base.proofs.Steps.{bind_some, held}
 use Rattle.rs_base.specs.Reading.{◌>>=◌}
 use Rattle.rs_codec.specs.Spelling.{IsByte, IsU32, IsU64, IsGroups, IsCount, count_of, IsInt, IsText, Takes, NoneBegins}
 use Rattle.rs_codec.specs.Laws.{IsReadBy}
@@ -17,21 +18,11 @@ use Rattle.rs_codec.proofs.Spellings.{behind_count, takes_text}
 
 -- ---- steps
 
--- the value of a step that did not fail
-pub bind_some : {A B : Type 0} (read : Option A) (f : A → Option B) (y : B) → (read >>= f) ≡ Some y → (x : A) × (read ≡ Some x) × (f x ≡ Some y)
-bind_some (Some x) f y e = (x, refl, e)
-bind_some None f y e = absurd cc
-
 -- a step, and what comes of its value
 pub bind_at : {A B : Type 0} (read : Option A) (f : A → Option B) (x : A) → read ≡ Some x → (read >>= f) ≡ f x
 bind_at read f x e = ap (λ (o : Option _). o >>= f) e
 
--- a test that held
-pub chosen : {A : Type 0} (test : Bool) (read : Option A) (y : A) → cond test read None ≡ Some y → (test ≡ true) × (read ≡ Some y)
-chosen true read y e = (refl, e)
-chosen false read y e = absurd cc
-
--- a test that did not
+-- a test that had to fail
 pub passed : {A : Type 0} (test : Bool) (read : Option A) (y : A) → cond test None read ≡ Some y → (test ≡ false) × (read ≡ Some y)
 passed true read y e = absurd cc
 passed false read y e = (refl, e)
@@ -128,7 +119,7 @@ groups_back (b ∷ bytes) rest n e =
     elim (either (ltb b 128) (Some (b, bytes)) (cond (ltb b 256) (groups_at bytes >>= above_group b) None) (n, rest) e) [
       | inl h ↦ subst (λ (p : ℕ × List ℕ). Takes IsGroups (b ∷ bytes) p.1 p.0) (same_Some (b, bytes) (n, rest) h.1) (takes_last (b ∷ bytes) bytes b refl (ltb-true b 128 h.0))
       | inr h ↦
-          let k = chosen (ltb b 256) (groups_at bytes >>= above_group b) (n, rest) h.1 in
+          let k = held (ltb b 256) (groups_at bytes >>= above_group b) (n, rest) h.1 in
           let s = bind_some (groups_at bytes) (above_group b) (n, rest) k.1 in
           let z = passed (eqb s.0.0 0) (Some (b - 128 + 128 * s.0.0, s.0.1)) (n, rest) s.2 in
           let positive : 0 < s.0.0 = positive_from s.0.0 z.0 in
@@ -156,7 +147,7 @@ count_back : (bytes rest : List ℕ) (n : ℕ) → count_at bytes ≡ Some (n, r
 unfolding count_at
 count_back bytes rest n e =
     let s = bind_some (groups_at bytes) _ (n, rest) e in
-    let k = chosen (ltb s.0.0 (2 ^ 64)) (Some s.0) (n, rest) s.2 in
+    let k = held (ltb s.0.0 (2 ^ 64)) (Some s.0) (n, rest) s.2 in
     let t = groups_back bytes s.0.1 s.0.0 s.1 in
     subst (λ (p : ℕ × List ℕ). Takes IsCount bytes p.1 p.0) (same_Some s.0 (n, rest) k.1)
     (record { spelling = t.spelling; spelled = record { groups = t.spelled; below = ltb-true s.0.0 (2 ^ 64) k.0 }; parts = t.parts })
@@ -201,7 +192,7 @@ unfolding text_at
 text_back bytes rest text e =
     let s = bind_some (count_at bytes) _ (text, rest) e in
     let found : List ℕ × List ℕ = (take s.0.0 s.0.1, drop s.0.0 s.0.1) in
-    let k = chosen (leb s.0.0 (length s.0.1)) (Some found) (text, rest) s.2 in
+    let k = held (leb s.0.0 (length s.0.1)) (Some found) (text, rest) s.2 in
     let t = count_back bytes s.0.1 s.0.0 s.1 in
     subst (λ (p : List ℕ × List ℕ). Takes IsText bytes p.1 p.0) (same_Some found (text, rest) k.1)
     (takes_text bytes s.0.1 (take s.0.0 s.0.1) (drop s.0.0 s.0.1) s.0.0 t (leb-true s.0.0 (length s.0.1) k.0) refl refl)

@@ -7,7 +7,6 @@ ghost use Rattle.rs_codec.specs.Written.{count_bytes, int_bytes, text_bytes};
 
 use byteorder::{BigEndian, ByteOrder};
 use rs_base::{Bytes, NoMemory, count_of};
-use std::alloc::Global;
 
 /// The most bytes that a count takes: groups of seven bits for 64.
 const LONGEST: usize = 10;
@@ -79,13 +78,16 @@ pub fn put_int(out: &mut Bytes, n: i64) -> Result<(), NoMemory>
 }
 
 /// The count of a text's bytes, and then these.
-pub fn put_text(alloc: Global, out: &mut Bytes, text: &[u8]) -> Result<(), NoMemory>
+pub fn put_text(out: &mut Bytes, text: &[u8]) -> Result<(), NoMemory>
     ensures ok { OnOk result (Puts IsText out.old out.new text.now) }
     ensures written { OnOk result (out.new ≡ out.old ++ text_bytes text.now) }
     ensures err { OnErr result (out.new ≡ out.old) }
 {
-    let mut whole = Bytes::new(alloc);
-    put_count(&mut whole, text.len() as u64)?;
-    whole.extend(text)?;
-    out.extend(whole.as_slice())
+    let before = out.len();
+    put_count(out, text.len() as u64)?;
+    if let Err(fault) = out.extend(text) {
+        out.truncate(before);
+        return Err(fault);
+    }
+    Ok(())
 }

@@ -83,7 +83,7 @@ fn ints(rt: HostRuntime) -> Result<(), Fail> {
 fn texts(rt: HostRuntime) -> Result<(), Fail> {
     for (text, spelling) in &TEXTS {
         let mut out = Bytes::new(rt.alloc());
-        put_text(rt.alloc(), &mut out, text)?;
+        put_text(&mut out, text)?;
         assert_eq!(rt; out.as_slice(), *spelling);
         put_byte(&mut out, 7)?;
         let mut fields = Fields::new(out.as_slice());

@@ -9,7 +9,8 @@ use Rattle.rs_base.specs.declared.txn.Origin.{Origin}
 use Rattle.rs_codec.specs.Spelling.{IsByte, IsU32, IsU64, IsText, Takes}
 use Rattle.rs_codec.specs.Laws.{IsReadBy, IsSpelledOnce}
 use Rattle.rs_codec.specs.Reader.{byte_at, u32_at, u64_at, text_at}
-use Rattle.rs_codec.proofs.Readers.{bind_some, bind_at, read_by, read_again, byte_read, u32_read, u64_read, text_read}
+use Rattle.rs_base.proofs.Steps.{bind_some}
+use Rattle.rs_codec.proofs.Readers.{bind_at, read_by, read_again, byte_read, u32_read, u64_read, text_read}
 use Rattle.rs_codec.proofs.Writers.{once_text}
 use Rattle.rs_msg.specs.declared.message.Ask.{Ask}
 use Rattle.rs_msg.specs.declared.message.ReplyPart.{ReplyPart}

@@ -8,7 +8,8 @@ use Rattle.rs_base.specs.Reading.{◌>>=◌, Gives}
 use Rattle.rs_base.specs.declared.fault.ReadFault.{ReadFault}
 use Rattle.rs_codec.specs.Reader.{byte_at}
 use Rattle.rs_codec.specs.Written.{text_bytes}
-use Rattle.rs_codec.proofs.Readers.{bind_some, chosen, either, read_again}
+use Rattle.rs_base.proofs.Steps.{bind_some, held}
+use Rattle.rs_codec.proofs.Readers.{either, read_again}
 use Rattle.rs_codec.proofs.Writers.{written_text}
 use Rattle.rs_msg.specs.declared.message.Ask.{Ask}
 use Rattle.rs_msg.specs.declared.message.ReplyPart.{ReplyPart}
@@ -60,7 +61,7 @@ fields_are kind fields m e =
     elim (either (eqb kind 1) (ask_at fields >>= as_ask) (cond (eqb kind 2) (reply_at fields >>= as_reply) None) (m, []) e) [
       | inl h ↦ subst (λ (k : ℕ). IsMessage (mark ∷ k ∷ fields) m) (sym (eqb-true kind 1 h.0)) (ask_is fields m h.1)
       | inr h ↦
-          let k = chosen (eqb kind 2) (reply_at fields >>= as_reply) (m, []) h.1 in
+          let k = held (eqb kind 2) (reply_at fields >>= as_reply) (m, []) h.1 in
           subst (λ (k : ℕ). IsMessage (mark ∷ k ∷ fields) m) (sym (eqb-true kind 2 k.0)) (reply_is fields m k.1)
     ]
 
@@ -70,7 +71,7 @@ back bytes m e =
     let s = bind_some (message_at bytes) alone m e in
     let read : message_at bytes ≡ Some (m, []) = s.1 ∙ ap (λ (x : Message × List ℕ). Some x) (alone_is s.0 m s.2) in
     let first = bind_some (byte_at bytes) _ (m, []) read in
-    let marked = chosen (eqb first.0.0 mark) (kind_at first.0.1) (m, []) first.2 in
+    let marked = held (eqb first.0.0 mark) (kind_at first.0.1) (m, []) first.2 in
     let kind = bind_some (byte_at first.0.1) _ (m, []) marked.1 in
     let behind : first.0.1 ≡ kind.0.0 ∷ kind.0.1 = takes_byte first.0.1 kind.0.1 kind.0.0 kind.1 in
     let begins : bytes ≡ first.0.0 ∷ first.0.1 = takes_byte bytes first.0.1 first.0.0 first.1 in
