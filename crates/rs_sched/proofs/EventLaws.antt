@@ -1,6 +1,7 @@
 -- The fields behind a word: what is read is written so, and what is written is read.
 use Rattle.std.proofs.Common.{◌≡◌, ℕ, ◌^◌, ◌<◌, ◌≤◌, List, [], ◌∷◌, ◌++◌, Some, None, codes, refl, sym, ap, ◌∙◌, subst, arith, append_assoc}
 use Rattle.std.proofs.lemmas.List.{append-nil}
+use Rattle.rs_base.proofs.Steps.{bind_some}
 use Rattle.rs_base.specs.declared.txn.Origin.{Origin}
 use Rattle.rs_sched.specs.declared.event.Event.{Event}
 use Rattle.rs_sched.specs.declared.event.Event.TheVariants as events
@@ -8,7 +9,7 @@ use Rattle.rs_sched.specs.Spelling.{number_field, line_of, ask_line, hex_of, IsO
 use Rattle.rs_sched.specs.Schedule.{FieldsFit}
 use Rattle.rs_sched.specs.Reader.{space_at, end_at, number_at, user_at, noise_bytes_at, numbers_at, nth, most, sites_at, deliver_at, lose_at, tick_at, stop_at, arm_at, restart_at, settle_at, noise_at, origin_at}
 use Rattle.rs_sched.proofs.NumberLaws.{some_is}
-use Rattle.rs_sched.proofs.FieldLaws.{bind_some, space_is, end_is, IsNumber, number_at_is, number_at_again, user_at_is, user_at_again, AreWithin, fields_of, numbers_are, numbers_again}
+use Rattle.rs_sched.proofs.FieldLaws.{space_is, end_is, IsNumber, number_at_is, number_at_again, user_at_is, user_at_again, AreWithin, fields_of, numbers_are, numbers_again}
 use Rattle.rs_sched.proofs.HexLaws.{noise_bytes_is, noise_bytes_again}
 
 -- behind the word stands what the event is written as

@@ -1,21 +1,16 @@
 -- Fields: what is read is written so, and what is written is read where a space or the end stands behind it.
-use Rattle.std.proofs.Common.{◌≡◌, ℕ, ◌^◌, ◌<◌, ◌≤◌, Bool, true, false, ◌&&◌, ◌⊎◌, not, eqb, leb, List, [], ◌∷◌, ◌++◌, length, take, drop, Option, Some, None, IsTrue, decimal, refl, sym, ap, ◌∙◌, subst, inl, inr, arith}
+use Rattle.std.proofs.Common.{◌≡◌, ℕ, ◌^◌, ◌<◌, ◌≤◌, Bool, true, false, ◌&&◌, ◌⊎◌, not, eqb, leb, List, [], ◌∷◌, ◌++◌, length, take, drop, Some, IsTrue, decimal, refl, sym, ap, ◌∙◌, subst, inl, inr, arith}
 use Rattle.std.specs.List.{list_all, prefix_len}
 use Rattle.std.proofs.lemmas.Bool.{and_parts, and_from, eqb-true, leb-true, le-leb}
 use Rattle.std.proofs.lemmas.Bool.Decides.{eqb_tells}
 use Rattle.std.proofs.lemmas.List.{take_at, drop_at, take-append-drop}
+use Rattle.rs_base.proofs.Steps.{bind_some, held}
 use Rattle.rs_base.specs.Ident.{is_ident, is_name_byte, begins_with_letter, are_name_bytes}
-use Rattle.rs_base.specs.Reading.{◌>>=◌}
 use Rattle.rs_sched.specs.declared.event.Event.{Event}
 use Rattle.rs_sched.specs.Numbers.{is_digit, number_of}
 use Rattle.rs_sched.specs.Spelling.{number_field}
 use Rattle.rs_sched.specs.Reader.{is_field_byte, field_len, space_at, end_at, number_at, user_at, numbers_at}
-use Rattle.rs_sched.proofs.NumberLaws.{chosen, some_is, number_is, decimal_digits, number_again}
-
--- the value of a step that did not fail
-pub bind_some : {A B : Type 0} (read : Option A) (f : A → Option B) (y : B) → (read >>= f) ≡ Some y → (x : A) × (read ≡ Some x) × (f x ≡ Some y)
-bind_some (Some x) f y e = (x, refl, e)
-bind_some None f y e = absurd cc
+use Rattle.rs_sched.proofs.NumberLaws.{some_is, number_is, decimal_digits, number_again}
 
 -- a space, or the end
 abbrev pub stops : List ℕ → Bool
@@ -25,7 +20,7 @@ stops (b ∷ rest) = eqb b 32
 pub space_is : (bytes rest : List ℕ) → space_at bytes ≡ Some rest → bytes ≡ 32 ∷ rest
 space_is [] rest e = absurd cc
 space_is (b ∷ bytes) rest e =
-    let right = chosen (eqb b 32) (Some bytes) rest e in
+    let right = held (eqb b 32) (Some bytes) rest e in
     let first : b ≡ 32 = eqb-true b 32 right.0 in
     let others : bytes ≡ rest = some_is bytes rest right.1 in
     cc
@@ -80,7 +75,7 @@ number_at_is low high bytes x e =
     let number = bind_some (number_of (take len field)) _ x space.2 in
     let n = number.0 in
     let found : ℕ × List ℕ = (n, drop len field) in
-    let right = chosen (leb low n && leb n high) (Some found) x number.2 in
+    let right = held (leb low n && leb n high) (Some found) x number.2 in
     let both = and_parts (leb low n) (leb n high) right.0 in
     let is = number_is (take len field) n number.1 in
     let parts : field ≡ decimal n ++ drop len field = sym (take-append-drop len field) ∙ ap (λ (f : List ℕ). f ++ drop len field) is.1 in
@@ -102,7 +97,7 @@ user_at_is bytes x e =
     let field = space.0 in
     let len = field_len field in
     let found : List ℕ × List ℕ = (take len field, drop len field) in
-    let right = chosen (is_ident (take len field)) (Some found) x space.2 in
+    let right = held (is_ident (take len field)) (Some found) x space.2 in
     subst (λ (y : List ℕ × List ℕ). IsTrue (is_ident y.0) × (bytes ≡ 32 ∷ (y.0 ++ y.1))) (some_is found x right.1)
     (right.0, space_is bytes field space.1 ∙ ap (λ (f : List ℕ). 32 ∷ f) (sym (take-append-drop len field)))
 

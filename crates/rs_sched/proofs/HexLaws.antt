@@ -1,6 +1,7 @@
 -- Bytes in base 16.
 use Rattle.std.proofs.Common.{◌≡◌, ℕ, ◌+◌, ◌-◌, ◌*◌, ◌/◌, ◌%◌, ◌<◌, ◌≤◌, Bool, true, false, cond, ◌&&◌, ◌⊎◌, not, eqb, leb, ltb, IsTrue, codes, List, [], ◌∷◌, ◌++◌, length, get_or, take, drop, Option, Some, None, refl, sym, ap, ◌∙◌, subst, append_assoc, inl, inr, arith}
 use Rattle.std.proofs.lemmas.List.{take_all, take-append-drop}
+use Rattle.rs_base.proofs.Steps.{bind_some}
 use Rattle.rs_base.specs.Reading.{◌>>=◌}
 use Rattle.std.specs.Prelude.{flat_map, bytes_eq}
 use Rattle.std.specs.List.{list_all}
@@ -11,7 +12,7 @@ use Rattle.rs_sched.specs.Numbers.{hex_value, hex_pair, bytes_of_hex, noise_of, 
 use Rattle.rs_sched.specs.Spelling.{hex_digit, hex_byte, hex_of, is_byte}
 use Rattle.rs_sched.specs.Reader.{is_field_byte, field_len, space_at, noise_bytes_at}
 use Rattle.rs_sched.proofs.NumberLaws.{some_is}
-use Rattle.rs_sched.proofs.FieldLaws.{bind_some, space_is, stops, field_taken, field_left}
+use Rattle.rs_sched.proofs.FieldLaws.{space_is, stops, field_taken, field_left}
 
 with_bytes-push : (found : List ℕ) (byte : ℕ) (read : Option (List ℕ)) → with_bytes (found ++ byte ∷ []) read ≡ with_bytes found (read >>= λ bytes. Some (byte ∷ bytes))
 with_bytes-push found byte None = refl

@@ -1,5 +1,5 @@
 -- What is left of a schedule, line by line.
-use Rattle.std.proofs.Common.{◌≡◌, ℕ, ◌≤◌, Bool, true, false, eqb, List, [], ◌∷◌, length, take, drop, refl, sym, ap, ◌∙◌, arith}
+use Rattle.std.proofs.Common.{◌≡◌, ℕ, ◌+◌, ◌≤◌, Bool, true, false, eqb, List, [], ◌∷◌, length, take, drop, refl, sym, ap, ◌∙◌, length-drop, arith}
 use Rattle.std.specs.List.{prefix_len}
 use Rattle.std.proofs.lemmas.Bool.{eqb-true}
 use Rattle.rs_sched.specs.Lines.{lines_of, is_before_feed}
@@ -27,3 +27,12 @@ first_left bytes some = sym (ap first_of (lines_next bytes some))
 
 pub rest_left : (bytes : List ℕ) → 1 ≤ length bytes → lines_of (drop 1 (drop (prefix_len is_before_feed bytes) bytes)) ≡ drop 1 (lines_of bytes)
 rest_left bytes some = sym (ap (λ (lines : List (List ℕ)). drop 1 lines) (lines_next bytes some))
+
+-- the bytes behind a line are fewer
+pub rest_smaller : (bytes rest : List ℕ) → 1 ≤ length bytes → rest ≡ drop 1 (drop (prefix_len is_before_feed bytes) bytes) → length rest + 1 ≤ length bytes
+rest_smaller bytes rest some is =
+    let n = prefix_len is_before_feed bytes in
+    let one = length-drop 1 (drop n bytes) in
+    let two = length-drop n bytes in
+    let same = ap (λ (r : List ℕ). length r) is in
+    omega arith

@@ -1,10 +1,11 @@
 -- Numbers: what is read is written so, and what is written is read.
-use Rattle.std.proofs.Common.{◌≡◌, ℕ, zero, suc, ◌+◌, ◌*◌, ◌^◌, ◌-◌, ◌<◌, Bool, true, false, cond, ◌&&◌, not, eqb, leb, ltb, List, [], ◌∷◌, length, get_or, Option, Some, None, decimal, refl, sym, ap, subst, inl, inr, arith, rules}
+use Rattle.std.proofs.Common.{◌≡◌, ℕ, zero, suc, ◌+◌, ◌*◌, ◌^◌, ◌-◌, ◌<◌, true, false, ◌&&◌, not, eqb, leb, ltb, List, [], ◌∷◌, length, get_or, Some, decimal, refl, sym, ap, subst, inl, inr, arith, rules}
 use Rattle.std.specs.List.{fold}
 use Rattle.std.proofs.lemmas.Bool.{and_parts, eq-eqb, le-leb, ltb-true, lt-ltb}
 use Rattle.std.proofs.lemmas.Bool.Decides.{eqb_tells}
 use Rattle.std.proofs.lemmas.Str.Parse.{IsNumeralModel, IsDigitsTest, FoldsDigits, numerals_by_fold}
 use Rattle.std.proofs.lemmas.Fmt.{decimal-digits_value, digits_decimal, digits_value-decimal, length-decimal-le, decimal_nonempty, first_decimal, decimal_digit}
+use Rattle.rs_base.proofs.Steps.{held}
 use Rattle.rs_sched.specs.Numbers.{are_digits, begins_with_no_zero, is_numeral, digits_value, number_of}
 
 tells : IsDigitsTest (λ digits. are_digits digits ≡ true)
@@ -18,10 +19,6 @@ folds = search rules
 
 own : IsNumeralModel (λ digits. are_digits digits ≡ true) digits_value
 own = numerals_by_fold _ tells folded folds
-
-pub chosen : {A : Type 0} (test : Bool) (read : Option A) (y : A) → cond test read None ≡ Some y → (test ≡ true) × (read ≡ Some y)
-chosen true read y e = (refl, e)
-chosen false read y e = absurd cc
 
 pub some_is : {A : Type 0} (x y : A) → Some x ≡ Some y → x ≡ y
 some_is x y e = cc
@@ -37,7 +34,7 @@ no_zero_of (b ∷ c ∷ digits) h = (omega arith, λ e. absurd (differs b h e))
 pub number_is : (digits : List ℕ) (n : ℕ) → number_of digits ≡ Some n → (n < 2 ^ 64) × (digits ≡ decimal n)
 unfolding number_of
 number_is digits n e =
-    let right = chosen (is_numeral digits && ltb (digits_value digits) (2 ^ 64)) (Some (digits_value digits)) n e in
+    let right = held (is_numeral digits && ltb (digits_value digits) (2 ^ 64)) (Some (digits_value digits)) n e in
     let both = and_parts (is_numeral digits) (ltb (digits_value digits) (2 ^ 64)) right.0 in
     let parts = and_parts (leb (length digits) 20 && begins_with_no_zero digits) (are_digits digits) both.0 in
     let first = no_zero_of digits (and_parts (leb (length digits) 20) (begins_with_no_zero digits) parts.0).1 in

@@ -1,57 +1,137 @@
--- The loop over lines: what was found, in front of what is still read.
-use Rattle.std.proofs.Common.{◌≡◌, ℕ, ◌+◌, ◌≤◌, true, false, cond, List, [], ◌∷◌, ◌++◌, length, take, drop, Option, Result, Ok, Err, refl, sym, ap, ◌∙◌, append_assoc, length-drop, arith}
-use Rattle.std.specs.List.{prefix_len}
+-- The loop over events: what was found, in front of what is still read.
+use Rattle.std.proofs.Common.{◌≡◌, ℕ, ◌+◌, ◌<◌, Bool, true, false, List, [], ◌∷◌, ◌++◌, length, Option, Some, None, Result, Ok, Err, refl, sym, ap, ◌∙◌, append_assoc, arith}
+use Rattle.std.proofs.lemmas.List.{append-nil}
 use Rattle.rs_sched.specs.declared.event.Event.{Event}
 use Rattle.rs_sched.specs.declared.fault.Why.{Why}
 use Rattle.rs_sched.specs.declared.fault.SchedFault.{SchedFault}
 use Rattle.rs_sched.specs.declared.fault.SchedFault.TheVariants as faults
-use Rattle.rs_sched.specs.Lines.{lines_of, without_returns, is_comment, is_before_feed}
+use Rattle.rs_sched.specs.Lines.{without_returns, is_comment}
+use Rattle.rs_sched.specs.Next.{Left, event_by, none_by, next_in, next_of, FailsNext}
 use Rattle.rs_sched.specs.Reader.{lines_at, line_at, further, sites_after, with_events}
-use Rattle.rs_sched.proofs.LineLaws.{lines_next}
+use Rattle.rs_sched.specs.Reading.{FailsSchedule}
 
--- a line was taken from the bytes, and is this without its carriage returns
-pub record Taken (bytes line text rest : List ℕ) : Type 0 where
-  pub some : 1 ≤ length bytes
-  pub line_is : line ≡ take (prefix_len is_before_feed bytes) bytes
-  pub rest_is : rest ≡ drop 1 (drop (prefix_len is_before_feed bytes) bytes)
-  pub text_is : text ≡ without_returns line
-
-pub taken_smaller : (bytes line text rest : List ℕ) → Taken bytes line text rest → length rest + 1 ≤ length bytes
-taken_smaller bytes line text rest h =
-    let n = prefix_len is_before_feed bytes in
-    let one = length-drop 1 (drop n bytes) in
-    let two = length-drop n bytes in
-    let same = ap (λ (r : List ℕ). length r) h.rest_is in
-    let some = h.some in
-    omega arith
-
-lines_at_next : (sites : Option ℕ) (before : ℕ) (bytes line text rest : List ℕ) → Taken bytes line text rest → lines_at sites before (lines_of bytes)
-    ≡ cond (is_comment text) (lines_at sites (before + 1) (lines_of rest)) (further (before + 1) (line_at sites text) (λ event. lines_at (sites_after sites event) (before + 1) (lines_of rest)))
-lines_at_next sites before bytes line text rest h =
-    let parts = lines_next bytes h.some in
-    let same : lines_of bytes ≡ line ∷ lines_of rest = rw (h.line_is, h.rest_is) parts in
-    rw (same, h.text_is) refl
-
-pub comment_passed : (found : List Event) (sites : Option ℕ) (before : ℕ) (bytes line text rest : List ℕ) (total : Result (List Event) SchedFault) → Taken bytes line text rest → is_comment text ≡ true
-    → with_events found (lines_at sites before (lines_of bytes)) ≡ total → with_events found (lines_at sites (before + 1) (lines_of rest)) ≡ total
-comment_passed found sites before bytes line text rest total h comment so_far =
-    let one : lines_at sites before (lines_of bytes) ≡ lines_at sites (before + 1) (lines_of rest) = lines_at_next sites before bytes line text rest h ∙ rw comment refl in
-    sym (ap (with_events found) one) ∙ so_far
+-- the events of what is left
+abbrev pub events_left : Left → Result (List Event) SchedFault
+events_left left = lines_at left.sites left.before left.lines
 
 with_events-push : (found : List Event) (event : Event) (read : Result (List Event) SchedFault) → with_events found (with_events (event ∷ []) read) ≡ with_events (found ++ event ∷ []) read
 with_events-push found event (Err fault) = refl
 with_events-push found event (Ok others) = ap (λ (es : List Event). Ok es) (sym (append_assoc found (event ∷ []) others))
 
-pub event_read : (found : List Event) (sites : Option ℕ) (before : ℕ) (bytes line text rest : List ℕ) (total : Result (List Event) SchedFault) (event : Event) → Taken bytes line text rest → is_comment text ≡ false
-    → line_at sites text ≡ Ok event → with_events found (lines_at sites before (lines_of bytes)) ≡ total
-    → with_events (found ++ event ∷ []) (lines_at (sites_after sites event) (before + 1) (lines_of rest)) ≡ total
-event_read found sites before bytes line text rest total event h comment read so_far =
-    let one : lines_at sites before (lines_of bytes) ≡ with_events (event ∷ []) (lines_at (sites_after sites event) (before + 1) (lines_of rest)) = lines_at_next sites before bytes line text rest h ∙ rw (comment, read) refl in
-    sym (with_events-push found event (lines_at (sites_after sites event) (before + 1) (lines_of rest))) ∙ sym (ap (with_events found) one) ∙ so_far
+-- ---- an event is read
 
-pub line_fails : (found : List Event) (sites : Option ℕ) (before : ℕ) (bytes line text rest : List ℕ) (total : Result (List Event) SchedFault) (why : Why) → Taken bytes line text rest → is_comment text ≡ false
-    → line_at sites text ≡ Err why → with_events found (lines_at sites before (lines_of bytes)) ≡ total
-    → total ≡ Err (faults.BadLine (before + 1) why)
-line_fails found sites before bytes line text rest total why h comment read so_far =
-    let one : lines_at sites before (lines_of bytes) ≡ Err (faults.BadLine (before + 1) why) = lines_at_next sites before bytes line text rest h ∙ rw (comment, read) refl in
-    sym so_far ∙ ap (with_events found) one
+same_ok : (x y : Option Event × Left) → ◌≡◌ {A = Result (Option Event × Left) SchedFault} (Ok x) (Ok y) → (x.0 ≡ y.0) × (x.1 ≡ y.1)
+same_ok x y e =
+    let same : x ≡ y = cc in
+    (ap (λ (p : Option Event × Left). p.0) same, ap (λ (p : Option Event × Left). p.1) same)
+
+no_event : (sites : Option ℕ) (before : ℕ) (event : Event) (new : Left) → none_by sites before ≡ Ok (Some event, new) → ⊥
+no_event None before event new e = cc
+no_event (Some n) before event new e =
+    let same = (same_ok (None, record { sites = Some n; before = before; lines = [] }) (Some event, new) e).0 in
+    cc
+
+-- what is left behind a line that gave this event
+abbrev behind : Left → Event → Left
+behind left event = record { sites = sites_after left.sites event; before = left.before; lines = left.lines }
+
+-- a line was read and gave this event
+record IsRead (left : Left) (read : Result Event Why) (event : Event) (new : Left) : Type 0 where
+  event_is : read ≡ Ok event
+  new_is : new ≡ behind left event
+
+event_by_is : (left : Left) (read : Result Event Why) (event : Event) (new : Left) → event_by left read ≡ Ok (Some event, new) → IsRead left read event new
+event_by_is left (Ok found) event new e =
+    let same = same_ok (Some found, behind left found) (Some event, new) e in
+    let given : found ≡ event = cc in
+    record { event_is = ap (λ (x : Event). Ok x) given; new_is = sym same.1 ∙ ap (behind left) given }
+event_by_is left (Err why) event new e = absurd cc
+
+-- lines give this event, and then those of what is left
+record GoesOn (sites : Option ℕ) (before : ℕ) (lines : List (List ℕ)) (event : Event) (new : Left) : Type 0 where
+  pub events : lines_at sites before lines ≡ with_events (event ∷ []) (events_left new)
+  pub smaller : length new.lines < length lines
+
+event_next : (sites : Option ℕ) (before : ℕ) (lines : List (List ℕ)) (event : Event) (new : Left) → next_in sites before lines ≡ Ok (Some event, new) → GoesOn sites before lines event new
+event_next sites before [] event new e = absurd (no_event sites before event new e)
+event_next sites before (line ∷ lines) event new e = by_comment (is_comment (without_returns line)) refl (λ h. event_next sites (before + 1) lines event new h)
+  where
+    by_comment : (test : Bool) → is_comment (without_returns line) ≡ test → (next_in sites (before + 1) lines ≡ Ok (Some event, new) → GoesOn sites (before + 1) lines event new) → GoesOn sites before (line ∷ lines) event new
+    by_comment true c others =
+        let next : next_in sites before (line ∷ lines) ≡ next_in sites (before + 1) lines = rw c refl in
+        let all : lines_at sites before (line ∷ lines) ≡ lines_at sites (before + 1) lines = rw c refl in
+        let h = others (sym next ∙ e) in
+        record { events = all ∙ h.events; smaller = omega (arith, h.smaller) }
+    by_comment false c others =
+        let left : Left = record { sites = sites; before = before + 1; lines = lines } in
+        let next : next_in sites before (line ∷ lines) ≡ event_by left (line_at sites (without_returns line)) = rw c refl in
+        let read = event_by_is left (line_at sites (without_returns line)) event new (sym next ∙ e) in
+        rw read.new_is (record { events = rw (c, read.event_is) refl; smaller = omega arith })
+
+-- ---- no event is read
+
+-- no line gives an event
+none_next : (sites : Option ℕ) (before : ℕ) (lines : List (List ℕ)) (new : Left) → next_in sites before lines ≡ Ok (None, new) → lines_at sites before lines ≡ Ok []
+none_next None before [] new e = absurd cc
+none_next (Some n) before [] new e = refl
+none_next sites before (line ∷ lines) new e = by_comment (is_comment (without_returns line)) refl (λ h. none_next sites (before + 1) lines new h)
+  where
+    no_none : (left : Left) (read : Result Event Why) → event_by left read ≡ Ok (None, new) → ⊥
+    no_none left (Ok found) e =
+        let same = (same_ok (Some found, behind left found) (None, new) e).0 in
+        cc
+    no_none left (Err why) e = cc
+
+    by_comment : (test : Bool) → is_comment (without_returns line) ≡ test → (next_in sites (before + 1) lines ≡ Ok (None, new) → lines_at sites (before + 1) lines ≡ Ok []) → lines_at sites before (line ∷ lines) ≡ Ok []
+    by_comment true c others =
+        let next : next_in sites before (line ∷ lines) ≡ next_in sites (before + 1) lines = rw c refl in
+        rw c (others (sym next ∙ e))
+    by_comment false c others =
+        let left : Left = record { sites = sites; before = before + 1; lines = lines } in
+        let next : next_in sites before (line ∷ lines) ≡ event_by left (line_at sites (without_returns line)) = rw c refl in
+        absurd (no_none left (line_at sites (without_returns line)) (sym next ∙ e))
+
+-- a line is bad
+bad_next : (sites : Option ℕ) (before : ℕ) (lines : List (List ℕ)) (at : ℕ) (why : Why) → next_in sites before lines ≡ Err (faults.BadLine at why) → lines_at sites before lines ≡ Err (faults.BadLine at why)
+bad_next None before [] at why e = cc
+bad_next (Some n) before [] at why e = absurd cc
+bad_next sites before (line ∷ lines) at why e = by_comment (is_comment (without_returns line)) refl (λ h. bad_next sites (before + 1) lines at why h)
+  where
+    bad_line : (left : Left) (read : Result Event Why) (others : Event → Result (List Event) SchedFault) → event_by left read ≡ Err (faults.BadLine at why) → further left.before read others ≡ Err (faults.BadLine at why)
+    bad_line left (Ok found) others e = absurd cc
+    bad_line left (Err cause) others e = cc
+
+    by_comment : (test : Bool) → is_comment (without_returns line) ≡ test → (next_in sites (before + 1) lines ≡ Err (faults.BadLine at why) → lines_at sites (before + 1) lines ≡ Err (faults.BadLine at why))
+        → lines_at sites before (line ∷ lines) ≡ Err (faults.BadLine at why)
+    by_comment true c others =
+        let next : next_in sites before (line ∷ lines) ≡ next_in sites (before + 1) lines = rw c refl in
+        rw c (others (sym next ∙ e))
+    by_comment false c others =
+        let left : Left = record { sites = sites; before = before + 1; lines = lines } in
+        let next : next_in sites before (line ∷ lines) ≡ event_by left (line_at sites (without_returns line)) = rw c refl in
+        let bad = bad_line left (line_at sites (without_returns line)) (λ event. lines_at (sites_after sites event) (before + 1) lines) (sym next ∙ e) in
+        rw c bad
+
+-- ---- turns of the loop
+
+pub event_smaller : (old new : Left) (event : Event) → next_of old ≡ Ok (Some event, new) → length new.lines < length old.lines
+unfolding next_of
+event_smaller old new event e = (event_next old.sites old.before old.lines event new e).smaller
+
+pub event_found : (found : List Event) (old new : Left) (event : Event) (total : Result (List Event) SchedFault) → next_of old ≡ Ok (Some event, new) → with_events found (events_left old) ≡ total
+    → with_events (found ++ event ∷ []) (events_left new) ≡ total
+unfolding next_of
+event_found found old new event total e so_far =
+    let one = (event_next old.sites old.before old.lines event new e).events in
+    sym (with_events-push found event (events_left new)) ∙ sym (ap (with_events found) one) ∙ so_far
+
+pub all_found : (found : List Event) (old new : Left) (total : Result (List Event) SchedFault) → next_of old ≡ Ok (None, new) → with_events found (events_left old) ≡ total → total ≡ Ok found
+unfolding next_of
+all_found found old new total e so_far =
+    let one : with_events found (events_left old) ≡ Ok (found ++ []) = ap (with_events found) (none_next old.sites old.before old.lines new e) in
+    sym so_far ∙ one ∙ ap (λ (es : List Event). Ok es) (append-nil found)
+
+pub next_fails : (found : List Event) (old : Left) (fault : SchedFault) (total : Result (List Event) SchedFault) → FailsNext fault (next_of old) → with_events found (events_left old) ≡ total → FailsSchedule fault total
+unfolding next_of
+next_fails found old (faults.BadLine at why) total e so_far = sym so_far ∙ ap (with_events found) (bad_next old.sites old.before old.lines at why e)
+next_fails found old faults.NoMemory total e so_far = tt

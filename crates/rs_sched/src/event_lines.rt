@@ -34,7 +34,7 @@ impl<'a> Model for EventLines<'a> {
 }
 
 /// How many sites there are behind this event.
-pub fn sites_after(sites: Option<SiteNo>, event: &Event) -> Option<SiteNo>
+fn sites_after(sites: Option<SiteNo>, event: &Event) -> Option<SiteNo>
     ensures { result ≡ sites_after sites event.now }
 {
     match sites {

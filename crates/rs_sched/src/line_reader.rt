@@ -1,6 +1,5 @@
 //! A line, read whole.
 
-ghost use Rattle.std.specs.Prelude.{◌≡◌};
 ghost use Rattle.rs_sched.specs.Reader as spec;
 ghost use Rattle.rs_sched.specs.Reading.{GivesLine};
 
@@ -9,20 +8,11 @@ use crate::event_reader as read;
 use crate::fault::{LineFault, Why};
 use crate::fields::{Fields, field_len};
 use crate::word::{Word, word_of};
-use rs_base::{Bytes, ReadFault, SiteNo};
+use rs_base::{Bytes, ReadFault, SiteNo, is_utf8};
 use std::alloc::Global;
 
 /// How many bytes the text of an ask has at most.
 const MOST_TEXT: usize = 8192;
-
-fn is_utf8(bytes: &[u8]) -> bool
-    ensures { result ≡ spec.is_utf8 bytes.now }
-{
-    match std::str::from_utf8(bytes) {
-        Ok(_) => true,
-        Err(_) => false,
-    }
-}
 
 fn ask(alloc: Global, sites: SiteNo, fields: &mut Fields<'_>) -> Result<Event, LineFault>
     ensures { GivesLine result (spec.of_text (spec.origin_at sites fields.old)) }

@@ -7,10 +7,8 @@ ghost use Rattle.rs_sched.specs.Reader as spec;
 ghost use Rattle.rs_sched.specs.Reading.{GivesSchedule, TellsFault};
 
 use crate::event::Events;
-use crate::event_lines::sites_after;
-use crate::fault::{LineFault, SchedFault, Why};
-use crate::line_reader::event_of_line;
-use crate::lines::{Lines, is_comment, without_returns};
+use crate::event_lines::EventLines;
+use crate::fault::{SchedFault, Why};
 use sqlite_items::Items;
 use std::alloc::Global;
 
@@ -21,29 +19,9 @@ fn events_of(alloc: Global, bytes: &[u8]) -> Result<Events, SchedFault>
     ensures { GivesSchedule result (spec.lines_at None 0 (spec.lines_of bytes.now)) }
 {
     let mut events = Items::new(alloc);
-    let mut sites = None;
-    let mut line = 0u64;
-    let mut lines = Lines::new(bytes);
-    while lines.len() != 0 {
-        let text = without_returns(lines.next());
-        line += 1;
-        if is_comment(text) {
-            continue;
-        }
-        match event_of_line(alloc, sites, text) {
-            Ok(event) => {
-                sites = sites_after(sites, &event);
-                events.push(event)?;
-            }
-            Err(LineFault::Bad(why)) => return Err(SchedFault::BadLine { line, why }),
-            Err(LineFault::NoMemory) => return Err(SchedFault::NoMemory),
-        }
-    }
-    if sites.is_none() {
-        return Err(SchedFault::BadLine {
-            line: line + 1,
-            why: Why::NoSites,
-        });
+    let mut lines = EventLines::new(bytes);
+    while let Some(event) = lines.next(alloc)? {
+        events.push(event)?;
     }
     Ok(events)
 }

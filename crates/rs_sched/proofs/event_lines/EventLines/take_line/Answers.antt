@@ -1,16 +1,14 @@
 use Rattle.std.proofs.Common.{◌+◌, ◌≤◌, ℕ, List, length, ap, ◌∙◌, arith}
 use Rattle.rs_sched.specs.Lines.{without_returns}
 use Rattle.rs_sched.specs.Next.{Left, is_none}
-use Rattle.rs_sched.proofs.ReadLoop.{Taken, taken_smaller}
-use Rattle.rs_sched.proofs.NextLaws.{some_left, first_left, rest_left}
+use Rattle.rs_sched.proofs.NextLaws.{some_left, first_left, rest_left, rest_smaller}
 use Rattle.rs_sched.proofs.event_lines.EventLines.take_line.Goals as goal
 
 pub invariant_of-self : goal.invariant_of-self
 invariant_of-self c =
     let left = c.self.inside.left in
     let some : 1 ≤ length left = some_left left (ap (λ (l : Left). is_none l.lines) c.self.view_is ∙ c.requires) in
-    let taken : Taken left c.next.result.now c.without_returns-line.result.now c.next.new.self = record { some = some; line_is = c.next.ensures.line; rest_is = c.next.ensures.rest; text_is = c.without_returns-line.ensures } in
-    let less = taken_smaller _ _ _ _ taken in
+    let less = rest_smaller left c.next.new.self some c.next.ensures.rest in
     omega (arith, c.self.invariant)
 
 pub returns-clause-line : goal.returns-clause-line
