@@ -1,0 +1,4 @@
+pub mod Parting
+pub mod Sites
+pub mod Steps
+pub mod Whole

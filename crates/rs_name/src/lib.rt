@@ -1,0 +1,16 @@
+//! System-wide names: what a written name stands for, and the text of a name.
+#![tactic(auto)]
+
+mod laws;
+mod reading;
+mod resolving;
+#[cfg(test)]
+mod tests;
+
+pub use laws::{
+    different_texts, each_name_is_read, plain_is_synonym, printed_is_text, read_is_printed,
+    resolved_again, synonym_is_of_plain, whole_is_itself, written_parts_stay,
+};
+pub use reading::parse_swn;
+pub use resolving::resolve;
+pub use rs_base::print_swn;
