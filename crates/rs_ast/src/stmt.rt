@@ -1,33 +1,79 @@
 //! Statements: flat plain data.
 
-use rs_base::{Ident, Kind, NameText, Rows};
+use crate::change::{Sets, TermRows};
+use crate::clause::Clauses;
+use crate::column::ColDefs;
+use crate::select::Select;
+use rs_base::{Ident, NameText, Row, SiteNo};
 use sqlite_items::Items;
-
-/// A column as a table declares it.
-#[derive(Clone, Copy, Debug, PartialEq, Eq)]
-pub struct ColDef {
-    pub name: Ident,
-    pub kind: Kind,
-}
-
-pub type ColDefs = Items<ColDef>;
-
-/// Every column of every row of a table.
-#[derive(Clone, Copy, Debug, PartialEq, Eq)]
-pub struct Select {
-    pub from: NameText,
-}
 
 /// A statement on the rows of tables.
 #[derive(Debug, Drop)]
 pub enum Dml {
     Select(Select),
-    Insert { name: NameText, rows: Rows },
+    Insert {
+        name: NameText,
+        rows: TermRows,
+    },
+    Update {
+        name: NameText,
+        sets: Sets,
+        clauses: Clauses,
+    },
+    Delete {
+        name: NameText,
+        clauses: Clauses,
+    },
 }
+
+pub type Dmls = Items<Dml>;
+
+pub type Idents = Items<Ident>;
 
 /// A statement.
 #[derive(Debug, Drop)]
 pub enum Stmt {
-    CreateTable { name: NameText, columns: ColDefs },
+    CreateTable {
+        name: NameText,
+        columns: ColDefs,
+    },
+    DropTable {
+        name: NameText,
+    },
+    CreateIndex {
+        index: Ident,
+        name: NameText,
+        column: Ident,
+    },
+    DropIndex {
+        index: Ident,
+        name: NameText,
+    },
+    CreateSynonym {
+        synonym: Ident,
+        name: NameText,
+    },
+    DropSynonym {
+        synonym: Ident,
+    },
+    Migrate {
+        name: NameText,
+        to: SiteNo,
+    },
+    Compile {
+        program: Ident,
+        params: Idents,
+        body: Dmls,
+    },
+    DropProgram {
+        program: Ident,
+    },
+    Execute {
+        program: Ident,
+        values: Row,
+    },
+    Explain(Select),
+    ShowSections,
+    ShowCache,
     Dml(Dml),
 }

@@ -1,0 +1,111 @@
+//! The text of a statement.
+
+ghost use Rattle.std.specs.Prelude.{◌≡◌, ◌++◌, map, drop, take, OnOk, OnErr};
+ghost use Rattle.std.specs.Char.{to_ascii_uppercase};
+ghost use Rattle.rs_base.specs.Printing.{printed_text};
+ghost use Rattle.rs_ast.specs.Printed as spec;
+
+use crate::ending::Ending;
+use crate::reserved::is_reserved;
+use crate::spell::Spell;
+use crate::stmt::Stmt;
+use crate::token::{Mark, Token, Tokens};
+use rs_base::{Bytes, NoMemory, Txt, Value, print_number, print_value};
+use std::alloc::Global;
+
+fn put_upper_case(out: &mut Bytes, word: &[u8]) -> Result<(), NoMemory>
+    ensures { OnOk result (out.new ≡ out.old ++ map to_ascii_uppercase word.now) }
+{
+    for byte in word {
+        out.push(byte.to_ascii_uppercase())?;
+    }
+    Ok(())
+}
+
+#[tactic(auto, unfolding(crate::specs::Printed::printed_word))]
+fn put_word(out: &mut Bytes, word: &[u8]) -> Result<(), NoMemory>
+    ensures { OnOk result (out.new ≡ out.old ++ spec.printed_word word.now) }
+{
+    if is_reserved(word) {
+        put_upper_case(out, word)
+    } else {
+        out.extend(word)
+    }
+}
+
+fn put_text(alloc: Global, out: &mut Bytes, text: &Txt) -> Result<(), NoMemory>
+    ensures { OnOk result (out.new ≡ out.old ++ printed_text text.now) }
+{
+    let value = Value::Text(text.copy(alloc)?);
+    print_value(alloc, &value, out)
+}
+
+#[tactic(auto, unfolding(crate::specs::Printed::printed_mark))]
+fn mark_text(mark: Mark) -> &'static [u8]
+    ensures { result.now ≡ spec.printed_mark mark }
+{
+    match mark {
+        Mark::Open => b"(",
+        Mark::Close => b")",
+        Mark::Comma => b",",
+        Mark::Dot => b".",
+        Mark::Semicolon => b";",
+        Mark::At => b"@",
+        Mark::Star => b"*",
+        Mark::Colon => b":",
+        Mark::Plus => b"+",
+        Mark::Minus => b"-",
+        Mark::Equal => b"=",
+        Mark::NotEqual => b"<>",
+        Mark::Less => b"<",
+        Mark::LessOrEqual => b"<=",
+        Mark::Greater => b">",
+        Mark::GreaterOrEqual => b">=",
+    }
+}
+
+#[tactic(auto, unfolding(crate::specs::Printed::printed_token))]
+fn put_token(alloc: Global, out: &mut Bytes, token: &Token) -> Result<(), NoMemory>
+    ensures { OnOk result (out.new ≡ out.old ++ spec.printed_token token.now) }
+{
+    match token {
+        Token::Word(word) => put_word(out, word.as_bytes()),
+        Token::Number(n) => print_number(alloc, *n, out),
+        Token::Text(text) => put_text(alloc, out, text),
+        Token::Mark(mark) => out.extend(mark_text(*mark)),
+    }
+}
+
+/// A token behind what the text ends with.
+#[tactic(auto, unfolding(crate::specs::Printed::printed_next))]
+fn put_next(alloc: Global, out: &mut Bytes, before: Ending, token: &Token) -> Result<(), NoMemory>
+    ensures { OnOk result (out.new ≡ out.old ++ spec.printed_next before token.now) }
+{
+    if !before.touches(token) {
+        out.push(b' ')?;
+    }
+    put_token(alloc, out, token)
+}
+
+fn put_tokens(alloc: Global, out: &mut Bytes, tokens: &[Token]) -> Result<(), NoMemory>
+    ensures { OnOk result (out.new ≡ out.old ++ spec.printed_tokens tokens.now) }
+{
+    let mut ending = Ending::Start;
+    for token in tokens {
+        put_next(alloc, out, ending, token)?;
+        ending = ending.behind(token);
+    }
+    Ok(())
+}
+
+/// Prints a statement as a text that reads as it does. Where memory is wanting, the bytes stay as they were.
+pub fn print_stmt(alloc: Global, stmt: &Stmt, out: &mut Bytes) -> Result<(), NoMemory>
+    ensures ok { OnOk result (out.new ≡ out.old ++ spec.printed_stmt stmt.now) }
+    ensures err { OnErr result (out.new ≡ out.old) }
+{
+    let mut tokens = Tokens::new(alloc);
+    stmt.spell(alloc, &mut tokens)?;
+    let mut text = Bytes::new(alloc);
+    put_tokens(alloc, &mut text, tokens.as_slice())?;
+    out.extend(text.as_slice())
+}

@@ -1,0 +1,84 @@
+//! The tokens of a text.
+
+ghost use Rattle.std.specs.Prelude.{◌≡◌, IfOk};
+ghost use Rattle.rs_ast.specs.Token as spec;
+
+use rs_base::{Ident, NoMemory, Txt};
+use sqlite_items::Items;
+use std::alloc::Global;
+
+/// A mark of one or two characters.
+#[derive(Clone, Copy, Debug, PartialEq, Eq)]
+pub enum Mark {
+    Open,
+    Close,
+    Comma,
+    Dot,
+    Semicolon,
+    At,
+    Star,
+    Colon,
+    Plus,
+    Minus,
+    Equal,
+    NotEqual,
+    Less,
+    LessOrEqual,
+    Greater,
+    GreaterOrEqual,
+}
+
+/// A token: a word in lower case, a number, a text without its quotes, or a mark.
+#[derive(Debug, Drop)]
+pub enum Token {
+    Word(Ident),
+    Number(u64),
+    Text(Txt),
+    Mark(Mark),
+}
+
+pub type Tokens = Items<Token>;
+
+#[tactic(auto, unfolding(crate::specs::Token::same_mark))]
+fn same_mark(mark: Mark, other: Mark) -> bool
+    ensures { result ≡ spec.same_mark mark other }
+{
+    mark == other
+}
+
+impl Token {
+    /// Whether it is this mark.
+    pub fn is_mark(&self, mark: Mark) -> bool
+        ensures { result ≡ spec.is_mark mark self.now }
+    {
+        match self {
+            Token::Word(_) => false,
+            Token::Number(_) => false,
+            Token::Text(_) => false,
+            Token::Mark(other) => same_mark(*other, mark),
+        }
+    }
+
+    /// Whether it is this word, which is given in lower case.
+    pub fn is_word(&self, word: &[u8]) -> bool
+        ensures { result ≡ spec.is_word word.now self.now }
+    {
+        match self {
+            Token::Word(other) => other.as_bytes() == word,
+            Token::Number(_) => false,
+            Token::Text(_) => false,
+            Token::Mark(_) => false,
+        }
+    }
+
+    pub fn copy(&self, alloc: Global) -> Result<Token, NoMemory>
+        ensures { IfOk result (λ token. token ≡ self.now) }
+    {
+        match self {
+            Token::Word(word) => Ok(Token::Word(*word)),
+            Token::Number(n) => Ok(Token::Number(*n)),
+            Token::Text(text) => Ok(Token::Text(text.copy(alloc)?)),
+            Token::Mark(mark) => Ok(Token::Mark(*mark)),
+        }
+    }
+}
