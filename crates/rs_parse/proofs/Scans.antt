@@ -1,21 +1,24 @@
 -- The tokenizer: each token leaves an end of the bytes, and the loop puts the tokens that were found in front of those
 -- of the bytes that are left.
-use Rattle.std.proofs.Common.{◌≡◌, ℕ, zero, suc, ◌+◌, ◌-◌, ◌<◌, ◌≤◌, ◌≢◌, min, Bool, true, false, cond, eqb, leb, ◌&&◌, List, [], ◌∷◌, ◌++◌, map, length, take, drop, Option, Some, None, refl, sym, ap, ◌∙◌, arith, inl, inr}
+use Rattle.std.proofs.Common.{◌≡◌, ℕ, zero, suc, ◌+◌, ◌-◌, ◌<◌, ◌≤◌, min, Bool, true, false, cond, eqb, leb, ◌&&◌, List, [], ◌∷◌, ◌++◌, map, length, take, drop, Option, Some, None, refl, sym, ap, ◌∙◌, arith, inl, inr}
 use Rattle.std.specs.List.{prefix_len}
 use Rattle.std.specs.Char.{to_ascii_lowercase}
-use Rattle.std.proofs.lemmas.List.{length-drop, drop_min}
+use Rattle.std.proofs.lemmas.Bool.{eq-eqb}
+use Rattle.std.proofs.lemmas.Bool.Decides.{nat_tests}
+use Rattle.std.proofs.lemmas.List.{append-nil, append_assoc, length-drop, drop_min}
+use Rattle.std.proofs.lemmas.List.Sums.{prefix_len-le-length}
 use Rattle.std.proofs.lemmas.Option.{cond_some, none-some, same_Some}
 use Rattle.rs_base.specs.Ident.{is_ident}
 use Rattle.rs_base.specs.Txt.{is_txt}
-use Rattle.rs_base.specs.declared.fault.ReadFault.{ReadFault}
-use Rattle.rs_base.specs.declared.fault.ReadFault.TheVariants as faults
-use Rattle.rs_base.specs.Reading.{◌>>=◌, Fails, push_first}
-use Rattle.rs_parse.specs.declared.token.Mark.{Mark}
-use Rattle.rs_parse.specs.declared.token.Token.{Token}
-use Rattle.rs_parse.specs.declared.token.Token.TheVariants as tokens
-use Rattle.rs_parse.specs.Tokens.{is_blank, is_letter, is_digit, is_word_byte, word_at, number_at, quoted_at, text_at, mark_at, digits_value, token_at, tokens_behind}
+use Rattle.rs_base.specs.Reading.{◌>>=◌, push_first}
+use Rattle.rs_ast.specs.declared.token.Mark.{Mark}
+use Rattle.rs_parse.specs.declared.token_split.Split.{Split}
+use Rattle.rs_ast.specs.declared.token.Token.{Token}
+use Rattle.rs_ast.specs.declared.token.Token.TheVariants as tokens
+use Rattle.rs_parse.specs.Tokens.{is_blank, is_letter, is_digit, is_word_byte, word_at, number_at, quoted_at, text_at, mark_at, digits_value, token_at, ends_at, put_first, taken_at, split_behind}
 use Rattle.rs_parse.specs.Scanning.{token_here}
-use Rattle.rs_parse.proofs.Options.{bind_some, chosen, push_some}
+use Rattle.rs_base.proofs.Steps.{bind_some, chosen}
+use Rattle.rs_parse.proofs.Options.{push_some}
 
 -- ---- what a token leaves is an end of what stood there
 
@@ -134,61 +137,123 @@ token_leaves b bytes t rest e =
       ]
     ]
 
--- ---- the tokens behind bytes that were taken before
+-- ---- splitting behind bytes that were taken before
 
-behind_drop : (inside : ℕ) (bytes : List ℕ) → tokens_behind inside bytes ≡ tokens_behind 0 (drop inside bytes)
-behind_drop zero bytes = refl
-behind_drop (suc inside) [] = refl
-behind_drop (suc inside) (b ∷ bytes) = behind_drop inside bytes
+behind_drop : (at inside : ℕ) (bytes : List ℕ) → inside ≤ length bytes → split_behind at inside bytes ≡ split_behind (at + inside) 0 (drop inside bytes)
+behind_drop at zero bytes h = ap (λ (n : ℕ). split_behind n 0 bytes) (omega arith)
+behind_drop at (suc inside) [] h = absurd (omega arith)
+behind_drop at (suc inside) (b ∷ bytes) h =
+    let place : at + 1 + inside ≡ at + suc inside = omega arith in
+    behind_drop (at + 1) inside bytes (omega arith) ∙ ap (λ (n : ℕ). split_behind n 0 (drop inside bytes)) place
 
-abbrev put_first : Token × List ℕ → Option (List Token)
-put_first token = tokens_behind 0 token.1 >>= λ others. Some (token.0 ∷ others)
+-- how bytes are split that begin with no blank
+abbrev pub split_here : ℕ → List ℕ → Split
+split_here at [] = ends_at at true
+split_here at (b ∷ bytes) = taken_at at (token_here (b ∷ bytes)) (λ token. split_behind (at + (length (b ∷ bytes) - length token.1)) 0 token.1)
 
--- the tokens of bytes that begin with no blank
-abbrev pub tokens_here : List ℕ → Option (List Token)
-tokens_here [] = Some []
-tokens_here (b ∷ bytes) = token_here (b ∷ bytes) >>= put_first
-
-same_behind : (b : ℕ) (bytes : List ℕ) (read : Option (Token × List ℕ)) → token_at b bytes ≡ read
-    → (read >>= λ token. tokens_behind (length bytes - length token.1) bytes >>= λ others. Some (token.0 ∷ others)) ≡ (read >>= put_first)
-same_behind b bytes None e = refl
-same_behind b bytes (Some token) e =
+same_behind : (at b : ℕ) (bytes : List ℕ) (read : Option (Token × List ℕ)) → token_at b bytes ≡ read
+    → taken_at at read (λ token. split_behind (at + 1) (length bytes - length token.1) bytes)
+    ≡ taken_at at read (λ token. split_behind (at + (length (b ∷ bytes) - length token.1)) 0 token.1)
+same_behind at b bytes None e = refl
+same_behind at b bytes (Some token) e =
     let l = token_leaves b bytes token.0 token.1 e in
-    let same : tokens_behind (length bytes - length token.1) bytes ≡ tokens_behind 0 token.1 = behind_drop (length bytes - length token.1) bytes ∙ ap (tokens_behind 0) (Leaves-drop bytes token.1 l) in
-    ap (λ (read : Option (List Token)). read >>= λ others. Some (token.0 ∷ others)) same
+    let shorter = Leaves-length bytes token.1 l in
+    let taken = length bytes - length token.1 in
+    let place : at + 1 + taken ≡ at + (suc (length bytes) - length token.1) = omega (arith, shorter) in
+    let behind : split_behind (at + 1) taken bytes ≡ split_behind (at + 1 + taken) 0 (drop taken bytes) = behind_drop (at + 1) taken bytes (omega arith) in
+    let same : split_behind (at + 1) taken bytes ≡ split_behind (at + (suc (length bytes) - length token.1)) 0 token.1 =
+    behind ∙ ap (split_behind (at + 1 + taken) 0) (Leaves-drop bytes token.1 l) ∙ ap (λ (n : ℕ). split_behind n 0 token.1) place in
+    ap (put_first at token.0) same
 
-skip_step : (blank : Bool) (b : ℕ) (bytes : List ℕ) → tokens_behind 0 bytes ≡ tokens_here (drop (prefix_len is_blank bytes) bytes)
-    → cond blank (tokens_behind 0 bytes) (token_at b bytes >>= λ token. tokens_behind (length bytes - length token.1) bytes >>= λ others. Some (token.0 ∷ others))
-    ≡ tokens_here (drop (cond blank (1 + prefix_len is_blank bytes) 0) (b ∷ bytes))
+skip_step : (blank : Bool) (at b : ℕ) (bytes : List ℕ)
+    → split_behind (at + 1) 0 bytes ≡ split_here (at + 1 + prefix_len is_blank bytes) (drop (prefix_len is_blank bytes) bytes)
+    → cond blank (split_behind (at + 1) 0 bytes) (taken_at at (token_at b bytes) (λ token. split_behind (at + 1) (length bytes - length token.1) bytes))
+    ≡ split_here (at + cond blank (1 + prefix_len is_blank bytes) 0) (drop (cond blank (1 + prefix_len is_blank bytes) 0) (b ∷ bytes))
 unfolding token_here
-skip_step true b bytes so_far = so_far ∙ ap (λ (n : ℕ). tokens_here (drop n (b ∷ bytes))) (sym (one_more (prefix_len is_blank bytes)))
-skip_step false b bytes so_far = same_behind b bytes (token_at b bytes) refl
+skip_step true at b bytes so_far =
+    let n = prefix_len is_blank bytes in
+    let place : at + 1 + n ≡ at + (1 + n) = omega arith in
+    so_far ∙ ap (λ (k : ℕ). split_here k (drop n bytes)) place ∙ ap (λ (k : ℕ). split_here (at + (1 + n)) (drop k (b ∷ bytes))) (sym (one_more n))
+skip_step false at b bytes so_far =
+    let place : at ≡ at + 0 = omega arith in
+    same_behind at b bytes (token_at b bytes) refl ∙ ap (λ (k : ℕ). split_here k (b ∷ bytes)) place
 
-pub skipped : (bytes : List ℕ) → tokens_behind 0 bytes ≡ tokens_here (drop (prefix_len is_blank bytes) bytes)
-skipped [] = refl
-skipped (b ∷ bytes) = skip_step (is_blank b) b bytes (skipped bytes)
-
--- ---- one call of the tokenizer
-
-pub next_ends : (old left : List ℕ) → left ≡ drop (prefix_len is_blank old) old → length left ≡ 0 → tokens_behind 0 old ≡ Some []
-next_ends old [] skip e = skipped old ∙ ap tokens_here (sym skip)
-next_ends old (b ∷ bytes) skip e = absurd (omega (arith, e))
-
-pub next_fails : (fault : ReadFault) (old left : List ℕ) → left ≡ drop (prefix_len is_blank old) old → length left ≢ 0 → Fails fault (token_here left) → Fails fault (tokens_behind 0 old)
-next_fails faults.NoMemory old left skip more h = tt
-next_fails faults.Malformed old [] skip more h = absurd (more refl)
-next_fails faults.Malformed old (b ∷ bytes) skip more h = skipped old ∙ ap tokens_here (sym skip) ∙ ap (λ (read : Option (Token × List ℕ)). read >>= put_first) h
-
-pub next_goes_on : (old left : List ℕ) (t : Token) (new : List ℕ) → left ≡ drop (prefix_len is_blank old) old → token_here left ≡ Some (t, new)
-    → (tokens_behind 0 old ≡ (tokens_behind 0 new >>= λ others. Some (t ∷ others))) × (length new < length old)
-unfolding token_here
-next_goes_on old [] t new skip e = absurd (none-some (t, new) e)
-next_goes_on old (b ∷ bytes) t new skip e =
-    let shorter = Leaves-length bytes new (token_leaves b bytes t new e) in
-    let len = length-drop (prefix_len is_blank old) old in
-    (skipped old ∙ ap tokens_here (sym skip) ∙ ap (λ (read : Option (Token × List ℕ)). read >>= put_first) e, omega (arith, shorter, ap length skip, len))
+skipped : (at : ℕ) (bytes : List ℕ) → split_behind at 0 bytes ≡ split_here (at + prefix_len is_blank bytes) (drop (prefix_len is_blank bytes) bytes)
+skipped at [] = ap (λ (n : ℕ). ends_at n true) (omega arith)
+skipped at (b ∷ bytes) = skip_step (is_blank b) at b bytes (skipped (at + 1) bytes)
 
 -- ---- the loop
 
-abbrev pub with_tokens : List Token → Option (List Token) → Option (List Token)
-with_tokens front read = read >>= λ others. Some (front ++ others)
+-- what was found before, and how the bytes that are left are split
+abbrev pub with_found : List Token → List ℕ → Split → Split
+with_found tokens starts split = record { tokens = tokens ++ split.tokens; starts = starts ++ split.starts; end = split.end; whole = split.whole }
+
+-- a place in a text of n bytes is told by the bytes that are left
+blanks_skipped : (n : ℕ) (old left : List ℕ) → left ≡ drop (prefix_len is_blank old) old → length old ≤ n
+    → split_behind (n - length old) 0 old ≡ split_here (n - length left) left
+blanks_skipped n old left skip within =
+    let k = prefix_len is_blank old in
+    let fits = prefix_len-le-length is_blank old in
+    let len : length left ≡ length old - k = ap length skip ∙ length-drop k old in
+    let place : n - length old + k ≡ n - length left = omega (arith, len, fits) in
+    skipped (n - length old) old ∙ ap (split_here (n - length old + k)) (sym skip) ∙ ap (λ (p : ℕ). split_here p left) place
+
+pub token_shortens : (left : List ℕ) (t : Token) (new : List ℕ) → token_here left ≡ Some (t, new) → length new < length left
+unfolding token_here
+token_shortens [] t new e = absurd (none-some (t, new) e)
+token_shortens (b ∷ bytes) t new e = let shorter = Leaves-length bytes new (token_leaves b bytes t new e) in omega (arith, shorter)
+
+token_first : (n : ℕ) (left : List ℕ) (t : Token) (new : List ℕ) → length left ≤ n → token_here left ≡ Some (t, new)
+    → split_here (n - length left) left ≡ put_first (n - length left) t (split_behind (n - length new) 0 new)
+unfolding token_here
+token_first n [] t new within e = absurd (none-some (t, new) e)
+token_first n (b ∷ bytes) t new within e =
+    let shorter = token_shortens (b ∷ bytes) t new e in
+    let at = n - length (b ∷ bytes) in
+    let place : at + (length (b ∷ bytes) - length new) ≡ n - length new = omega (arith, shorter) in
+    let step = λ (token : Token × List ℕ). split_behind (at + (length (b ∷ bytes) - length token.1)) 0 token.1 in
+    let found : taken_at at (token_at b bytes) step ≡ taken_at at (Some (t, new)) step = ap (λ (read : Option (Token × List ℕ)). taken_at at read step) e in
+    found ∙ ap (λ (p : ℕ). put_first at t (split_behind p 0 new)) place
+
+one_further : (tokens : List Token) (starts : List ℕ) (t : Token) (start : ℕ) (split : Split)
+    → with_found (tokens ++ t ∷ []) (starts ++ start ∷ []) split ≡ with_found tokens starts (put_first start t split)
+one_further tokens starts t start split = simp append_assoc
+
+pub left_within : (n : ℕ) (old left : List ℕ) → left ≡ drop (prefix_len is_blank old) old → length old ≤ n → length left ≤ n
+left_within n old left skip within =
+    let len : length left ≡ length old - prefix_len is_blank old = ap length skip ∙ length-drop (prefix_len is_blank old) old in
+    omega (arith, len)
+
+pub split_goes_on : (n : ℕ) (tokens : List Token) (starts : List ℕ) (old left : List ℕ) (t : Token) (new : List ℕ)
+    → left ≡ drop (prefix_len is_blank old) old → length old ≤ n → token_here left ≡ Some (t, new)
+    → with_found (tokens ++ t ∷ []) (starts ++ (n - length left) ∷ []) (split_behind (n - length new) 0 new)
+    ≡ with_found tokens starts (split_behind (n - length old) 0 old)
+split_goes_on n tokens starts old left t new skip within e =
+    let first = token_first n left t new (left_within n old left skip within) e in
+    let here = blanks_skipped n old left skip within in
+    one_further tokens starts t (n - length left) (split_behind (n - length new) 0 new) ∙ ap (with_found tokens starts) (sym (here ∙ first))
+
+stops_here : (n : ℕ) (left : List ℕ) → length left ≤ n → token_here left ≡ None → split_here (n - length left) left ≡ ends_at (n - length left) (eqb (n - length left) n)
+unfolding token_here
+stops_here n [] within e =
+    let all : n ≡ n - 0 = omega arith in
+    ap (ends_at (n - 0)) (sym (eq-eqb (n - 0) n (sym all)))
+stops_here n (b ∷ bytes) within e =
+    let at = n - length (b ∷ bytes) in
+    let step = λ (token : Token × List ℕ). split_behind (at + (length (b ∷ bytes) - length token.1)) 0 token.1 in
+    let found : taken_at at (token_at b bytes) step ≡ taken_at at None step = ap (λ (read : Option (Token × List ℕ)). taken_at at read step) e in
+    let other : eqb at n ≡ false = grind (arith, nat_tests) in
+    found ∙ ap (ends_at at) (sym other)
+
+nothing_further : (tokens : List Token) (starts : List ℕ) (place : ℕ) (whole : Bool)
+    → with_found tokens starts (ends_at place whole) ≡ record { tokens = tokens; starts = starts; end = place; whole = whole }
+nothing_further tokens starts place whole = simp append-nil
+
+pub split_stops : (n : ℕ) (tokens : List Token) (starts : List ℕ) (old left : List ℕ)
+    → left ≡ drop (prefix_len is_blank old) old → length old ≤ n → token_here left ≡ None
+    → record { tokens = tokens; starts = starts; end = n - length left; whole = eqb (n - length left) n }
+    ≡ with_found tokens starts (split_behind (n - length old) 0 old)
+split_stops n tokens starts old left skip within e =
+    let stops = stops_here n left (left_within n old left skip within) e in
+    let here = blanks_skipped n old left skip within in
+    sym (ap (with_found tokens starts) (here ∙ stops) ∙ nothing_further tokens starts (n - length left) (eqb (n - length left) n))

@@ -1,79 +1,287 @@
--- Which lists of tokens spell a request:
+-- Which lists of tokens spell a request.
 --
 --     request   = statement [ ";" ]
---     statement = CREATE TABLE id "(" column { "," column } ")"
---               | INSERT INTO id VALUES tuple { "," tuple }
---               | SELECT "*" FROM id
+--     statement = CREATE TABLE name "(" column { "," column } ")"
+--               | DROP TABLE name
+--               | CREATE INDEX id ON name "(" id ")"
+--               | DROP INDEX id ON name
+--               | CREATE SYNONYM id FOR name
+--               | DROP SYNONYM id
+--               | MIGRATE TABLE name TO site
+--               | COMPILE id "(" [ id { "," id } ] ")" AS dml ";" { dml ";" } END
+--               | DROP PROGRAM id
+--               | EXECUTE id "(" [ literal { "," literal } ] ")"
+--               | EXPLAIN select | SHOW SECTIONS | SHOW CACHE | dml
+--     dml       = select
+--               | INSERT INTO name VALUES tuple { "," tuple }
+--               | UPDATE name SET id "=" expr { "," id "=" expr } [ WHERE pred ]
+--               | DELETE FROM name [ WHERE pred ]
+--     select    = SELECT [ DISTINCT ] ( "*" | item { "," item } ) FROM ref { "," ref } [ WHERE pred ]
+--                 [ GROUP BY column_ref { "," column_ref } ] [ ORDER BY key { "," key } ]
+--     name      = id [ "@" site ] [ "." id [ "@" site ] ]
 --     column    = id ( INT | INTEGER | TEXT )
---     tuple     = "(" literal { "," literal } ")"
+--     item      = column_ref | COUNT "(" "*" ")" | ( SUM | MIN | MAX ) "(" column_ref ")"
+--     ref       = name [ id ]
+--     column_ref = id [ "." id ]
+--     pred      = clause { AND clause }
+--     clause    = cmp | "(" cmp { OR cmp } ")"
+--     cmp       = column_ref ( "=" | "<>" | "<" | "<=" | ">" | ">=" ) ( column_ref | literal | ":" id )
+--     key       = ( column_ref | number ) [ ASC | DESC ]
+--     tuple     = "(" val { "," val } ")"
+--     val       = literal | ":" id
+--     expr      = term [ ( "+" | "-" | "*" ) term ]
+--     term      = id | literal | ":" id
 --     literal   = [ "-" ] number | text
 --
--- with at most 16 columns and at most 16 literals in a tuple. An id is a word that isn't reserved.
-use Rattle.std.specs.Prelude.{◌≡◌, ℕ, ◌^◌, ◌<◌, ◌≤◌, false, List, [], ◌∷◌, ◌++◌, length, pos, neg_ℤ, ◌⊎◌, codes}
+-- An id is a word that isn't reserved, and a site a number from 1 to 16. There are at most 16 columns, items, columns of a
+-- group, keys, parameters, values of an EXECUTE or of a tuple, and sets, at most 6 refs and 8 statements of a program. A
+-- literal's number is at most 2^63 - 1, and a key's number at most 2^32 - 1.
+use Rattle.std.specs.Prelude.{◌≡◌, ℕ, ◌^◌, ◌<◌, ◌≤◌, Bool, true, false, List, [], ◌∷◌, Option, Some, None, pos, neg_ℤ, ◌⊎◌, codes}
 use Rattle.rs_base.specs.declared.value.Kind.{Kind}
 use Rattle.rs_base.specs.declared.value.Kind.TheVariants as kinds
 use Rattle.rs_base.specs.declared.value.Value.{Value}
 use Rattle.rs_base.specs.declared.value.Value.TheVariants as values
 use Rattle.rs_base.specs.declared.name.NameText.{NameText}
-use Rattle.rs_base.specs.Name.{plain}
-use Rattle.rs_ast.specs.declared.stmt.ColDef.{ColDef}
+use Rattle.rs_ast.specs.declared.change.Arith.{Arith}
+use Rattle.rs_ast.specs.declared.change.Arith.TheVariants as ariths
+use Rattle.rs_ast.specs.declared.change.Expr.{Expr}
+use Rattle.rs_ast.specs.declared.change.Set.{Set}
+use Rattle.rs_ast.specs.declared.change.Term.{Term}
+use Rattle.rs_ast.specs.declared.change.Term.TheVariants as terms
+use Rattle.rs_ast.specs.declared.clause.Clause.{Clause}
+use Rattle.rs_ast.specs.declared.clause.Cmp.{Cmp}
+use Rattle.rs_ast.specs.declared.clause.Op.{Op}
+use Rattle.rs_ast.specs.declared.clause.Op.TheVariants as ops
+use Rattle.rs_ast.specs.declared.clause.Operand.{Operand}
+use Rattle.rs_ast.specs.declared.clause.Operand.TheVariants as operands
+use Rattle.rs_ast.specs.declared.column.ColDef.{ColDef}
+use Rattle.rs_ast.specs.declared.column.ColRef.{ColRef}
+use Rattle.rs_ast.specs.declared.select.Item.{Item}
+use Rattle.rs_ast.specs.declared.select.Item.TheVariants as items
+use Rattle.rs_ast.specs.declared.select.Key.{Key}
+use Rattle.rs_ast.specs.declared.select.KeyBy.{KeyBy}
+use Rattle.rs_ast.specs.declared.select.KeyBy.TheVariants as keys
+use Rattle.rs_ast.specs.declared.select.Select.{Select}
+use Rattle.rs_ast.specs.declared.select.TableRef.{TableRef}
 use Rattle.rs_ast.specs.declared.stmt.Dml.{Dml}
 use Rattle.rs_ast.specs.declared.stmt.Dml.TheVariants as dmls
 use Rattle.rs_ast.specs.declared.stmt.Stmt.{Stmt}
 use Rattle.rs_ast.specs.declared.stmt.Stmt.TheVariants as stmts
-use Rattle.rs_parse.specs.declared.token.Mark.TheVariants as marks
-use Rattle.rs_parse.specs.declared.token.Token.{Token}
-use Rattle.rs_parse.specs.declared.token.Token.TheVariants as tokens
-use Rattle.rs_parse.specs.Reserved.{is_reserved}
+use Rattle.rs_ast.specs.declared.token.Mark.{Mark}
+use Rattle.rs_ast.specs.declared.token.Mark.TheVariants as marks
+use Rattle.rs_ast.specs.declared.token.Token.{Token}
+use Rattle.rs_ast.specs.declared.token.Token.TheVariants as tokens
+use Rattle.rs_ast.specs.Reserved.{is_reserved}
+use Rattle.rs_parse.specs.Phrases.{Phrase, Is, Spell, Optional, IsSeries, IsList, AtMost}
 
--- ---- lists of things
+-- ---- words, marks and numbers
 
--- one or more, with a comma between each two
-abbrev pub IsParted : {A : Type 0} → (A → List Token → Type 0) → List A → List Token → Type 0
-IsParted IsOne [] ts = ⊥
-IsParted IsOne (x ∷ []) ts = IsOne x ts
-IsParted IsOne (x ∷ y ∷ xs) ts = (first : List Token) × (others : List Token) × IsOne x first × IsParted IsOne (y ∷ xs) others × (ts ≡ first ++ tokens.Mark marks.Comma ∷ others)
+abbrev pub Keyword : List ℕ → List Token → Type 0
+Keyword word = Is (tokens.Word word)
 
--- one to sixteen, with a comma between each two, between brackets
-abbrev pub IsBracketed : {A : Type 0} → (A → List Token → Type 0) → List A → List Token → Type 0
-IsBracketed IsOne xs ts = (inner : List Token) × (length xs ≤ 16) × IsParted IsOne xs inner × (ts ≡ tokens.Mark marks.Open ∷ inner ++ tokens.Mark marks.Close ∷ [])
+abbrev pub Marked : Mark → List Token → Type 0
+Marked mark = Is (tokens.Mark mark)
 
--- ---- words and values
+-- an id: a word that isn't reserved
+abbrev pub IsIdent : Phrase (List ℕ)
+IsIdent name ts = (is_reserved name ≡ false) × Is (tokens.Word name) ts
 
-abbrev pub IsKindWord : Kind → List ℕ → Type 0
-IsKindWord kinds.Int word = (word ≡ codes "int") ⊎ (word ≡ codes "integer")
-IsKindWord kinds.Text word = word ≡ codes "text"
+abbrev pub IsSite : Phrase ℕ
+IsSite site ts = (1 ≤ site) × (site ≤ 16) × Is (tokens.Number site) ts
 
--- an identifier and the word of a kind
-abbrev pub IsColumn : ColDef → List Token → Type 0
-IsColumn column ts = (word : List ℕ) × IsKindWord column.kind word × (is_reserved column.name ≡ false) × (ts ≡ tokens.Word column.name ∷ tokens.Word word ∷ [])
+-- items with commas between them
+abbrev pub IsListed : {A : Type 0} → Phrase A → Phrase (List A)
+IsListed P = IsList (tokens.Mark marks.Comma) P
 
--- a number, a number behind `-`, or a text
-abbrev pub IsLiteral : Value → List Token → Type 0
+-- the same, or none
+abbrev pub IsListedOrNone : {A : Type 0} → Phrase A → Phrase (List A)
+IsListedOrNone P [] ts = ts ≡ []
+IsListedOrNone P (x ∷ xs) ts = IsListed P (x ∷ xs) ts
+
+-- ---- names and columns
+
+abbrev pub IsAtSite : Phrase ℕ
+IsAtSite site = Spell (Marked marks.At ∷ IsSite site ∷ [])
+
+-- Without a dot the id is the object and the site its birth site; with one the first id and site are the creator.
+abbrev pub IsNameOf : Option (List ℕ) → NameText → List Token → Type 0
+IsNameOf None name ts = (name.creator_site ≡ None) × Spell (IsIdent name.object ∷ Optional IsAtSite name.birth ∷ []) ts
+IsNameOf (Some creator) name ts =
+    Spell (IsIdent creator ∷ Optional IsAtSite name.creator_site ∷ Marked marks.Dot ∷ IsIdent name.object ∷ Optional IsAtSite name.birth ∷ []) ts
+
+abbrev pub IsName : Phrase NameText
+IsName name = IsNameOf name.creator name
+
+abbrev pub IsColRefOf : Option (List ℕ) → List ℕ → List Token → Type 0
+IsColRefOf None column = IsIdent column
+IsColRefOf (Some table) column = Spell (IsIdent table ∷ Marked marks.Dot ∷ IsIdent column ∷ [])
+
+abbrev pub IsColRef : Phrase ColRef
+IsColRef c = IsColRefOf c.table c.column
+
+abbrev pub IsKind : Phrase Kind
+IsKind kinds.Int ts = Keyword (codes "int") ts ⊎ Keyword (codes "integer") ts
+IsKind kinds.Text ts = Keyword (codes "text") ts
+
+abbrev pub IsColumn : Phrase ColDef
+IsColumn column = Spell (IsIdent column.name ∷ IsKind column.kind ∷ [])
+
+-- ---- values and terms
+
+abbrev pub IsLiteral : Phrase Value
 IsLiteral (values.Int z) ts = (n : ℕ) × (n < 2 ^ 63)
-    × (((z ≡ pos n) × (ts ≡ tokens.Number n ∷ [])) ⊎ ((z ≡ neg_ℤ (pos n)) × (ts ≡ tokens.Mark marks.Minus ∷ tokens.Number n ∷ [])))
-IsLiteral (values.Text text) ts = ts ≡ tokens.Text text ∷ []
+    × (((z ≡ pos n) × Is (tokens.Number n) ts) ⊎ ((z ≡ neg_ℤ (pos n)) × Spell (Marked marks.Minus ∷ Is (tokens.Number n) ∷ []) ts))
+IsLiteral (values.Text text) ts = Is (tokens.Text text) ts
 
-abbrev pub IsTuple : List Value → List Token → Type 0
-IsTuple = IsBracketed IsLiteral
+abbrev pub IsParam : Phrase (List ℕ)
+IsParam param = Spell (Marked marks.Colon ∷ IsIdent param ∷ [])
+
+abbrev pub IsTerm : Phrase Term
+IsTerm (terms.Col column) = IsIdent column
+IsTerm (terms.Lit value) = IsLiteral value
+IsTerm (terms.Param param) = IsParam param
+
+-- what an INSERT puts into a column
+abbrev pub IsVal : Phrase Term
+IsVal (terms.Col column) ts = ⊥
+IsVal (terms.Lit value) ts = IsLiteral value ts
+IsVal (terms.Param param) ts = IsParam param ts
+
+abbrev pub IsTuple : Phrase (List Term)
+IsTuple row = Spell (Marked marks.Open ∷ AtMost 16 (IsListed IsVal) row ∷ Marked marks.Close ∷ [])
+
+abbrev pub IsArith : Phrase Arith
+IsArith ariths.Add = Marked marks.Plus
+IsArith ariths.Sub = Marked marks.Minus
+IsArith ariths.Mul = Marked marks.Star
+
+abbrev pub IsMoreTerm : Phrase (Arith × Term)
+IsMoreTerm more = Spell (IsArith more.0 ∷ IsTerm more.1 ∷ [])
+
+abbrev pub IsExpr : Phrase Expr
+IsExpr expr = Spell (IsTerm expr.first ∷ Optional IsMoreTerm expr.more ∷ [])
+
+abbrev pub IsSet : Phrase Set
+IsSet set = Spell (IsIdent set.column ∷ Marked marks.Equal ∷ IsExpr set.expr ∷ [])
+
+-- ---- WHERE
+
+abbrev pub IsOp : Phrase Op
+IsOp ops.Eq = Marked marks.Equal
+IsOp ops.Ne = Marked marks.NotEqual
+IsOp ops.Lt = Marked marks.Less
+IsOp ops.Le = Marked marks.LessOrEqual
+IsOp ops.Gt = Marked marks.Greater
+IsOp ops.Ge = Marked marks.GreaterOrEqual
+
+abbrev pub IsOperand : Phrase Operand
+IsOperand (operands.Col c) = IsColRef c
+IsOperand (operands.Lit value) = IsLiteral value
+IsOperand (operands.Param param) = IsParam param
+
+abbrev pub IsCmp : Phrase Cmp
+IsCmp cmp = Spell (IsColRef cmp.left ∷ IsOp cmp.op ∷ IsOperand cmp.right ∷ [])
+
+-- one comparison, or some in brackets of which one has to hold
+abbrev pub IsClause : Phrase Clause
+IsClause clause ts =
+    ((cmp : Cmp) × (clause.any ≡ cmp ∷ []) × IsCmp cmp ts)
+    ⊎ Spell (Marked marks.Open ∷ IsList (tokens.Word (codes "or")) IsCmp clause.any ∷ Marked marks.Close ∷ []) ts
+
+abbrev pub IsWhere : Phrase (List Clause)
+IsWhere [] ts = ts ≡ []
+IsWhere (clause ∷ clauses) ts = Spell (Keyword (codes "where") ∷ IsList (tokens.Word (codes "and")) IsClause (clause ∷ clauses) ∷ []) ts
+
+-- ---- queries
+
+abbrev pub IsOfColumn : List ℕ → ColRef → List Token → Type 0
+IsOfColumn word c = Spell (Keyword word ∷ Marked marks.Open ∷ IsColRef c ∷ Marked marks.Close ∷ [])
+
+abbrev pub IsItem : Phrase Item
+IsItem (items.Col c) = IsColRef c
+IsItem items.Count = Spell (Keyword (codes "count") ∷ Marked marks.Open ∷ Marked marks.Star ∷ Marked marks.Close ∷ [])
+IsItem (items.Sum c) = IsOfColumn (codes "sum") c
+IsItem (items.Min c) = IsOfColumn (codes "min") c
+IsItem (items.Max c) = IsOfColumn (codes "max") c
+
+abbrev pub IsItems : Phrase (Option (List Item))
+IsItems None = Marked marks.Star
+IsItems (Some items) = AtMost 16 (IsListed IsItem) items
+
+abbrev pub IsDistinct : Phrase Bool
+IsDistinct false ts = ts ≡ []
+IsDistinct true ts = Keyword (codes "distinct") ts
+
+abbrev pub IsTableRef : Phrase TableRef
+IsTableRef table = Spell (IsName table.name ∷ Optional IsIdent table.alias ∷ [])
+
+abbrev pub IsGroup : Phrase (List ColRef)
+IsGroup [] ts = ts ≡ []
+IsGroup (c ∷ cs) ts = Spell (Keyword (codes "group") ∷ Keyword (codes "by") ∷ AtMost 16 (IsListed IsColRef) (c ∷ cs) ∷ []) ts
+
+abbrev pub IsKeyBy : Phrase KeyBy
+IsKeyBy (keys.Col c) ts = IsColRef c ts
+IsKeyBy (keys.Place n) ts = (n < 2 ^ 32) × Is (tokens.Number n) ts
+
+abbrev pub IsDirection : Phrase Bool
+IsDirection false ts = (ts ≡ []) ⊎ Keyword (codes "asc") ts
+IsDirection true ts = Keyword (codes "desc") ts
+
+abbrev pub IsKey : Phrase Key
+IsKey key = Spell (IsKeyBy key.by ∷ IsDirection key.desc ∷ [])
+
+abbrev pub IsOrder : Phrase (List Key)
+IsOrder [] ts = ts ≡ []
+IsOrder (key ∷ keys) ts = Spell (Keyword (codes "order") ∷ Keyword (codes "by") ∷ AtMost 16 (IsListed IsKey) (key ∷ keys) ∷ []) ts
+
+abbrev pub IsSelect : Phrase Select
+IsSelect select = Spell (
+    Keyword (codes "select") ∷ IsDistinct select.distinct ∷ IsItems select.items
+    ∷ Keyword (codes "from") ∷ AtMost 6 (IsListed IsTableRef) select.from
+    ∷ IsWhere select.clauses ∷ IsGroup select.group ∷ IsOrder select.order ∷ [])
 
 -- ---- statements
 
--- the name of one identifier alone, which isn't reserved
-abbrev pub IsPlainName : NameText → Type 0
-IsPlainName name = (name ≡ plain name.object) × (is_reserved name.object ≡ false)
+abbrev pub IsDml : Phrase Dml
+IsDml (dmls.Select select) = IsSelect select
+IsDml (dmls.Insert name rows) = Spell (Keyword (codes "insert") ∷ Keyword (codes "into") ∷ IsName name ∷ Keyword (codes "values") ∷ IsListed IsTuple rows ∷ [])
+IsDml (dmls.Update name sets clauses) = Spell (Keyword (codes "update") ∷ IsName name ∷ Keyword (codes "set") ∷ AtMost 16 (IsListed IsSet) sets ∷ IsWhere clauses ∷ [])
+IsDml (dmls.Delete name clauses) = Spell (Keyword (codes "delete") ∷ Keyword (codes "from") ∷ IsName name ∷ IsWhere clauses ∷ [])
 
-abbrev pub IsDml : Dml → List Token → Type 0
-IsDml (dmls.Insert name rows) ts = (tuples : List Token) × IsPlainName name × IsParted IsTuple rows tuples
-    × (ts ≡ tokens.Word (codes "insert") ∷ tokens.Word (codes "into") ∷ tokens.Word name.object ∷ tokens.Word (codes "values") ∷ tuples)
-IsDml (dmls.Select select) ts = IsPlainName select.from
-    × (ts ≡ tokens.Word (codes "select") ∷ tokens.Mark marks.Star ∷ tokens.Word (codes "from") ∷ tokens.Word select.from.object ∷ [])
+-- a statement of a program, and its semicolon
+abbrev pub IsDmlEnded : Phrase Dml
+IsDmlEnded dml = Spell (IsDml dml ∷ Marked marks.Semicolon ∷ [])
 
-abbrev pub IsStatement : Stmt → List Token → Type 0
-IsStatement (stmts.CreateTable name columns) ts = (bracketed : List Token) × IsPlainName name × IsBracketed IsColumn columns bracketed
-    × (ts ≡ tokens.Word (codes "create") ∷ tokens.Word (codes "table") ∷ tokens.Word name.object ∷ bracketed)
-IsStatement (stmts.Dml dml) ts = IsDml dml ts
+-- one to eight of these
+abbrev pub IsBody : Phrase (List Dml)
+IsBody [] ts = ⊥
+IsBody (dml ∷ dmls) ts = AtMost 8 (IsSeries IsDmlEnded) (dml ∷ dmls) ts
 
--- a statement, and a semicolon or none behind it
-abbrev pub IsRequest : Stmt → List Token → Type 0
-IsRequest stmt ts = IsStatement stmt ts ⊎ ((front : List Token) × IsStatement stmt front × (ts ≡ front ++ tokens.Mark marks.Semicolon ∷ []))
+abbrev pub IsStmt : Phrase Stmt
+IsStmt (stmts.CreateTable name columns) =
+    Spell (Keyword (codes "create") ∷ Keyword (codes "table") ∷ IsName name ∷ Marked marks.Open ∷ AtMost 16 (IsListed IsColumn) columns ∷ Marked marks.Close ∷ [])
+IsStmt (stmts.DropTable name) = Spell (Keyword (codes "drop") ∷ Keyword (codes "table") ∷ IsName name ∷ [])
+IsStmt (stmts.CreateIndex index name column) =
+    Spell (Keyword (codes "create") ∷ Keyword (codes "index") ∷ IsIdent index ∷ Keyword (codes "on") ∷ IsName name ∷ Marked marks.Open ∷ IsIdent column ∷ Marked marks.Close ∷ [])
+IsStmt (stmts.DropIndex index name) = Spell (Keyword (codes "drop") ∷ Keyword (codes "index") ∷ IsIdent index ∷ Keyword (codes "on") ∷ IsName name ∷ [])
+IsStmt (stmts.CreateSynonym synonym name) =
+    Spell (Keyword (codes "create") ∷ Keyword (codes "synonym") ∷ IsIdent synonym ∷ Keyword (codes "for") ∷ IsName name ∷ [])
+IsStmt (stmts.DropSynonym synonym) = Spell (Keyword (codes "drop") ∷ Keyword (codes "synonym") ∷ IsIdent synonym ∷ [])
+IsStmt (stmts.Migrate name to) = Spell (Keyword (codes "migrate") ∷ Keyword (codes "table") ∷ IsName name ∷ Keyword (codes "to") ∷ IsSite to ∷ [])
+IsStmt (stmts.Compile program params body) = Spell (
+    Keyword (codes "compile") ∷ IsIdent program ∷ Marked marks.Open ∷ AtMost 16 (IsListedOrNone IsIdent) params ∷ Marked marks.Close
+    ∷ Keyword (codes "as") ∷ IsBody body ∷ Keyword (codes "end") ∷ [])
+IsStmt (stmts.DropProgram program) = Spell (Keyword (codes "drop") ∷ Keyword (codes "program") ∷ IsIdent program ∷ [])
+IsStmt (stmts.Execute program given) =
+    Spell (Keyword (codes "execute") ∷ IsIdent program ∷ Marked marks.Open ∷ AtMost 16 (IsListedOrNone IsLiteral) given ∷ Marked marks.Close ∷ [])
+IsStmt (stmts.Explain select) = Spell (Keyword (codes "explain") ∷ IsSelect select ∷ [])
+IsStmt stmts.ShowSections = Spell (Keyword (codes "show") ∷ Keyword (codes "sections") ∷ [])
+IsStmt stmts.ShowCache = Spell (Keyword (codes "show") ∷ Keyword (codes "cache") ∷ [])
+IsStmt (stmts.Dml dml) = IsDml dml
+
+-- a semicolon or none
+abbrev pub IsEnd : List Token → Type 0
+IsEnd ts = (ts ≡ []) ⊎ Marked marks.Semicolon ts
+
+abbrev pub IsRequest : Phrase Stmt
+IsRequest stmt = Spell (IsStmt stmt ∷ IsEnd ∷ [])

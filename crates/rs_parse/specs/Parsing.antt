@@ -1,24 +1,72 @@
--- What a text means: the statement that its tokens spell.
-use Rattle.std.specs.Prelude.{◌≡◌, ℕ, List, Option, Some, None, Result, Ok, Err}
-use Rattle.rs_base.specs.Reading.{◌>>=◌}
+-- What a text is: the text of a statement, or one that has a fault at a place.
+use Rattle.std.specs.Prelude.{◌≡◌, ℕ, ◌-◌, true, false, List, [], ◌∷◌, ◌++◌, length, Option, Some, None, unwrap_or, Result, Ok, Err, if◌then◌else◌}
+use Rattle.std.specs.List.{slice_get}
 use Rattle.rs_ast.specs.declared.stmt.Stmt.{Stmt}
+use Rattle.rs_ast.specs.declared.token.Token.{Token}
 use Rattle.rs_parse.specs.declared.parser.ParseFault.{ParseFault}
 use Rattle.rs_parse.specs.declared.parser.ParseFault.TheVariants as faults
-use Rattle.rs_parse.specs.declared.token.Token.{Token}
-use Rattle.rs_parse.specs.Tokens.{tokens_of}
+use Rattle.rs_parse.specs.declared.token_split.Split.{Split}
+use Rattle.rs_parse.specs.Tokens.{split_of}
 use Rattle.rs_parse.specs.Grammar.{IsRequest}
+use Rattle.rs_parse.specs.Read.{Read, Got, Fault}
 use Rattle.rs_parse.specs.Reader.{request_of}
 
--- the text spells this statement
+-- the text spells this statement: it is split to its end, and its tokens spell a request
 abbrev pub Spells : List ℕ → Stmt → Type 0
-Spells text stmt = (ts : List Token) × (tokens_of text ≡ Some ts) × IsRequest stmt ts
+Spells text stmt = ((split_of text).whole ≡ true) × IsRequest stmt (split_of text).tokens
 
--- the statement that a text spells, found by reading it
-unfoldable pub statement_of : List ℕ → Option Stmt
-statement_of text = tokens_of text >>= request_of
+-- ---- where a text has its fault
 
--- a call gave what reading gives, unless memory was wanting
-abbrev pub ParseGives : Result Stmt ParseFault → Option Stmt → Type 0
-ParseGives (Ok stmt) read = read ≡ Some stmt
-ParseGives (Err (faults.Syntax place)) read = (place ≡ 0) × (read ≡ None)
-ParseGives (Err faults.NoMemory) read = Unit {0}
+-- some request begins with these tokens
+abbrev pub SomeBegins : List Token → Type 0
+SomeBegins ts = (stmt : Stmt) × (behind : List Token) × IsRequest stmt (ts ++ behind)
+
+-- the token of this number is the first by which the tokens are no longer those of a request
+pub record IsOffending (ts : List Token) (number : ℕ) : Type 0 where
+  pub before : List Token
+  pub token : Token
+  pub behind : List Token
+  pub parted : ts ≡ before ++ token ∷ behind
+  pub counted : length before ≡ number
+  pub begun : SomeBegins before
+  pub barred : SomeBegins (before ++ token ∷ []) → ⊥
+
+-- The fault of a text stands at this place.
+pub data IsFault (text : List ℕ) (place : ℕ) : Type 0 where
+  -- a token begins there: some request begins with the tokens before it, and none with those up to it
+  AtToken : (number : ℕ) → IsOffending (split_of text).tokens number → slice_get (split_of text).starts number ≡ Some place → IsFault text place
+  -- no token begins there, and some request begins with all tokens before it
+  NoToken : (split_of text).whole ≡ false → SomeBegins (split_of text).tokens → place ≡ (split_of text).end → IsFault text place
+  -- the text is over: some request begins with all of its tokens, and they are none
+  AtEnd : (split_of text).whole ≡ true → SomeBegins (split_of text).tokens → ((stmt : Stmt) → IsRequest stmt (split_of text).tokens → ⊥) → place ≡ length text → IsFault text place
+
+-- ---- the parse of a text, found by reading its tokens
+
+pub data Parsed : Type 0 where
+  Statement : (stmt : Stmt) → Parsed
+  FaultAt : (place : ℕ) → Parsed
+
+-- where the first of the tokens begins that are left, or where the split ends
+abbrev pub place_of : Split → ℕ → ℕ
+place_of split left = unwrap_or (slice_get split.starts (length split.tokens - left)) split.end
+
+abbrev pub judged : Split → Read Stmt → Parsed
+judged split (Got stmt rest) = if split.whole then Statement stmt else FaultAt split.end
+judged split (Fault rest) = FaultAt (place_of split (length rest))
+
+unfoldable pub parsed_of : List ℕ → Parsed
+parsed_of text = judged (split_of text) (request_of (split_of text).tokens)
+
+abbrev pub statement_in : Parsed → Option Stmt
+statement_in (Statement stmt) = Some stmt
+statement_in (FaultAt place) = None
+
+-- the statement that a text spells, if it spells one
+abbrev pub statement_of : List ℕ → Option Stmt
+statement_of text = statement_in (parsed_of text)
+
+-- a call gave what parsing gives, unless memory was wanting
+abbrev pub ParseGives : Result Stmt ParseFault → Parsed → Type 0
+ParseGives (Ok stmt) parsed = parsed ≡ Statement stmt
+ParseGives (Err (faults.Syntax place)) parsed = parsed ≡ FaultAt place
+ParseGives (Err faults.NoMemory) parsed = Unit {0}

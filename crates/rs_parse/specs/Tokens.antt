@@ -1,14 +1,16 @@
--- How a text is split into tokens: from the left, the longest token first, and blanks part them.
+-- How a text is split into tokens: from the left, the longest token first, and blanks part them. A place is a number of
+-- bytes before it.
 use Rattle.std.specs.Prelude.{ℕ, zero, suc, ◌+◌, ◌-◌, ◌*◌, Bool, ◌&&◌, ◌||◌, ◌==◌, nat_le, List, [], ◌∷◌, map, fold, length, take, drop, Option, Some, None, if◌then◌else◌}
 use Rattle.std.specs.List.{prefix_len}
 use Rattle.std.specs.Char.{to_ascii_lowercase}
 use Rattle.rs_base.specs.Ident.{is_ident}
 use Rattle.rs_base.specs.Txt.{is_txt}
 use Rattle.rs_base.specs.Reading.{◌>>=◌, push_first}
-use Rattle.rs_parse.specs.declared.token.Mark.{Mark}
-use Rattle.rs_parse.specs.declared.token.Mark.TheVariants as marks
-use Rattle.rs_parse.specs.declared.token.Token.{Token}
-use Rattle.rs_parse.specs.declared.token.Token.TheVariants as tokens
+use Rattle.rs_parse.specs.declared.token_split.Split.{Split}
+use Rattle.rs_ast.specs.declared.token.Mark.{Mark}
+use Rattle.rs_ast.specs.declared.token.Mark.TheVariants as marks
+use Rattle.rs_ast.specs.declared.token.Token.{Token}
+use Rattle.rs_ast.specs.declared.token.Token.TheVariants as tokens
 
 -- space, tab, line feed and carriage return
 abbrev pub is_blank : ℕ → Bool
@@ -83,14 +85,28 @@ token_at b bytes =
     else if b == 39 then text_at bytes
     else mark_at b bytes >>= λ mark. Some (tokens.Mark mark.0, mark.1)
 
--- the tokens of bytes of which the first `inside` belong to a token that was taken before
-abbrev pub tokens_behind : ℕ → List ℕ → Option (List Token)
-tokens_behind inside [] = Some []
-tokens_behind (suc inside) (b ∷ bytes) = tokens_behind inside bytes
-tokens_behind zero (b ∷ bytes) =
-    if is_blank b then tokens_behind zero bytes
-    else token_at b bytes >>= λ token. tokens_behind (length bytes - length token.1) bytes >>= λ others. Some (token.0 ∷ others)
+-- no tokens: the text is over at this place, or no token begins there
+abbrev pub ends_at : ℕ → Bool → Split
+ends_at place whole = record { tokens = []; starts = []; end = place; whole = whole }
 
--- The tokens of a text. There are none where no token begins at some byte that is reached.
-abbrev pub tokens_of : List ℕ → Option (List Token)
-tokens_of text = tokens_behind 0 text
+-- one more token in front
+abbrev pub put_first : ℕ → Token → Split → Split
+put_first start token split = record { tokens = token ∷ split.tokens; starts = start ∷ split.starts; end = split.end; whole = split.whole }
+
+-- what was read at this place, and how the bytes behind it are split
+abbrev pub taken_at : ℕ → Option (Token × List ℕ) → (Token × List ℕ → Split) → Split
+taken_at at None others = ends_at at Bool.false
+taken_at at (Some token) others = put_first at token.0 (others token)
+
+-- How bytes are split that begin at this place of the text, and of which the first `inside` belong to a token that was
+-- taken before.
+abbrev pub split_behind : ℕ → ℕ → List ℕ → Split
+split_behind at inside [] = ends_at at Bool.true
+split_behind at (suc inside) (b ∷ bytes) = split_behind (at + 1) inside bytes
+split_behind at zero (b ∷ bytes) =
+    if is_blank b then split_behind (at + 1) zero bytes
+    else taken_at at (token_at b bytes) (λ token. split_behind (at + 1) (length bytes - length token.1) bytes)
+
+-- How a text is split: its tokens with their places, up to the text's end or the first byte reached at which no token begins.
+abbrev pub split_of : List ℕ → Split
+split_of text = split_behind 0 0 text

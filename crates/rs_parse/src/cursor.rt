@@ -1,13 +1,16 @@
-//! A place in a list of tokens.
+//! A place in a list of tokens, and the readers of one token. A reader that gives `Malformed` stays at the token that it refuses.
 
-ghost use Rattle.std.specs.Prelude.{◌≡◌, drop, length, if◌then◌else◌};
-ghost use Rattle.rs_base.specs.Reading.{Reads, Passes};
-ghost use Rattle.rs_parse.specs.Marks as marks;
+ghost use Rattle.std.specs.Prelude.{◌≡◌, length};
+ghost use Rattle.rs_parse.specs.Read.{Reads, begins};
+ghost use Rattle.rs_ast.specs.Token as tokens;
 ghost use Rattle.rs_parse.specs.Reader as spec;
 
-use crate::reserved::is_reserved;
-use crate::token::{Mark, Token};
-use rs_base::{Ident, Kind, ReadFault, Value};
+use crate::token::{
+    arith_of, ident_of, is_dml, is_unsigned, kind_of, negated_of, op_of, place_of, site_of,
+    unsigned_of,
+};
+use rs_ast::{Arith, Mark, Op, Stmt, Token};
+use rs_base::{Ident, Kind, ReadFault, SiteNo, Value};
 use std::alloc::Global;
 use std::marker::Model;
 
@@ -19,52 +22,11 @@ pub struct Cursor<'a> {
 
 impl<'a> Model for Cursor<'a> {
     ghost use Rattle.std.specs.Prelude.{List};
-    ghost use Rattle.rs_parse.specs.declared.token.Token.{Token};
+    ghost use Rattle.rs_ast.specs.declared.token.Token.{Token};
 
     ghost Value = { List Token };
 
     ghost view = { λ cursor. cursor.left.now };
-}
-
-#[tactic(auto, unfolding(crate::specs::Marks::same_mark))]
-fn same_mark(mark: Mark, other: Mark) -> bool
-    ensures { result ≡ marks.same_mark mark other }
-{
-    mark == other
-}
-
-fn is_mark(mark: Mark, token: &Token) -> bool
-    ensures { result ≡ spec.is_mark mark token.now }
-{
-    match token {
-        Token::Word(_) => false,
-        Token::Number(_) => false,
-        Token::Text(_) => false,
-        Token::Mark(other) => same_mark(*other, mark),
-    }
-}
-
-fn is_word(word: &[u8], token: &Token) -> bool
-    ensures { result ≡ spec.is_word word.now token.now }
-{
-    match token {
-        Token::Word(other) => other.as_bytes() == word,
-        Token::Number(_) => false,
-        Token::Text(_) => false,
-        Token::Mark(_) => false,
-    }
-}
-
-fn kind_of_word(word: &[u8]) -> Option<Kind>
-    ensures { result ≡ spec.kind_of_word word.now }
-{
-    if word == b"int".as_slice() || word == b"integer".as_slice() {
-        Some(Kind::Int)
-    } else if word == b"text".as_slice() {
-        Some(Kind::Text)
-    } else {
-        None
-    }
 }
 
 impl<'a> Cursor<'a> {
@@ -81,46 +43,76 @@ impl<'a> Cursor<'a> {
     }
 
     pub fn begins_with_word(&self, word: &[u8]) -> bool
-        ensures { result ≡ spec.begins_with_word word.now self.now }
+        ensures { result ≡ begins (tokens.is_word word.now) self.now }
     {
         match self.left {
             [] => false,
-            [first, ..] => is_word(word, first),
+            [first, ..] => first.is_word(word),
         }
     }
 
-    /// Whether nothing more stands there than a semicolon.
-    pub fn is_end(&self) -> bool
-        ensures { result ≡ spec.is_end self.now }
+    pub fn begins_with_mark(&self, mark: Mark) -> bool
+        ensures { result ≡ begins (tokens.is_mark mark) self.now }
     {
         match self.left {
-            [] => true,
-            [only] => is_mark(Mark::Semicolon, only),
-            [_, _, ..] => false,
+            [] => false,
+            [first, ..] => first.is_mark(mark),
         }
     }
 
-    /// Goes behind this mark, where it stands there.
-    pub fn eat(&mut self, mark: Mark) -> bool
-        ensures eaten { result ≡ spec.begins_with_mark mark self.old }
-        ensures left { self.new ≡ (if result then drop 1 self.old else self.old) }
+    pub fn begins_with_ident(&self) -> bool
+        ensures { result ≡ begins spec.is_ident_token self.now }
     {
-        if let [first, rest @ ..] = self.left {
-            if is_mark(mark, first) {
-                self.left = rest;
-                return true;
-            }
+        match self.left {
+            [] => false,
+            [first, ..] => ident_of(first).is_some(),
         }
-        false
+    }
+
+    pub fn begins_with_arith(&self) -> bool
+        ensures { result ≡ begins spec.is_arith_token self.now }
+    {
+        match self.left {
+            [] => false,
+            [first, ..] => arith_of(first).is_some(),
+        }
+    }
+
+    pub fn begins_with_literal(&self) -> bool
+        ensures { result ≡ begins spec.begins_literal self.now }
+    {
+        match self.left {
+            [] => false,
+            [first, ..] => first.is_mark(Mark::Minus) || is_unsigned(first),
+        }
+    }
+
+    pub fn begins_with_dml(&self) -> bool
+        ensures { result ≡ begins spec.begins_dml self.now }
+    {
+        match self.left {
+            [] => false,
+            [first, ..] => is_dml(first),
+        }
+    }
+
+    /// Gives the statement, where nothing stands behind it.
+    pub fn alone(&self, stmt: Stmt) -> Result<Stmt, ReadFault>
+        ensures { Reads (spec.alone_at stmt self.now) result self.now }
+    {
+        match self.left {
+            [] => Ok(stmt),
+            [_, ..] => Err(ReadFault::Malformed),
+        }
     }
 
     pub fn mark(&mut self, mark: Mark) -> Result<(), ReadFault>
-        ensures { Passes (spec.mark_at mark self.old) result self.new }
+        ensures { Reads (spec.mark_at mark self.old) result self.new }
     {
         let [first, rest @ ..] = self.left else {
             return Err(ReadFault::Malformed);
         };
-        if !is_mark(mark, first) {
+        if !first.is_mark(mark) {
             return Err(ReadFault::Malformed);
         }
         self.left = rest;
@@ -128,12 +120,12 @@ impl<'a> Cursor<'a> {
     }
 
     pub fn word(&mut self, word: &[u8]) -> Result<(), ReadFault>
-        ensures { Passes (spec.word_at word.now self.old) result self.new }
+        ensures { Reads (spec.word_at word.now self.old) result self.new }
     {
         let [first, rest @ ..] = self.left else {
             return Err(ReadFault::Malformed);
         };
-        if !is_word(word, first) {
+        if !first.is_word(word) {
             return Err(ReadFault::Malformed);
         }
         self.left = rest;
@@ -141,75 +133,118 @@ impl<'a> Cursor<'a> {
     }
 
     /// A word that isn't reserved.
+    #[tactic(auto, unfolding(crate::specs::Reader::ident_at))]
     pub fn ident(&mut self) -> Result<Ident, ReadFault>
         ensures { Reads (spec.ident_at self.old) result self.new }
     {
-        let [Token::Word(word), rest @ ..] = self.left else {
+        let [first, rest @ ..] = self.left else {
             return Err(ReadFault::Malformed);
         };
-        if is_reserved(word.as_bytes()) {
+        let Some(ident) = ident_of(first) else {
             return Err(ReadFault::Malformed);
-        }
+        };
         self.left = rest;
-        Ok(*word)
+        Ok(ident)
     }
 
+    #[tactic(auto, unfolding(crate::specs::Reader::site_at))]
+    pub fn site(&mut self) -> Result<SiteNo, ReadFault>
+        ensures { Reads (spec.site_at self.old) result self.new }
+    {
+        let [first, rest @ ..] = self.left else {
+            return Err(ReadFault::Malformed);
+        };
+        let Some(site) = site_of(first) else {
+            return Err(ReadFault::Malformed);
+        };
+        self.left = rest;
+        Ok(site)
+    }
+
+    #[tactic(auto, unfolding(crate::specs::Reader::kind_at))]
     pub fn kind(&mut self) -> Result<Kind, ReadFault>
         ensures { Reads (spec.kind_at self.old) result self.new }
     {
-        let [Token::Word(word), rest @ ..] = self.left else {
+        let [first, rest @ ..] = self.left else {
             return Err(ReadFault::Malformed);
         };
-        let Some(kind) = kind_of_word(word.as_bytes()) else {
+        let Some(kind) = kind_of(first) else {
             return Err(ReadFault::Malformed);
         };
         self.left = rest;
         Ok(kind)
     }
 
-    /// A number behind `-`.
-    fn negative(&mut self) -> Result<Value, ReadFault>
-        ensures { Reads (spec.negative_at self.old) result self.new }
-    {
-        let [Token::Number(n), rest @ ..] = self.left else {
-            return Err(ReadFault::Malformed);
-        };
-        if 1 << 63 <= *n {
-            return Err(ReadFault::Malformed);
-        }
-        self.left = rest;
-        Ok(Value::Int(-(*n as i64)))
-    }
-
-    /// A number, a number behind `-`, or a text.
-    #[tactic(auto, unfolding(crate::specs::Reader::literal_at))]
-    pub fn literal(&mut self, alloc: Global) -> Result<Value, ReadFault>
-        ensures { Reads (spec.literal_at self.old) result self.new }
+    #[tactic(auto, unfolding(crate::specs::Reader::op_at))]
+    pub fn op(&mut self) -> Result<Op, ReadFault>
+        ensures { Reads (spec.op_at self.old) result self.new }
     {
         let [first, rest @ ..] = self.left else {
             return Err(ReadFault::Malformed);
         };
-        match first {
-            Token::Word(_) => Err(ReadFault::Malformed),
-            Token::Number(n) => {
-                if 1 << 63 <= *n {
-                    return Err(ReadFault::Malformed);
-                }
-                self.left = rest;
-                Ok(Value::Int(*n as i64))
-            }
-            Token::Text(text) => {
-                let text = text.copy(alloc)?;
-                self.left = rest;
-                Ok(Value::Text(text))
-            }
-            Token::Mark(mark) => {
-                if !same_mark(*mark, Mark::Minus) {
-                    return Err(ReadFault::Malformed);
-                }
-                self.left = rest;
-                self.negative()
-            }
-        }
+        let Some(op) = op_of(first) else {
+            return Err(ReadFault::Malformed);
+        };
+        self.left = rest;
+        Ok(op)
+    }
+
+    #[tactic(auto, unfolding(crate::specs::Reader::arith_at))]
+    pub fn arith(&mut self) -> Result<Arith, ReadFault>
+        ensures { Reads (spec.arith_at self.old) result self.new }
+    {
+        let [first, rest @ ..] = self.left else {
+            return Err(ReadFault::Malformed);
+        };
+        let Some(arith) = arith_of(first) else {
+            return Err(ReadFault::Malformed);
+        };
+        self.left = rest;
+        Ok(arith)
+    }
+
+    /// A key's place.
+    #[tactic(auto, unfolding(crate::specs::Reader::place_at))]
+    pub fn place(&mut self) -> Result<u32, ReadFault>
+        ensures { Reads (spec.place_at self.old) result self.new }
+    {
+        let [first, rest @ ..] = self.left else {
+            return Err(ReadFault::Malformed);
+        };
+        let Some(place) = place_of(first) else {
+            return Err(ReadFault::Malformed);
+        };
+        self.left = rest;
+        Ok(place)
+    }
+
+    /// A number behind `-`.
+    #[tactic(auto, unfolding(crate::specs::Reader::negated_at))]
+    pub fn negated(&mut self) -> Result<Value, ReadFault>
+        ensures { Reads (spec.negated_at self.old) result self.new }
+    {
+        let [first, rest @ ..] = self.left else {
+            return Err(ReadFault::Malformed);
+        };
+        let Some(negated) = negated_of(first) else {
+            return Err(ReadFault::Malformed);
+        };
+        self.left = rest;
+        Ok(negated)
+    }
+
+    /// A number without a sign, or a text.
+    #[tactic(auto, unfolding(crate::specs::Reader::unsigned_at))]
+    pub fn unsigned(&mut self, alloc: Global) -> Result<Value, ReadFault>
+        ensures { Reads (spec.unsigned_at self.old) result self.new }
+    {
+        let [first, rest @ ..] = self.left else {
+            return Err(ReadFault::Malformed);
+        };
+        let Some(value) = unsigned_of(alloc, first)? else {
+            return Err(ReadFault::Malformed);
+        };
+        self.left = rest;
+        Ok(value)
     }
 }

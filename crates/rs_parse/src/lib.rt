@@ -1,19 +1,24 @@
 //! From a text to a statement.
 #![tactic(auto)]
 
-mod columns;
+mod changes;
+mod clauses;
 mod cursor;
+mod list;
+mod names;
 mod parser;
-mod reserved;
+mod programs;
+mod queries;
 mod scanner;
+mod schema;
 mod span;
 mod statement;
+mod terms;
 mod token;
+mod token_split;
 mod tokenizer;
-mod tuples;
 
 pub use parser::{ParseFault, parse};
-pub use token::{Mark, Token};
 
 #[cfg(test)]
 mod tests;

@@ -1,61 +1,87 @@
 //! Parsing a text.
 
-ghost use Rattle.std.specs.Prelude.{Some, IfOk};
+ghost use Rattle.std.specs.Prelude.{◌≡◌, ℕ, Err, IfOk};
 ghost use Rattle.rs_ast.specs.declared.stmt.Stmt.{Stmt};
-ghost use Rattle.rs_parse.specs.Parsing.{Spells, ParseGives, statement_of};
+ghost use Rattle.rs_parse.specs.Parsing.{Spells, IsFault, Statement, ParseGives, place_of, parsed_of};
+ghost use Rattle.rs_parse.specs.declared.parser.ParseFault.TheVariants as faults;
 
 use crate::cursor::Cursor;
-use crate::statement;
-use crate::tokenizer::tokens;
+use crate::statement::request;
+use crate::token_split::Split;
+use crate::tokenizer::split;
 use rs_ast::Stmt;
-use rs_base::ReadFault;
+use rs_base::{NoMemory, ReadFault};
 use std::alloc::Global;
 use thiserror::Error;
 
 /// Why a text is no request.
 #[derive(Clone, Copy, Debug, PartialEq, Eq, Error)]
 pub enum ParseFault {
-    /// The text spells no request. The place is 0.
+    /// No request has this text. The place is the byte, counted from 0, from which on it can't be one.
     #[error("no request has this text")]
-    Syntax { place: u32 },
+    Syntax { place: usize },
     #[error("out of memory")]
     NoMemory,
 }
 
-impl From<ReadFault> for ParseFault {
+impl From<NoMemory> for ParseFault {
     ghost use Rattle.std.specs.Prelude.{◌≡◌};
-    ghost use Rattle.rs_parse.specs.Faults.{of_read};
+    ghost use Rattle.rs_parse.specs.declared.parser.ParseFault.TheVariants as faults;
 
-    ghost from_gives = { λ fault own. own ≡ of_read fault };
+    ghost from_gives = { λ _ own. own ≡ faults.NoMemory };
 
-    fn from(fault: ReadFault) -> ParseFault {
-        match fault {
-            ReadFault::Malformed => ParseFault::Syntax { place: 0 },
-            ReadFault::NoMemory => ParseFault::NoMemory,
-        }
+    fn from(_fault: NoMemory) -> ParseFault {
+        ParseFault::NoMemory
     }
 }
 
-#[tactic(auto, unfolding(crate::specs::Parsing::statement_of))]
-fn read(alloc: Global, text: &[u8]) -> Result<Stmt, ParseFault>
-    ensures exact { ParseGives result (statement_of text.now) }
+/// The byte at which the tokens begin that are left, or where the split ends.
+fn place(split: &Split, left: usize) -> usize
+    ensures { result ≡ place_of split.now left }
 {
-    let tokens = tokens(alloc, text)?;
-    Ok(statement::request(alloc, &mut Cursor::new(tokens.as_slice()))?)
+    let number = split.tokens.len().saturating_sub(left);
+    match split.starts.get(number) {
+        Some(start) => *start,
+        None => split.end,
+    }
 }
 
-/// The statement that a text spells: a CREATE TABLE of at most 16 columns, an INSERT of tuples of at most 16 values, or a
-/// SELECT of all of a table, and a semicolon or none behind it. Words are read in either case.
+#[tactic(auto, unfolding(crate::specs::Parsing::parsed_of))]
+fn read(alloc: Global, text: &[u8]) -> Result<Stmt, ParseFault>
+    ensures { ParseGives result (parsed_of text.now) }
+{
+    let split = split(alloc, text)?;
+    let mut tokens = Cursor::new(split.tokens.as_slice());
+    match request(alloc, &mut tokens) {
+        Ok(stmt) => {
+            if split.whole {
+                Ok(stmt)
+            } else {
+                Err(ParseFault::Syntax { place: split.end })
+            }
+        }
+        Err(ReadFault::Malformed) => Err(ParseFault::Syntax {
+            place: place(&split, tokens.len()),
+        }),
+        Err(ReadFault::NoMemory) => Err(ParseFault::NoMemory),
+    }
+}
+
+/// The statement that a text spells, with a semicolon or none behind it. Words are read in either case.
 ///
-/// `Syntax` says that no request has this text (its place is 0 for now), `NoMemory` nothing of the text. The time goes with
+/// `Syntax` says that no request has this text, and the first byte, counted from 0, of the first token such that no request
+/// begins with the tokens up to it; where no token begins at a byte that is reached before that, it is that byte; and where
+/// all tokens begin a request but are none, it is the text's length. `NoMemory` says nothing of the text. The time goes with
 /// the length of the text.
 pub fn parse(alloc: Global, text: &[u8]) -> Result<Stmt, ParseFault>
     // What is read is spelled so.
     ensures found { IfOk result (λ stmt. Spells text.now stmt) }
     // What is spelled so is read, unless memory is wanting.
-    ensures only { (stmt : Stmt) → Spells text.now stmt → ParseGives result (Some stmt) }
-    // Which fault it is.
-    ensures exact { ParseGives result (statement_of text.now) }
+    ensures only { (stmt : Stmt) → Spells text.now stmt → ParseGives result (Statement stmt) }
+    // The fault of the text stands there.
+    ensures fault { (place : ℕ) → result ≡ Err (faults.Syntax place) → IsFault text.now place }
+    // Which statement or place it is, as a function of the text.
+    ensures exact { ParseGives result (parsed_of text.now) }
 {
     read(alloc, text)
 }

@@ -1,16 +1,15 @@
 //! A place in a text.
 
-ghost use Rattle.std.specs.Prelude.{◌≡◌, ◌≤◌, IfOk, length, map, drop, if◌then◌else◌};
+ghost use Rattle.std.specs.Prelude.{◌≡◌, ◌≤◌, length, drop, if◌then◌else◌};
 ghost use Rattle.std.specs.List.{prefix_len};
-ghost use Rattle.std.specs.Char.{to_ascii_lowercase};
 ghost use Rattle.rs_base.specs.Reading.{Reads};
 ghost use Rattle.rs_parse.specs.Tokens as spec;
 ghost use Rattle.rs_parse.specs.Scanning.{token_here, Steps};
 
 use crate::span::{blanks, is_digit, is_letter, number_len, word_len};
-use crate::token::{Mark, Token};
-use rs_base::{Bytes, Ident, ReadFault, Txt, TxtFault};
-use std::alloc::{AllocError, Global};
+use rs_ast::{Mark, Token};
+use rs_base::{Bytes, Ident, NoMemory, ReadFault, Txt};
+use std::alloc::Global;
 use std::marker::Model;
 
 /// The bytes that are still to be read.
@@ -25,14 +24,6 @@ impl<'a> Model for Scanner<'a> {
     ghost Value = { List ℕ };
 
     ghost view = { λ scanner. scanner.left.now };
-}
-
-fn lowered(alloc: Global, word: &[u8]) -> Result<Vec<u8>, AllocError>
-    ensures { IfOk result (λ lower. lower.items ≡ map to_ascii_lowercase word.now) }
-{
-    word.iter()
-        .map(|byte| byte.to_ascii_lowercase())
-        .collect(alloc)
 }
 
 fn digits_value(digits: &[u8]) -> u128
@@ -53,7 +44,14 @@ impl<'a> Scanner<'a> {
         Scanner { left: text }
     }
 
-    fn skip_blanks(&mut self)
+    /// How many bytes are still to be read.
+    pub fn len(&self) -> usize
+        ensures { result ≡ length self.now }
+    {
+        self.left.len()
+    }
+
+    pub fn skip_blanks(&mut self)
         ensures { self.new ≡ drop (prefix_len spec.is_blank self.old) self.old }
     {
         let (_, rest) = self.left.split_at(blanks(self.left));
@@ -61,12 +59,11 @@ impl<'a> Scanner<'a> {
     }
 
     #[tactic(auto, unfolding(crate::specs::Tokens::word_at))]
-    fn word(&mut self, alloc: Global) -> Result<Token, ReadFault>
+    fn word(&mut self) -> Result<Token, ReadFault>
         ensures { Reads (spec.word_at self.old) result self.new }
     {
         let (word, rest) = self.left.split_at(word_len(self.left));
-        let word = lowered(alloc, word)?;
-        let Some(word) = Ident::new(word.as_slice()) else {
+        let Some(word) = Ident::lowered(word) else {
             return Err(ReadFault::Malformed);
         };
         self.left = rest;
@@ -120,11 +117,10 @@ impl<'a> Scanner<'a> {
         ensures { Reads (spec.text_at self.old) result self.new }
     {
         let quoted = self.quoted(alloc)?;
-        match Txt::new(alloc, quoted.as_slice()) {
-            Ok(text) => Ok(Token::Text(text)),
-            Err(TxtFault::Bad) => Err(ReadFault::Malformed),
-            Err(TxtFault::NoMemory) => Err(ReadFault::NoMemory),
-        }
+        let Some(text) = Txt::from_bytes(quoted) else {
+            return Err(ReadFault::Malformed);
+        };
+        Ok(Token::Text(text))
     }
 
     /// Goes behind this byte, where it stands there.
@@ -176,7 +172,7 @@ impl<'a> Scanner<'a> {
         };
         let first = *first;
         if is_letter(first) {
-            return self.word(alloc);
+            return self.word();
         }
         if is_digit(first) {
             return self.number();
@@ -188,14 +184,14 @@ impl<'a> Scanner<'a> {
         Ok(Token::Mark(self.mark(first)?))
     }
 
-    /// The next token, or `None` where only blanks are left.
-    pub fn next(&mut self, alloc: Global) -> Result<Option<Token>, ReadFault>
+    /// The token that stands here, or `None` where none does.
+    pub fn next(&mut self, alloc: Global) -> Result<Option<Token>, NoMemory>
         ensures { Steps result self.old self.new }
     {
-        self.skip_blanks();
-        if self.left.is_empty() {
-            return Ok(None);
+        match self.token(alloc) {
+            Ok(token) => Ok(Some(token)),
+            Err(ReadFault::Malformed) => Ok(None),
+            Err(ReadFault::NoMemory) => Err(NoMemory),
         }
-        Ok(Some(self.token(alloc)?))
     }
 }

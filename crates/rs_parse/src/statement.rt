@@ -1,79 +1,65 @@
-//! Reading a statement.
+//! A statement alone.
 
-ghost use Rattle.rs_base.specs.Reading.{Reads, Gives};
+ghost use Rattle.rs_parse.specs.Read.{Reads};
 ghost use Rattle.rs_parse.specs.Reader as spec;
 
-use crate::columns::columns;
+use crate::changes::dml;
 use crate::cursor::Cursor;
-use crate::token::Mark;
-use crate::tuples::tuples;
-use rs_ast::{Dml, Select, Stmt};
-use rs_base::{NameText, ReadFault};
+use crate::programs::{compile, execute, explain, show};
+use crate::schema::{create, drop_any, migrate};
+use rs_ast::{Mark, Stmt};
+use rs_base::ReadFault;
 use std::alloc::Global;
 
-#[tactic(auto, unfolding(crate::specs::Reader::create_at))]
-fn create(alloc: Global, tokens: &mut Cursor<'_>) -> Result<Stmt, ReadFault>
-    ensures { Reads (spec.create_at tokens.old) result tokens.new }
-{
-    tokens.word(b"create")?;
-    tokens.word(b"table")?;
-    let object = tokens.ident()?;
-    let columns = columns(alloc, tokens)?;
-    Ok(Stmt::CreateTable {
-        name: NameText::plain(object),
-        columns,
-    })
-}
-
-#[tactic(auto, unfolding(crate::specs::Reader::insert_at))]
-fn insert(alloc: Global, tokens: &mut Cursor<'_>) -> Result<Stmt, ReadFault>
-    ensures { Reads (spec.insert_at tokens.old) result tokens.new }
-{
-    tokens.word(b"insert")?;
-    tokens.word(b"into")?;
-    let object = tokens.ident()?;
-    tokens.word(b"values")?;
-    let rows = tuples(alloc, tokens)?;
-    Ok(Stmt::Dml(Dml::Insert {
-        name: NameText::plain(object),
-        rows,
-    }))
-}
-
-#[tactic(auto, unfolding(crate::specs::Reader::select_at))]
-fn select(tokens: &mut Cursor<'_>) -> Result<Stmt, ReadFault>
-    ensures { Reads (spec.select_at tokens.old) result tokens.new }
-{
-    tokens.word(b"select")?;
-    tokens.mark(Mark::Star)?;
-    tokens.word(b"from")?;
-    let object = tokens.ident()?;
-    Ok(Stmt::Dml(Dml::Select(Select {
-        from: NameText::plain(object),
-    })))
-}
-
-#[tactic(auto, unfolding(crate::specs::Reader::statement_at))]
-fn statement(alloc: Global, tokens: &mut Cursor<'_>) -> Result<Stmt, ReadFault>
-    ensures { Reads (spec.statement_at tokens.old) result tokens.new }
+#[tactic(auto, unfolding(crate::specs::Reader::stmt_at))]
+fn stmt(alloc: Global, tokens: &mut Cursor<'_>) -> Result<Stmt, ReadFault>
+    ensures { Reads (spec.stmt_at tokens.old) result tokens.new }
 {
     if tokens.begins_with_word(b"create") {
         create(alloc, tokens)
-    } else if tokens.begins_with_word(b"insert") {
-        insert(alloc, tokens)
+    } else if tokens.begins_with_word(b"drop") {
+        drop_any(tokens)
+    } else if tokens.begins_with_word(b"migrate") {
+        migrate(tokens)
+    } else if tokens.begins_with_word(b"compile") {
+        compile(alloc, tokens)
+    } else if tokens.begins_with_word(b"execute") {
+        execute(alloc, tokens)
+    } else if tokens.begins_with_word(b"explain") {
+        explain(alloc, tokens)
+    } else if tokens.begins_with_word(b"show") {
+        show(tokens)
     } else {
-        select(tokens)
+        Ok(Stmt::Dml(dml(alloc, tokens)?))
     }
+}
+
+/// A semicolon or none.
+#[tactic(auto, unfolding(crate::specs::Reader::end_at))]
+fn end(tokens: &mut Cursor<'_>) -> Result<(), ReadFault>
+    ensures { Reads (spec.end_at tokens.old) result tokens.new }
+{
+    if tokens.begins_with_mark(Mark::Semicolon) {
+        tokens.mark(Mark::Semicolon)
+    } else {
+        Ok(())
+    }
+}
+
+#[tactic(auto, unfolding(crate::specs::Reader::request_at))]
+fn ended(alloc: Global, tokens: &mut Cursor<'_>) -> Result<Stmt, ReadFault>
+    ensures { Reads (spec.request_at tokens.old) result tokens.new }
+{
+    let stmt = stmt(alloc, tokens)?;
+    end(tokens)?;
+    Ok(stmt)
 }
 
 /// The statement that all of the tokens spell.
 #[tactic(auto, unfolding(crate::specs::Reader::request_of))]
 pub fn request(alloc: Global, tokens: &mut Cursor<'_>) -> Result<Stmt, ReadFault>
-    ensures { Gives (λ stmt. stmt) result (spec.request_of tokens.old) }
+    ensures { Reads (spec.request_of tokens.old) result tokens.new }
 {
-    let stmt = statement(alloc, tokens)?;
-    if !tokens.is_end() {
-        return Err(ReadFault::Malformed);
-    }
-    Ok(stmt)
+    let stmt = ended(alloc, tokens)?;
+    tokens.alone(stmt)
 }

@@ -1,33 +1,181 @@
-//! The tokens of a text.
+//! What single tokens stand for.
 
-use rs_base::{Ident, Txt};
+ghost use Rattle.std.specs.Prelude.{◌≡◌, IfOk, is_some};
+ghost use Rattle.rs_parse.specs.Reader as spec;
 
-/// A mark of one or two characters.
-#[derive(Clone, Copy, Debug, PartialEq, Eq)]
-pub enum Mark {
-    Open,
-    Close,
-    Comma,
-    Dot,
-    Semicolon,
-    At,
-    Star,
-    Colon,
-    Plus,
-    Minus,
-    Equal,
-    NotEqual,
-    Less,
-    LessOrEqual,
-    Greater,
-    GreaterOrEqual,
+use rs_ast::{Arith, Mark, Op, Token, is_reserved};
+use rs_base::{Ident, Kind, NoMemory, SiteNo, Value};
+use std::alloc::Global;
+
+pub fn ident_of(token: &Token) -> Option<Ident>
+    ensures { result ≡ spec.ident_of token.now }
+{
+    match token {
+        Token::Word(word) => {
+            if is_reserved(word.as_bytes()) {
+                None
+            } else {
+                Some(*word)
+            }
+        }
+        Token::Number(_) => None,
+        Token::Text(_) => None,
+        Token::Mark(_) => None,
+    }
 }
 
-/// A token: a word in lower case, a number, a text without its quotes, or a mark.
-#[derive(Debug, Drop)]
-pub enum Token {
-    Word(Ident),
-    Number(u64),
-    Text(Txt),
-    Mark(Mark),
+pub fn site_of(token: &Token) -> Option<SiteNo>
+    ensures { result ≡ spec.site_of token.now }
+{
+    match token {
+        Token::Word(_) => None,
+        Token::Number(n) => {
+            if 1 <= *n && *n <= 16 {
+                SiteNo::new(*n as u16)
+            } else {
+                None
+            }
+        }
+        Token::Text(_) => None,
+        Token::Mark(_) => None,
+    }
+}
+
+fn kind_of_word(word: &[u8]) -> Option<Kind>
+    ensures { result ≡ spec.kind_of_word word.now }
+{
+    if word == b"int".as_slice() || word == b"integer".as_slice() {
+        Some(Kind::Int)
+    } else if word == b"text".as_slice() {
+        Some(Kind::Text)
+    } else {
+        None
+    }
+}
+
+pub fn kind_of(token: &Token) -> Option<Kind>
+    ensures { result ≡ spec.kind_of token.now }
+{
+    match token {
+        Token::Word(word) => kind_of_word(word.as_bytes()),
+        Token::Number(_) => None,
+        Token::Text(_) => None,
+        Token::Mark(_) => None,
+    }
+}
+
+fn op_of_mark(mark: Mark) -> Option<Op>
+    ensures { result ≡ spec.op_of_mark mark }
+{
+    match mark {
+        Mark::Equal => Some(Op::Eq),
+        Mark::NotEqual => Some(Op::Ne),
+        Mark::Less => Some(Op::Lt),
+        Mark::LessOrEqual => Some(Op::Le),
+        Mark::Greater => Some(Op::Gt),
+        Mark::GreaterOrEqual => Some(Op::Ge),
+        _ => None,
+    }
+}
+
+pub fn op_of(token: &Token) -> Option<Op>
+    ensures { result ≡ spec.op_of token.now }
+{
+    match token {
+        Token::Word(_) => None,
+        Token::Number(_) => None,
+        Token::Text(_) => None,
+        Token::Mark(mark) => op_of_mark(*mark),
+    }
+}
+
+fn arith_of_mark(mark: Mark) -> Option<Arith>
+    ensures { result ≡ spec.arith_of_mark mark }
+{
+    match mark {
+        Mark::Plus => Some(Arith::Add),
+        Mark::Minus => Some(Arith::Sub),
+        Mark::Star => Some(Arith::Mul),
+        _ => None,
+    }
+}
+
+pub fn arith_of(token: &Token) -> Option<Arith>
+    ensures { result ≡ spec.arith_of token.now }
+{
+    match token {
+        Token::Word(_) => None,
+        Token::Number(_) => None,
+        Token::Text(_) => None,
+        Token::Mark(mark) => arith_of_mark(*mark),
+    }
+}
+
+/// A key's place.
+pub fn place_of(token: &Token) -> Option<u32>
+    ensures { result ≡ spec.place_of token.now }
+{
+    match token {
+        Token::Word(_) => None,
+        Token::Number(n) => { if *n < 1 << 32 { Some(*n as u32) } else { None } }
+        Token::Text(_) => None,
+        Token::Mark(_) => None,
+    }
+}
+
+/// A number behind `-`.
+pub fn negated_of(token: &Token) -> Option<Value>
+    ensures { result ≡ spec.negated_of token.now }
+{
+    match token {
+        Token::Word(_) => None,
+        Token::Number(n) => {
+            if *n < 1 << 63 {
+                Some(Value::Int(-(*n as i64)))
+            } else {
+                None
+            }
+        }
+        Token::Text(_) => None,
+        Token::Mark(_) => None,
+    }
+}
+
+pub fn is_unsigned(token: &Token) -> bool
+    ensures { result ≡ is_some (spec.unsigned_of token.now) }
+{
+    match token {
+        Token::Word(_) => false,
+        Token::Number(n) => *n < 1 << 63,
+        Token::Text(_) => true,
+        Token::Mark(_) => false,
+    }
+}
+
+/// A number without a sign, or a text.
+pub fn unsigned_of(alloc: Global, token: &Token) -> Result<Option<Value>, NoMemory>
+    ensures { IfOk result (λ value. value ≡ spec.unsigned_of token.now) }
+{
+    match token {
+        Token::Word(_) => Ok(None),
+        Token::Number(n) => {
+            if *n < 1 << 63 {
+                Ok(Some(Value::Int(*n as i64)))
+            } else {
+                Ok(None)
+            }
+        }
+        Token::Text(text) => Ok(Some(Value::Text(text.copy(alloc)?))),
+        Token::Mark(_) => Ok(None),
+    }
+}
+
+/// A statement on rows may begin with it.
+pub fn is_dml(token: &Token) -> bool
+    ensures { result ≡ spec.begins_dml token.now }
+{
+    token.is_word(b"select")
+        || token.is_word(b"insert")
+        || token.is_word(b"update")
+        || token.is_word(b"delete")
 }

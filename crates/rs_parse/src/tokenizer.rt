@@ -1,22 +1,38 @@
 //! From a text to its tokens.
 
-ghost use Rattle.rs_base.specs.Reading.{Gives};
+ghost use Rattle.std.specs.Prelude.{◌≡◌, IfOk};
 ghost use Rattle.rs_parse.specs.Tokens as spec;
 
 use crate::scanner::Scanner;
-use crate::token::Token;
-use rs_base::ReadFault;
-use sqlite_items::Items;
+use crate::token_split::Split;
+use rs_base::{NoMemory, with_room};
 use std::alloc::Global;
 
-/// The tokens of a text.
-pub fn tokens(alloc: Global, text: &[u8]) -> Result<Items<Token>, ReadFault>
-    ensures { Gives (λ ts. ts) result (spec.tokens_of text.now) }
+/// Room for the tokens of most texts.
+const ROOM: usize = 16;
+
+/// Splits a text into tokens, up to the first byte at which no token begins. The time goes with the text's length.
+pub fn split(alloc: Global, text: &[u8]) -> Result<Split, NoMemory>
+    ensures { IfOk result (λ split. split ≡ spec.split_of text.now) }
 {
-    let mut found = Items::new(alloc);
+    let mut tokens = with_room(alloc, ROOM)?;
+    let mut starts = with_room(alloc, ROOM)?;
     let mut scanner = Scanner::new(text);
-    while let Some(token) = scanner.next(alloc)? {
-        found.push(token)?;
+    loop {
+        scanner.skip_blanks();
+        let place = text.len() - scanner.len();
+        let Some(token) = scanner.next(alloc)? else {
+            return Ok(Split {
+                tokens,
+                starts,
+                end: place,
+                whole: place == text.len(),
+            });
+        };
+        tokens.push(token)?;
+        starts.push(place)?;
     }
-    Ok(found)
 }
+
+#[cfg(test)]
+mod tests;

@@ -1,8 +1,11 @@
-use Rattle.rs_parse.proofs.RequestLaws.{parse_found, parse_only}
+use Rattle.rs_parse.proofs.ParseLaws.{parse_found, parse_only, parse_fault}
 use Rattle.rs_parse.proofs.parser.parse.Goals as goal
 
 pub returns-clause-found : goal.returns-clause-found
-returns-clause-found c = parse_found c.args.text.now c.read.result c.read.ensures.exact
+returns-clause-found c = parse_found _ _ c.read.ensures
 
 pub returns-clause-only : goal.returns-clause-only
-returns-clause-only c = parse_only c.args.text.now c.read.result c.read.ensures.exact
+returns-clause-only c = parse_only _ _ c.read.ensures
+
+pub returns-clause-fault : goal.returns-clause-fault
+returns-clause-fault c = parse_fault _ _ c.read.ensures

@@ -1,0 +1,43 @@
+-- Words for saying which tokens spell a value. A phrase is a fact of a value and of the tokens that spell it.
+--     Is t                 this one token
+--     Spell [P, Q, ..]     these phrases, one behind the other
+--     Optional P           nothing for `None`, a phrase for `Some`
+--     IsSeries P           phrases one behind the other, or none
+--     IsList t P           one phrase or more, with this token between each two
+--     AtMost n P           a list of at most so many members
+use Rattle.std.specs.Prelude.{◌≡◌, ℕ, ◌≤◌, List, [], ◌∷◌, ◌++◌, length, Option, Some, None}
+use Rattle.rs_ast.specs.declared.token.Token.{Token}
+
+abbrev pub Phrase : Type 0 → Type 1
+Phrase A = A → List Token → Type 0
+
+abbrev pub Is : Token → List Token → Type 0
+Is t ts = ts ≡ t ∷ []
+
+-- one behind the other
+abbrev pub Both : (List Token → Type 0) → (List Token → Type 0) → List Token → Type 0
+Both P Q ts = (front behind : List Token) × P front × Q behind × (ts ≡ front ++ behind)
+
+abbrev pub Spell : List (List Token → Type 0) → List Token → Type 0
+Spell [] ts = ts ≡ []
+Spell (P ∷ []) ts = P ts
+Spell (P ∷ Q ∷ Ps) ts = Both P (Spell (Q ∷ Ps)) ts
+
+abbrev pub Optional : {A : Type 0} → Phrase A → Phrase (Option A)
+Optional P None ts = ts ≡ []
+Optional P (Some x) ts = P x ts
+
+abbrev pub IsSeries : {A : Type 0} → Phrase A → Phrase (List A)
+IsSeries P [] ts = ts ≡ []
+IsSeries P (x ∷ xs) ts = Both (P x) (IsSeries P xs) ts
+
+-- one phrase behind a separator
+abbrev pub Behind : {A : Type 0} → Token → Phrase A → Phrase A
+Behind separator P x ts = Both (Is separator) (P x) ts
+
+abbrev pub IsList : {A : Type 0} → Token → Phrase A → Phrase (List A)
+IsList separator P [] ts = ⊥
+IsList separator P (x ∷ xs) ts = Both (P x) (IsSeries (Behind separator P) xs) ts
+
+abbrev pub AtMost : {A : Type 0} → ℕ → Phrase (List A) → Phrase (List A)
+AtMost n P xs ts = (length xs ≤ n) × P xs ts

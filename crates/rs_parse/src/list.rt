@@ -1,0 +1,94 @@
+//! Reading lists.
+
+ghost use Rattle.std.specs.Prelude.{◌≡◌};
+ghost use Rattle.rs_parse.specs.Read.{Reads, begins, pass_at, behind_at, separated_at, all_at};
+ghost use Rattle.rs_parse.specs.Separator as spec;
+
+use crate::cursor::Cursor;
+use rs_ast::Mark;
+use rs_base::ReadFault;
+use sqlite_items::Items;
+use std::alloc::Global;
+
+/// What parts the items of a list.
+#[derive(Clone, Copy)]
+pub enum Separator {
+    Comma,
+    And,
+    Or,
+}
+
+/// What stands in lists, and how it is read there.
+pub trait ListItem: Drop {
+    ghost use Rattle.std.specs.Prelude.{List};
+    ghost use Rattle.rs_ast.specs.declared.token.Token.{Token};
+    ghost use Rattle.rs_parse.specs.Read.{Read, Reads};
+
+    ghost item_at: { List Token → Read Self };
+
+    fn item(alloc: Global, tokens: &mut Cursor<'_>) -> Result<Self, ReadFault>
+        ensures { Reads (item_at tokens.old) result tokens.new };
+}
+
+fn goes_on(tokens: &Cursor<'_>, separator: Separator) -> bool
+    ensures { result ≡ begins (spec.is_separator separator) tokens.now }
+{
+    match separator {
+        Separator::Comma => tokens.begins_with_mark(Mark::Comma),
+        Separator::And => tokens.begins_with_word(b"and"),
+        Separator::Or => tokens.begins_with_word(b"or"),
+    }
+}
+
+fn pass(tokens: &mut Cursor<'_>, separator: Separator) -> Result<(), ReadFault>
+    ensures { Reads (pass_at (spec.is_separator separator) tokens.old) result tokens.new }
+{
+    match separator {
+        Separator::Comma => tokens.mark(Mark::Comma),
+        Separator::And => tokens.word(b"and"),
+        Separator::Or => tokens.word(b"or"),
+    }
+}
+
+fn behind<T: ListItem>(
+    alloc: Global,
+    tokens: &mut Cursor<'_>,
+    separator: Separator,
+) -> Result<T, ReadFault>
+    ensures { Reads (behind_at (spec.is_separator separator) T.item_at tokens.old) result tokens.new }
+{
+    pass(tokens, separator)?;
+    T::item(alloc, tokens)
+}
+
+/// One item, and at most so many further ones behind separators.
+pub fn listed<T: ListItem>(
+    alloc: Global,
+    tokens: &mut Cursor<'_>,
+    separator: Separator,
+    most: usize,
+) -> Result<Items<T>, ReadFault>
+    ensures { Reads (separated_at (spec.is_separator separator) T.item_at most tokens.old) result tokens.new }
+{
+    let mut found = Items::new(alloc);
+    found.push(T::item(alloc, tokens)?)?;
+    for _ in 0..most {
+        if !goes_on(tokens, separator) {
+            return Ok(found);
+        }
+        found.push(behind::<T>(alloc, tokens, separator)?)?;
+    }
+    Ok(found)
+}
+
+/// One item, and any number of further ones behind separators.
+pub fn all<T: ListItem>(
+    alloc: Global,
+    tokens: &mut Cursor<'_>,
+    separator: Separator,
+) -> Result<Items<T>, ReadFault>
+    ensures { Reads (all_at (spec.is_separator separator) T.item_at tokens.old) result tokens.new }
+{
+    let most = tokens.len();
+    listed(alloc, tokens, separator, most)
+}

@@ -1,0 +1,135 @@
+//! Names of tables and of columns.
+
+ghost use Rattle.rs_parse.specs.Read.{Reads};
+ghost use Rattle.rs_parse.specs.Reader as spec;
+
+use crate::cursor::Cursor;
+use crate::list::ListItem;
+use rs_ast::{ColDef, ColRef, Mark};
+use rs_base::{Ident, NameText, ReadFault, SiteNo};
+use std::alloc::Global;
+
+#[tactic(auto, unfolding(crate::specs::Reader::at_site_at))]
+fn at_site(tokens: &mut Cursor<'_>) -> Result<SiteNo, ReadFault>
+    ensures { Reads (spec.at_site_at tokens.old) result tokens.new }
+{
+    tokens.mark(Mark::At)?;
+    tokens.site()
+}
+
+#[tactic(auto, unfolding(crate::specs::Reader::optional_site_at))]
+fn optional_site(tokens: &mut Cursor<'_>) -> Result<Option<SiteNo>, ReadFault>
+    ensures { Reads (spec.optional_site_at tokens.old) result tokens.new }
+{
+    if tokens.begins_with_mark(Mark::At) {
+        Ok(Some(at_site(tokens)?))
+    } else {
+        Ok(None)
+    }
+}
+
+/// What follows a name's creator.
+#[tactic(auto, unfolding(crate::specs::Reader::created_at))]
+fn created(
+    creator: Ident,
+    creator_site: Option<SiteNo>,
+    tokens: &mut Cursor<'_>,
+) -> Result<NameText, ReadFault>
+    ensures { Reads (spec.created_at creator creator_site tokens.old) result tokens.new }
+{
+    tokens.mark(Mark::Dot)?;
+    let object = tokens.ident()?;
+    let birth = optional_site(tokens)?;
+    Ok(NameText {
+        creator: Some(creator),
+        creator_site,
+        object,
+        birth,
+    })
+}
+
+/// A table's name: `creator@site.object@site`, of which the object alone is needed.
+#[tactic(auto, unfolding(crate::specs::Reader::name_at))]
+pub fn name(tokens: &mut Cursor<'_>) -> Result<NameText, ReadFault>
+    ensures { Reads (spec.name_at tokens.old) result tokens.new }
+{
+    let first = tokens.ident()?;
+    let site = optional_site(tokens)?;
+    if tokens.begins_with_mark(Mark::Dot) {
+        return created(first, site, tokens);
+    }
+    Ok(NameText {
+        creator: None,
+        creator_site: None,
+        object: first,
+        birth: site,
+    })
+}
+
+/// What follows a column's table.
+#[tactic(auto, unfolding(crate::specs::Reader::column_of_at))]
+fn column_of(table: Ident, tokens: &mut Cursor<'_>) -> Result<ColRef, ReadFault>
+    ensures { Reads (spec.column_of_at table tokens.old) result tokens.new }
+{
+    tokens.mark(Mark::Dot)?;
+    let column = tokens.ident()?;
+    Ok(ColRef {
+        table: Some(table),
+        column,
+    })
+}
+
+/// A column of a statement: `column` or `table.column`.
+#[tactic(auto, unfolding(crate::specs::Reader::col_ref_at))]
+pub fn col_ref(tokens: &mut Cursor<'_>) -> Result<ColRef, ReadFault>
+    ensures { Reads (spec.col_ref_at tokens.old) result tokens.new }
+{
+    let first = tokens.ident()?;
+    if tokens.begins_with_mark(Mark::Dot) {
+        return column_of(first, tokens);
+    }
+    Ok(ColRef {
+        table: None,
+        column: first,
+    })
+}
+
+/// A column as a table declares it.
+#[tactic(auto, unfolding(crate::specs::Reader::column_at))]
+fn column(tokens: &mut Cursor<'_>) -> Result<ColDef, ReadFault>
+    ensures { Reads (spec.column_at tokens.old) result tokens.new }
+{
+    let name = tokens.ident()?;
+    let kind = tokens.kind()?;
+    Ok(ColDef { name, kind })
+}
+
+impl ListItem for Ident {
+    ghost use Rattle.rs_parse.specs.Reader.{ident_at};
+
+    ghost item_at = { ident_at };
+
+    fn item(_alloc: Global, tokens: &mut Cursor<'_>) -> Result<Ident, ReadFault> {
+        tokens.ident()
+    }
+}
+
+impl ListItem for ColRef {
+    ghost use Rattle.rs_parse.specs.Reader.{col_ref_at};
+
+    ghost item_at = { col_ref_at };
+
+    fn item(_alloc: Global, tokens: &mut Cursor<'_>) -> Result<ColRef, ReadFault> {
+        col_ref(tokens)
+    }
+}
+
+impl ListItem for ColDef {
+    ghost use Rattle.rs_parse.specs.Reader.{column_at};
+
+    ghost item_at = { column_at };
+
+    fn item(_alloc: Global, tokens: &mut Cursor<'_>) -> Result<ColDef, ReadFault> {
+        column(tokens)
+    }
+}

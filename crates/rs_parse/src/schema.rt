@@ -1,0 +1,132 @@
+//! Statements on tables, indexes and synonyms.
+
+ghost use Rattle.rs_parse.specs.Read.{Reads};
+ghost use Rattle.rs_parse.specs.Reader as spec;
+
+use crate::cursor::Cursor;
+use crate::list::{Separator, listed};
+use crate::names::name;
+use rs_ast::{Mark, Stmt};
+use rs_base::ReadFault;
+use std::alloc::Global;
+
+#[tactic(auto, unfolding(crate::specs::Reader::create_table_at))]
+fn create_table(alloc: Global, tokens: &mut Cursor<'_>) -> Result<Stmt, ReadFault>
+    ensures { Reads (spec.create_table_at tokens.old) result tokens.new }
+{
+    tokens.word(b"table")?;
+    let name = name(tokens)?;
+    tokens.mark(Mark::Open)?;
+    let columns = listed(alloc, tokens, Separator::Comma, 15)?;
+    tokens.mark(Mark::Close)?;
+    Ok(Stmt::CreateTable { name, columns })
+}
+
+#[tactic(auto, unfolding(crate::specs::Reader::create_index_at))]
+fn create_index(tokens: &mut Cursor<'_>) -> Result<Stmt, ReadFault>
+    ensures { Reads (spec.create_index_at tokens.old) result tokens.new }
+{
+    tokens.word(b"index")?;
+    let index = tokens.ident()?;
+    tokens.word(b"on")?;
+    let name = name(tokens)?;
+    tokens.mark(Mark::Open)?;
+    let column = tokens.ident()?;
+    tokens.mark(Mark::Close)?;
+    Ok(Stmt::CreateIndex {
+        index,
+        name,
+        column,
+    })
+}
+
+#[tactic(auto, unfolding(crate::specs::Reader::create_synonym_at))]
+fn create_synonym(tokens: &mut Cursor<'_>) -> Result<Stmt, ReadFault>
+    ensures { Reads (spec.create_synonym_at tokens.old) result tokens.new }
+{
+    tokens.word(b"synonym")?;
+    let synonym = tokens.ident()?;
+    tokens.word(b"for")?;
+    let name = name(tokens)?;
+    Ok(Stmt::CreateSynonym { synonym, name })
+}
+
+#[tactic(auto, unfolding(crate::specs::Reader::create_at))]
+pub fn create(alloc: Global, tokens: &mut Cursor<'_>) -> Result<Stmt, ReadFault>
+    ensures { Reads (spec.create_at tokens.old) result tokens.new }
+{
+    tokens.word(b"create")?;
+    if tokens.begins_with_word(b"table") {
+        create_table(alloc, tokens)
+    } else if tokens.begins_with_word(b"index") {
+        create_index(tokens)
+    } else {
+        create_synonym(tokens)
+    }
+}
+
+#[tactic(auto, unfolding(crate::specs::Reader::drop_table_at))]
+fn drop_table(tokens: &mut Cursor<'_>) -> Result<Stmt, ReadFault>
+    ensures { Reads (spec.drop_table_at tokens.old) result tokens.new }
+{
+    tokens.word(b"table")?;
+    let name = name(tokens)?;
+    Ok(Stmt::DropTable { name })
+}
+
+#[tactic(auto, unfolding(crate::specs::Reader::drop_index_at))]
+fn drop_index(tokens: &mut Cursor<'_>) -> Result<Stmt, ReadFault>
+    ensures { Reads (spec.drop_index_at tokens.old) result tokens.new }
+{
+    tokens.word(b"index")?;
+    let index = tokens.ident()?;
+    tokens.word(b"on")?;
+    let name = name(tokens)?;
+    Ok(Stmt::DropIndex { index, name })
+}
+
+#[tactic(auto, unfolding(crate::specs::Reader::drop_synonym_at))]
+fn drop_synonym(tokens: &mut Cursor<'_>) -> Result<Stmt, ReadFault>
+    ensures { Reads (spec.drop_synonym_at tokens.old) result tokens.new }
+{
+    tokens.word(b"synonym")?;
+    let synonym = tokens.ident()?;
+    Ok(Stmt::DropSynonym { synonym })
+}
+
+#[tactic(auto, unfolding(crate::specs::Reader::drop_program_at))]
+fn drop_program(tokens: &mut Cursor<'_>) -> Result<Stmt, ReadFault>
+    ensures { Reads (spec.drop_program_at tokens.old) result tokens.new }
+{
+    tokens.word(b"program")?;
+    let program = tokens.ident()?;
+    Ok(Stmt::DropProgram { program })
+}
+
+#[tactic(auto, unfolding(crate::specs::Reader::drop_at))]
+pub fn drop_any(tokens: &mut Cursor<'_>) -> Result<Stmt, ReadFault>
+    ensures { Reads (spec.drop_at tokens.old) result tokens.new }
+{
+    tokens.word(b"drop")?;
+    if tokens.begins_with_word(b"table") {
+        drop_table(tokens)
+    } else if tokens.begins_with_word(b"index") {
+        drop_index(tokens)
+    } else if tokens.begins_with_word(b"synonym") {
+        drop_synonym(tokens)
+    } else {
+        drop_program(tokens)
+    }
+}
+
+#[tactic(auto, unfolding(crate::specs::Reader::migrate_at))]
+pub fn migrate(tokens: &mut Cursor<'_>) -> Result<Stmt, ReadFault>
+    ensures { Reads (spec.migrate_at tokens.old) result tokens.new }
+{
+    tokens.word(b"migrate")?;
+    tokens.word(b"table")?;
+    let name = name(tokens)?;
+    tokens.word(b"to")?;
+    let to = tokens.site()?;
+    Ok(Stmt::Migrate { name, to })
+}
