@@ -14,7 +14,7 @@ use Rattle.rs_base.specs.declared.txn.Txn.{Txn}
 use Rattle.rs_base.specs.declared.value.Value.{Value}
 use Rattle.rs_base.specs.Name.{name_cmp}
 use Rattle.rs_base.specs.Sizes.{row_size}
-use Rattle.rs_ast.specs.declared.stmt.ColDef.{ColDef}
+use Rattle.rs_ast.specs.declared.column.ColDef.{ColDef}
 use Rattle.rs_mean.specs.declared.table.Table.{Table}
 use Rattle.rs_mean.specs.Columns.{has_name, names_differ}
 use Rattle.rs_mean.specs.Database.{Database, table_named}

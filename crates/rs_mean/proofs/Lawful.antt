@@ -14,16 +14,17 @@ use Rattle.rs_base.specs.declared.reply.Denial.{Denial}
 use Rattle.rs_base.specs.declared.reply.Denial.TheVariants as denials
 use Rattle.rs_base.specs.declared.value.Value.{Value}
 use Rattle.rs_base.specs.Name.{resolve}
-use Rattle.rs_ast.specs.declared.stmt.ColDef.{ColDef}
-use Rattle.rs_ast.specs.declared.stmt.Dml.TheVariants as dmls
-use Rattle.rs_ast.specs.declared.stmt.Stmt.{Stmt}
-use Rattle.rs_ast.specs.declared.stmt.Stmt.TheVariants as stmts
+use Rattle.rs_ast.specs.declared.column.ColDef.{ColDef}
+use Rattle.rs_mean.specs.declared.built.Dml.TheVariants as dmls
+use Rattle.rs_mean.specs.declared.built.Stmt.{Stmt}
+use Rattle.rs_mean.specs.declared.built.Stmt.TheVariants as stmts
 use Rattle.rs_mean.specs.declared.execution.Execution.{Execution}
 use Rattle.rs_mean.specs.declared.table.Table.{Table}
 use Rattle.rs_base.specs.Name.{name_cmp}
 use Rattle.rs_mean.specs.Columns.{names_differ}
 use Rattle.rs_mean.specs.Database.{Database, table_named, with_table, IsInOrder}
-use Rattle.rs_mean.specs.Laws.{DeniedChangesNothing, NamesStayInOrder, AnswerIsInOrder, OthersStay, TableIsMade, RowsAreAppended, TablesStayWithin, ColumnsStayDistinct, EachTable, IsWithin, HasDistinctColumns, written_name}
+use Rattle.rs_mean.specs.Laws.{DeniedChangesNothing, NamesStayInOrder, AnswerIsInOrder, OthersStay, TableIsMade, RowsAreAppended, RowsAreAnswered, TablesStayWithin, ColumnsStayDistinct, EachTable, IsWithin, HasDistinctColumns, written_name}
+use Rattle.rs_mean.specs.Sorting.{in_order}
 use Rattle.rs_mean.specs.Meaning.{Outcome, done, unless_denied, fits_columns, fits_table, create_denial, new_table, create, insert_denial, with_rows, insert, select, meaning_of, meaning}
 use Rattle.rs_mean.proofs.Arranged.{in_order_sorted, in_order_permutes}
 use Rattle.rs_mean.proofs.Entries.{apart, lookup_put, lookup_beside, keys_stay_sorted}
@@ -124,6 +125,11 @@ select_stays : (db : Database) (found : Option Table) → (select db found).0 �
 select_stays db None = refl
 select_stays db (Some table) = refl
 
+select_answers : (db : Database) (found : Option Table) (given : List Answer) → (select db found).1 ≡ Ok given
+    → ((select db found).0 ≡ db) × (table : Table) × (found ≡ Some table) × (given ≡ answers.Rows (in_order table.rows) ∷ [])
+select_answers db None given e = absurd cc
+select_answers db (Some table) given e = (refl, table, refl, cc)
+
 -- ---- every statement
 
 abbrev stated_name : Execution → Stmt → Swn
@@ -201,6 +207,14 @@ rows_are_appended db execution written rows given is e =
     × IsSome (table_named (stated_name execution stmt) db)
     × (table_named (stated_name execution stmt) (meaning_of db execution stmt).0 ≡ option_map (with_rows rows) (table_named (stated_name execution stmt) db)) in
     let claim : Claim (stmts.Dml (dmls.Insert written rows)) = insert_appends name rows db (table_named name db) given in
+    subst Claim (sym is) claim e
+
+pub rows_are_answered : RowsAreAnswered
+unfolding meaning
+rows_are_answered db execution query given is e =
+    let Claim : Stmt → Type 0 = λ stmt. (meaning_of db execution stmt).1 ≡ Ok given → ((meaning_of db execution stmt).0 ≡ db)
+    × (table : Table) × (table_named (stated_name execution stmt) db ≡ Some table) × (given ≡ answers.Rows (in_order table.rows) ∷ []) in
+    let claim : Claim (stmts.Dml (dmls.Select query)) = select_answers db (table_named (resolve query.from execution.user execution.site) db) given in
     subst Claim (sym is) claim e
 
 pub tables_stay_within : TablesStayWithin

@@ -1,7 +1,7 @@
 -- The names of a table's columns.
 use Rattle.std.specs.Prelude.{ℕ, Bool, true, ◌&&◌, not, List, [], ◌∷◌, bytes_eq}
 use Rattle.std.specs.List.{list_any}
-use Rattle.rs_ast.specs.declared.stmt.ColDef.{ColDef}
+use Rattle.rs_ast.specs.declared.column.ColDef.{ColDef}
 
 -- one of the columns has this name
 abbrev pub has_name : List ColDef → List ℕ → Bool

@@ -12,10 +12,11 @@ use Rattle.rs_base.specs.declared.value.Value.{Value}
 use Rattle.rs_base.specs.Name.{resolve}
 use Rattle.rs_base.specs.Sizes.{row_size}
 use Rattle.rs_base.specs.Value.{row_cmp}
-use Rattle.rs_ast.specs.declared.stmt.ColDef.{ColDef}
-use Rattle.rs_ast.specs.declared.stmt.Dml.TheVariants as dmls
-use Rattle.rs_ast.specs.declared.stmt.Stmt.{Stmt}
-use Rattle.rs_ast.specs.declared.stmt.Stmt.TheVariants as stmts
+use Rattle.rs_ast.specs.declared.column.ColDef.{ColDef}
+use Rattle.rs_mean.specs.declared.built.Dml.TheVariants as dmls
+use Rattle.rs_mean.specs.declared.built.Select.{Select}
+use Rattle.rs_mean.specs.declared.built.Stmt.{Stmt}
+use Rattle.rs_mean.specs.declared.built.Stmt.TheVariants as stmts
 use Rattle.rs_mean.specs.declared.execution.Execution.{Execution}
 use Rattle.rs_mean.specs.declared.table.Table.{Table}
 use Rattle.rs_mean.specs.Database.{Database, empty, table_named, IsInOrder}
@@ -68,6 +69,13 @@ RowsAreAppended = (db : Database) (execution : Execution) (written : NameText) (
     → (given ≡ answers.Changed (length rows) ∷ [])
     × IsSome (table_named (name_of execution) db)
     × (table_named (name_of execution) (after db execution) ≡ option_map (with_rows rows) (table_named (name_of execution) db))
+
+-- a SELECT that was done answers the rows of the table that its name has, in order, and changes nothing
+abbrev pub RowsAreAnswered : Type 0
+RowsAreAnswered = (db : Database) (execution : Execution) (query : Select) (given : List Answer)
+    → execution.stmt ≡ stmts.Dml (dmls.Select query) → (meaning db execution).1 ≡ Ok given
+    → (after db execution ≡ db)
+    × (table : Table) × (table_named (name_of execution) db ≡ Some table) × (given ≡ answers.Rows (in_order table.rows) ∷ [])
 
 -- ---- what every table keeps
 

@@ -13,11 +13,11 @@ use Rattle.rs_base.specs.declared.reply.Denial.{Denial}
 use Rattle.rs_base.specs.declared.reply.Denial.TheVariants as denials
 use Rattle.rs_base.specs.Name.{resolve}
 use Rattle.rs_base.specs.Value.{kind_of}
-use Rattle.rs_ast.specs.declared.stmt.ColDef.{ColDef}
-use Rattle.rs_ast.specs.declared.stmt.Dml.{Dml}
-use Rattle.rs_ast.specs.declared.stmt.Dml.TheVariants as dmls
-use Rattle.rs_ast.specs.declared.stmt.Stmt.{Stmt}
-use Rattle.rs_ast.specs.declared.stmt.Stmt.TheVariants as stmts
+use Rattle.rs_ast.specs.declared.column.ColDef.{ColDef}
+use Rattle.rs_mean.specs.declared.built.Dml.{Dml}
+use Rattle.rs_mean.specs.declared.built.Dml.TheVariants as dmls
+use Rattle.rs_mean.specs.declared.built.Stmt.{Stmt}
+use Rattle.rs_mean.specs.declared.built.Stmt.TheVariants as stmts
 use Rattle.rs_mean.specs.declared.execution.Execution.{Execution}
 use Rattle.rs_mean.specs.declared.table.Table.{Table}
 use Rattle.rs_mean.specs.Columns.{names_differ}

@@ -3,15 +3,15 @@
 ghost use Rattle.std.specs.Prelude.{◌≡◌, IfOk, OnOk, OnErr};
 ghost use Rattle.rs_mean.specs.Meaning.{meaning};
 
+use crate::built::{Dml, Stmt};
 use crate::database::Database;
 use crate::execution::{Execution, Outcome};
-use rs_ast::{Dml, Stmt};
 use rs_base::NoMemory;
 use std::alloc::Global;
 
 impl Database {
-    #[tactic(auto, unfolding(crate::specs::Meaning::meaning))]
     /// What the execution would answer. It changes nothing, and takes what memory the answer takes.
+    #[tactic(auto, unfolding(crate::specs::Meaning::meaning))]
     pub fn outcome_of(&self, alloc: Global, execution: &Execution) -> Result<Outcome, NoMemory>
         ensures { IfOk result (λ outcome. outcome ≡ (meaning self.now execution.now).1) }
     {
@@ -32,9 +32,9 @@ impl Database {
         }
     }
 
-    #[tactic(auto, unfolding(crate::specs::Meaning::meaning))]
     /// Changes what the execution changes, and answers nothing. A denied execution changes nothing, nor does one for
     /// which memory is wanting.
+    #[tactic(auto, unfolding(crate::specs::Meaning::meaning))]
     pub fn apply(&mut self, alloc: Global, execution: Execution) -> Result<(), NoMemory>
         ensures ok { OnOk result (self.new ≡ (meaning self.old execution).0) }
         ensures err { OnErr result (self.new ≡ self.old) }

@@ -3,9 +3,8 @@
 ghost use Rattle.std.specs.Prelude.{◌≡◌, IfOk};
 ghost use Rattle.rs_mean.specs.Meaning as spec;
 
-use rs_ast::Stmt;
-use rs_base::{Answer, Answers, Denial, Ident, NoMemory, SiteNo, Txn};
-use sqlite_items::Items;
+use crate::built::Stmt;
+use rs_base::{Answer, Answers, Denial, Ident, NoMemory, SiteNo, Txn, one_item};
 use std::alloc::Global;
 
 /// A statement, the transaction that executes it, and the user who asked for it at a site.
@@ -24,7 +23,5 @@ pub type Outcome = Result<Answers, Denial>;
 pub(crate) fn done(alloc: Global, answer: Answer) -> Result<Outcome, NoMemory>
     ensures { IfOk result (λ outcome. outcome ≡ spec.done answer) }
 {
-    let mut answers = Items::new(alloc);
-    answers.push(answer)?;
-    Ok(Ok(answers))
+    Ok(Ok(one_item(alloc, answer)?))
 }

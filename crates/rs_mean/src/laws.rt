@@ -1,7 +1,7 @@
 //! What holds of every execution, whatever the database. Each function here is a law: its contract says it, and its
 //! body does nothing.
 
-ghost use Rattle.rs_mean.specs.Laws.{AnswerIsInOrder, ColumnsStayDistinct, DeniedChangesNothing, NamesStayInOrder, OthersStay, RowsAreAppended, TableIsMade, TablesStayWithin};
+ghost use Rattle.rs_mean.specs.Laws.{AnswerIsInOrder, ColumnsStayDistinct, DeniedChangesNothing, NamesStayInOrder, OthersStay, RowsAreAnswered, RowsAreAppended, TableIsMade, TablesStayWithin};
 
 /// A denied execution changes nothing.
 pub fn denied_changes_nothing()
@@ -28,6 +28,11 @@ pub fn others_stay()
 pub fn rows_are_appended()
     ensures made { TableIsMade }
     ensures appended { RowsAreAppended }
+{}
+
+/// A SELECT that was done answers the rows of its table, in order, and changes nothing.
+pub fn rows_are_answered()
+    ensures { RowsAreAnswered }
 {}
 
 /// A table never has more than 65,536 rows, nor more than 8,388,608 bytes, nor a row of more than 1,024 bytes, at first

@@ -1,6 +1,7 @@
 //! What statements mean over one database.
 #![tactic(auto)]
 
+mod built;
 mod columns;
 mod create;
 mod database;
@@ -14,11 +15,12 @@ mod sorting;
 mod stored_rows;
 mod table;
 
+pub use built::{Dml, Select, Stmt};
 pub use database::Database;
 pub use execution::{Execution, Outcome};
 pub use laws::{
     answer_is_in_order, columns_stay_distinct, denied_changes_nothing, names_stay_in_order,
-    others_stay, rows_are_appended, tables_stay_within,
+    others_stay, rows_are_answered, rows_are_appended, tables_stay_within,
 };
 pub use limits::{MAX_ROW_BYTES, MAX_ROWS, MAX_TABLE_BYTES};
 pub use sorting::rows_in_order;

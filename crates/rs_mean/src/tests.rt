@@ -1,5 +1,7 @@
+mod built;
+
 use super::*;
-use rs_ast::{ColDef, ColDefs, Dml, Select, Stmt};
+use rs_ast::{ColDef, ColDefs};
 use rs_base::{
     Bytes, Ident, Kind, NameText, Origin, Reply, Row, Rows, SiteNo, Txn, Txt, Value, print_reply,
 };

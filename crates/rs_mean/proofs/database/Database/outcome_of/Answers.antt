@@ -1,6 +1,6 @@
 use Rattle.std.proofs.Common.{◌≡◌, List, IfOk, subst}
 use Rattle.rs_base.specs.declared.name.Swn.{Swn}
-use Rattle.rs_ast.specs.declared.stmt.ColDef.{ColDef}
+use Rattle.rs_ast.specs.declared.column.ColDef.{ColDef}
 use Rattle.rs_mean.specs.Database.{table_named}
 use Rattle.rs_mean.specs.Meaning.{create, meaning}
 use Rattle.rs_mean.proofs.database.Database.outcome_of.Goals as goal
