@@ -1,7 +1,9 @@
 pub mod Asked
 pub mod Books
 pub mod Divided
+pub mod FirstPart
 pub mod Lawful
 pub mod PutSessions
 pub mod Quiet
 pub mod Sorts
+pub mod Taken

@@ -2,7 +2,7 @@
 -- executes a statement.
 use Rattle.std.proofs.Common.{◌≡◌, ℕ, ◌+◌, Bool, true, false, cond, ◌&&◌, ◌==◌, List, [], Option, Some, None, refl, arith, nat_lt, inl, inr, ◌⊎◌, length}
 use Rattle.std.proofs.lemmas.Bool.Decides.{nat_tests}
-use Rattle.rs_ast.specs.declared.stmt.Stmt.{Stmt}
+use Rattle.rs_mean.specs.declared.built.Stmt.{Stmt}
 use Rattle.rs_base.specs.declared.peer.Peer.{Peer}
 use Rattle.rs_base.specs.declared.txn.Origin.{Origin}
 use Rattle.rs_base.specs.declared.reply.Reply.{Reply}
@@ -11,7 +11,7 @@ use Rattle.rs_msg.specs.declared.message.Ask.{Ask}
 use Rattle.rs_msg.specs.declared.message.Message.{Message}
 use Rattle.rs_msg.specs.declared.message.Message.TheVariants as messages
 use Rattle.rs_msg.specs.Reader.{message_of}
-use Rattle.rs_parse.specs.Parsing.{statement_of}
+use Rattle.rs_site.specs.Statement.{statement_of}
 use Rattle.rs_site.specs.declared.input.Input.{Input}
 use Rattle.rs_site.specs.declared.input.Input.TheVariants as inputs
 use Rattle.rs_site.specs.declared.outs.Outs.{Outs}

@@ -1,19 +1,20 @@
 -- What holds of every step of a site, whatever its state.
-use Rattle.std.specs.Prelude.{◌≡◌, ℕ, ◌+◌, ◌≤◌, List, [], ◌∷◌, Some, ◌⊎◌}
-use Rattle.rs_ast.specs.declared.stmt.Stmt.{Stmt}
+use Rattle.std.specs.Prelude.{◌≡◌, ℕ, ◌+◌, ◌<◌, ◌≤◌, List, [], ◌∷◌, Option, Some, None, IsTrue, ◌⊎◌}
+use Rattle.rs_mean.specs.declared.built.Stmt.{Stmt}
 use Rattle.rs_base.specs.declared.peer.Peer.{Peer}
 use Rattle.rs_base.specs.declared.reply.Reply.{Reply}
+use Rattle.rs_base.specs.declared.reply.Reply.TheVariants as replies
 use Rattle.rs_mean.specs.Meaning.{meaning}
 use Rattle.rs_msg.specs.declared.message.Ask.{Ask}
 use Rattle.rs_msg.specs.declared.message.Message.TheVariants as messages
 use Rattle.rs_msg.specs.Message.{IsMessage}
-use Rattle.rs_parse.specs.Parsing.{statement_of}
+use Rattle.rs_site.specs.Statement.{statement_of}
 use Rattle.rs_site.specs.declared.input.Input.{Input}
 use Rattle.rs_site.specs.declared.input.Input.TheVariants as inputs
 use Rattle.rs_site.specs.declared.outs.Decided.{Decided}
 use Rattle.rs_site.specs.declared.outs.Outs.{Outs}
-use Rattle.rs_site.specs.Asking.{execution_of, origin_of, tells}
-use Rattle.rs_site.specs.Sessions.{session_of}
+use Rattle.rs_site.specs.Asking.{execution_of, last_number, origin_of, reply_of, tells}
+use Rattle.rs_site.specs.Sessions.{session_of, may_go_on}
 use Rattle.rs_site.specs.State.{SiteState, next_txn}
 use Rattle.rs_site.specs.Step.{site_step}
 
@@ -56,3 +57,27 @@ abbrev pub CommitsAreMeaning : Type 0
 CommitsAreMeaning = (site : SiteState) (input : Input)
     → (((outs_of site input).decided ≡ []) × ((after site input).database ≡ site.database))
     ⊎ ((entry : Decided) × ((outs_of site input).decided ≡ entry ∷ []) × IsNextCommit site entry (after site input))
+
+-- The ask is of the first part of the user's next request in the site's epoch, and the last one is answered.
+pub record IsNextAsk (site : SiteState) (ask : Ask) : Type 0 where
+  pub part : ask.part ≡ 0
+  pub epoch : ask.epoch ≡ site.epoch
+  pub number : ask.number ≡ last_of ask.user site + 1
+  pub may : IsTrue (may_go_on (session_of ask.user site.sessions))
+
+-- The ask was told this one reply, which its user's session keeps.
+pub record IsAnswered (site : SiteState) (from : Peer) (ask : Ask) (reply : Reply) (new : SiteState) (outs : Outs) : Type 0 where
+  pub told : outs.replies ≡ (tells from (origin_of site ask) 0 reply).replies
+  pub kept : session_of ask.user new.sessions ≡ record { last = ask.number; reply = Some reply }
+
+-- A text that is no request is told so, and nothing is committed. A statement is committed, and its reply is its outcome.
+abbrev pub IsTakenAs : SiteState → Peer → Ask → Option Stmt → SiteState → Outs → Type 0
+IsTakenAs site from ask None new outs = IsAnswered site from ask (replies.Syntax 0) new outs × (outs.decided ≡ [])
+IsTakenAs site from ask (Some stmt) new outs =
+    IsAnswered site from ask (reply_of (meaning site.database (execution_of (next_txn site) (origin_of site ask) stmt)).1) new outs
+    × (outs.decided ≡ (record { txn = next_txn site; origin = origin_of site ask; text = ask.text }) ∷ [])
+
+-- the next ask of a user is taken, while the epoch has a transaction left
+abbrev pub NextIsTaken : Type 0
+NextIsTaken = (site : SiteState) (from : Peer) (bytes : List ℕ) (ask : Ask) → IsMessage bytes (messages.Ask ask) → IsNextAsk site ask → site.begun < last_number
+    → IsTakenAs site from ask (statement_of ask.text) (after site (inputs.Datagram from bytes)) (outs_of site (inputs.Datagram from bytes))

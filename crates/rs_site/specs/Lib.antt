@@ -5,5 +5,6 @@ pub mod PartLaws
 pub mod Parts
 pub mod Sessions
 pub mod State
+pub mod Statement
 pub mod Step
 pub mod Truth

@@ -1,7 +1,7 @@
 //! What holds of every step of a site, whatever its state. Each function here is a law: its contract says it, and its
 //! body does nothing.
 
-ghost use Rattle.rs_site.specs.Laws.{CommitsAreMeaning, KeptIsToldAgain, NumbersRise, RepeatsRunNothing};
+ghost use Rattle.rs_site.specs.Laws.{CommitsAreMeaning, KeptIsToldAgain, NextIsTaken, NumbersRise, RepeatsRunNothing};
 
 /// Each user's last number, and the count of transactions, never fall.
 pub fn numbers_rise()
@@ -22,4 +22,10 @@ pub fn kept_is_told_again()
 /// and the database is the meaning of its statement.
 pub fn commits_are_meaning()
     ensures { CommitsAreMeaning }
+{}
+
+/// The next ask of a user, whose last one is answered, is told one reply, which is kept: that its text is no request, or
+/// the outcome of its statement, which is committed with its text. So it is while the epoch has a transaction left.
+pub fn next_is_taken()
+    ensures { NextIsTaken }
 {}

@@ -3,7 +3,7 @@
 ghost use Rattle.std.specs.Prelude.{◌≡◌, [], ◌∷◌, IfOk};
 ghost use Rattle.rs_site.specs.Asking as spec;
 
-use rs_base::{Bytes, Datagrams, NoMemory, Origin, Peer, Reply, Txn};
+use rs_base::{Bytes, Datagrams, NoMemory, Origin, Peer, Reply, Txn, one_item};
 use sqlite_items::Items;
 use std::alloc::Global;
 
@@ -58,13 +58,14 @@ pub(crate) fn tells(
 ) -> Result<Outs, NoMemory>
     ensures { IfOk result (λ outs. outs ≡ spec.tells to.now origin.now part reply) }
 {
-    let mut outs = nothing(alloc);
-    outs.replies.push(Told {
+    let told = Told {
         to: *to,
         origin: *origin,
         part,
         reply,
-    })?;
+    };
+    let mut outs = nothing(alloc);
+    outs.replies = one_item(alloc, told)?;
     Ok(outs)
 }
 
@@ -79,6 +80,6 @@ pub(crate) fn commits(
     ensures { IfOk result (λ outs. outs ≡ record (spec.tells to.now origin.now 0 reply) { decided = decided ∷ [] }) }
 {
     let mut outs = tells(alloc, to, origin, 0, reply)?;
-    outs.decided.push(decided)?;
+    outs.decided = one_item(alloc, decided)?;
     Ok(outs)
 }

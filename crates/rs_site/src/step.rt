@@ -44,8 +44,8 @@ impl Site {
         }
     }
 
-    #[tactic(auto, unfolding(crate::specs::Step::site_step))]
     /// The step by its definition.
+    #[tactic(auto, unfolding(crate::specs::Step::site_step))]
     fn on_input(&mut self, alloc: Global, input: &Input) -> Result<Outs, NoMemory>
         ensures ok { IfOk result (λ outs. spec.site_step self.old input.now ≡ (self.new, outs)) }
         ensures err { OnErr result (self.new ≡ self.old) }

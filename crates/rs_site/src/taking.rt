@@ -4,13 +4,13 @@ ghost use Rattle.std.specs.Prelude.{◌≡◌, ◌+◌, ◌<◌, IfOk, OnOk, OnE
 ghost use Rattle.rs_mean.specs.Meaning.{meaning};
 ghost use Rattle.rs_site.specs.Asking as spec;
 ghost use Rattle.rs_site.specs.State.{next_txn};
+ghost use Rattle.rs_site.specs.Statement.{statement_of};
 
 use crate::outs::{Decided, Outs, commits, nothing, tells};
 use crate::session::Session;
 use crate::site::Site;
-use rs_ast::Stmt;
 use rs_base::{Bytes, NoMemory, Origin, Peer, Reply, Txn};
-use rs_mean::{Execution, Outcome};
+use rs_mean::{Execution, Outcome, Stmt};
 use rs_parse::{ParseFault, parse};
 use std::alloc::Global;
 
@@ -21,6 +21,18 @@ fn reply_of(outcome: Outcome) -> Reply
     match outcome {
         Ok(answers) => Reply::Done(answers),
         Err(cause) => Reply::Denied(cause),
+    }
+}
+
+/// The statement of a text, where it is one that is executed so far.
+#[tactic(auto, unfolding(crate::specs::Statement::statement_of))]
+fn statement(alloc: Global, text: &[u8]) -> Result<Option<Stmt>, NoMemory>
+    ensures { IfOk result (λ stmt. stmt ≡ statement_of text.now) }
+{
+    match parse(alloc, text) {
+        Ok(stmt) => Stmt::built(alloc, stmt),
+        Err(ParseFault::Syntax { .. }) => Ok(None),
+        Err(ParseFault::NoMemory) => Err(NoMemory),
     }
 }
 
@@ -157,10 +169,9 @@ impl Site {
         ensures ok { IfOk result (λ outs. spec.taken self.old from.now origin.now text ≡ (self.new, outs)) }
         ensures err { OnErr result (self.new ≡ self.old) }
     {
-        match parse(alloc, text.as_slice()) {
-            Ok(stmt) => self.take_statement(alloc, from, origin, text, stmt),
-            Err(ParseFault::Syntax { .. }) => self.take_no_request(alloc, from, origin),
-            Err(ParseFault::NoMemory) => Err(NoMemory),
+        match statement(alloc, text.as_slice())? {
+            Some(stmt) => self.take_statement(alloc, from, origin, text, stmt),
+            None => self.take_no_request(alloc, from, origin),
         }
     }
 }
