@@ -7,8 +7,8 @@ use Rattle.std.proofs.lemmas.List.Sums.{fold_push}
 use Rattle.rs_base.specs.declared.txn.Txn.{Txn}
 use Rattle.rs_base.specs.declared.txn.Origin.{Origin}
 use Rattle.rs_base.specs.declared.reply.Reply.{Reply}
-use Rattle.rs_ast.specs.declared.stmt.Stmt.{Stmt}
-use Rattle.rs_parse.specs.Parsing.{statement_of}
+use Rattle.rs_mean.specs.declared.built.Stmt.{Stmt}
+use Rattle.rs_site.specs.Statement.{statement_of}
 use Rattle.rs_mean.specs.Database.{Database, empty, IsInOrder}
 use Rattle.rs_mean.specs.Meaning.{Outcome, meaning}
 use Rattle.rs_sched.specs.declared.event.Event.{Event}
@@ -17,12 +17,12 @@ use Rattle.rs_site.specs.declared.outs.Decided.{Decided}
 use Rattle.rs_site.specs.Asking.{execution_of, reply_of, remembering}
 use Rattle.rs_site.specs.Sessions.{Book, session_of, with_session}
 use Rattle.rs_site.specs.State.{SiteState, opened, next_txn}
-use Rattle.rs_site.proofs.PutSessions.{session_put, session_beside}
+use Rattle.rs_site.proofs.PutSessions.{session_put, session_beside, user_tells}
 use Rattle.rs_world.specs.declared.report.Given.{Given}
 use Rattle.rs_world.specs.Explains.{IsCommitted, IsMeaningAt}
 use Rattle.rs_world.specs.History.{effect_of, effect, database_of, outcome_behind}
 use Rattle.rs_world.specs.Moments.{Takes}
-use Rattle.rs_world.proofs.Kept.{last_origin, user_tells, get_front}
+use Rattle.rs_world.proofs.Kept.{last_origin, get_front}
 use Rattle.rs_world.proofs.Gets.{get_push, get_below}
 use Rattle.rs_world.proofs.Told.{get_last}
 use Rattle.rs_mean.proofs.Lawful.{names_stay_in_order}

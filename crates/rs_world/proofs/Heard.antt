@@ -97,24 +97,33 @@ pub record IsAsked (before : List Happening) (datagram : Datagram) : Type 0 wher
   pub posted : Contains before (Post origin text)
 
 module _ (before : List Happening) (world : World) (site : SiteState) (one : IsOf world site) where
+  -- the ask that waits longest is heard by a delivery
+  pub hears_next : (origin : Origin) (text : List ℕ) → IsPost origin text → slice_get world.sent world.delivered ≡ Some (ask_datagram origin text)
+      → happen world Deliver ≡ hearing world (on_first site (peers.Client 0) origin text)
+  hears_next origin text post there =
+      ap (λ (d : Option Datagram). delivered world d) there
+      ∙ taken_alone (record world { delivered = world.delivered + 1 }) site (inputs.Datagram (peers.Client 0) (asked_by origin text)) origin.site (on_first site (peers.Client 0) origin text)
+      one.sites post.site (step_of_ask site origin text one.me post)
+
   by_sent : ((i : ℕ) (datagram : Datagram) → slice_get world.sent i ≡ Some datagram → IsAsked before datagram) → (next : Option Datagram) → slice_get world.sent world.delivered ≡ next
       → Does before world site Deliver
   by_sent asked None e = Stays (ap (λ (d : Option Datagram). delivered world d) e)
   by_sent asked (Some datagram) e =
       let a = asked world.delivered datagram e in
       let there : slice_get world.sent world.delivered ≡ Some (ask_datagram a.origin a.text) = e ∙ ap (λ (d : Datagram). Some d) a.is in
-      Hears a.origin a.text a.post a.posted refl there (
-      ap (λ (d : Option Datagram). delivered world d) there
-      ∙ taken_alone (record world { delivered = world.delivered + 1 }) site (inputs.Datagram (peers.Client 0) (asked_by a.origin a.text)) a.origin.site (on_first site (peers.Client 0) a.origin a.text)
-      one.sites a.post.site (step_of_ask site a.origin a.text one.me a.post))
+      Hears a.origin a.text a.post a.posted refl there (hears_next a.origin a.text a.post there)
 
   by_noise : (number : ℕ) (bytes : List ℕ) → number ≡ 1 → (read : Option Message) → message_of bytes ≡ read → heard world number bytes read ≡ world
   by_noise number bytes first None e =
       taken_alone world site (inputs.Datagram (peers.Client 0) bytes) number (quiet site) one.sites first (step_of_noise site bytes e) ∙ became_quiet world site one.sites
   by_noise number bytes first (Some message) e = refl
 
+  -- noise does nothing
+  pub noise_stays : (number : ℕ) (bytes : List ℕ) → number ≡ 1 → happen world (Noise number bytes) ≡ world
+  noise_stays number bytes first = by_noise number bytes first (message_of bytes) refl
+
   pub does : ((i : ℕ) (datagram : Datagram) → slice_get world.sent i ≡ Some datagram → IsAsked before datagram) → (happening : Happening) → IsPlayed happening → Does before world site happening
   does asked (Open last) is = absurd is
   does asked (Post origin text) is = Posts origin text is refl
   does asked Deliver is = by_sent asked (slice_get world.sent world.delivered) refl
-  does asked (Noise number bytes) is = Stays (by_noise number bytes is (message_of bytes) refl)
+  does asked (Noise number bytes) is = Stays (noise_stays number bytes is)

@@ -4,8 +4,8 @@ use Rattle.std.specs.List.{slice_get}
 use Rattle.std.proofs.lemmas.List.{append-nil}
 use Rattle.rs_base.specs.declared.txn.Txn.{Txn}
 use Rattle.rs_base.specs.declared.reply.Denial.{Denial}
-use Rattle.rs_ast.specs.declared.stmt.Stmt.{Stmt}
-use Rattle.rs_parse.specs.Parsing.{statement_of}
+use Rattle.rs_mean.specs.declared.built.Stmt.{Stmt}
+use Rattle.rs_site.specs.Statement.{statement_of}
 use Rattle.rs_mean.specs.Database.{Database, IsInOrder}
 use Rattle.rs_mean.specs.Meaning.{meaning}
 use Rattle.rs_mean.proofs.Lawful.{denied_changes_nothing as after_denied}

@@ -1,8 +1,7 @@
 -- What holds of the replies and the entries so far and of what the site keeps of its users, and what an ask that is heard
 -- does to it.
-use Rattle.std.proofs.Common.{◌≡◌, ◌≢◌, ℕ, zero, suc, ◌<◌, ◌⊎◌, inl, inr, Bool, true, false, List, [], ◌∷◌, ◌++◌, length, Some, refl, sym, ap, subst, ◌∙◌, arith}
-use Rattle.std.specs.Prelude.{slice_get, bytes_eq}
-use Rattle.std.proofs.lemmas.Slice.Eq.{bytes_eq-Decides}
+use Rattle.std.proofs.Common.{◌≡◌, ◌≢◌, ℕ, zero, suc, ◌<◌, ◌⊎◌, inl, inr, List, [], ◌∷◌, ◌++◌, length, Some, refl, sym, ap, subst, ◌∙◌, arith}
+use Rattle.std.specs.Prelude.{slice_get}
 use Rattle.rs_base.specs.declared.txn.Origin.{Origin}
 use Rattle.rs_base.specs.declared.reply.Reply.{Reply}
 use Rattle.rs_base.specs.declared.reply.Reply.TheVariants as replies
@@ -12,7 +11,7 @@ use Rattle.rs_site.specs.declared.outs.Decided.{Decided}
 use Rattle.rs_site.specs.Sessions.{Book, session_of, with_session}
 use Rattle.rs_site.specs.State.{SiteState}
 use Rattle.rs_site.proofs.Asked.{IsNext}
-use Rattle.rs_site.proofs.PutSessions.{session_put, session_beside}
+use Rattle.rs_site.proofs.PutSessions.{session_put, session_beside, user_tells}
 use Rattle.rs_world.specs.declared.report.Given.{Given}
 use Rattle.rs_world.specs.Explains.{IsFinal, IsCommitted, IsGivenTruly, IsNoRequest}
 use Rattle.rs_world.proofs.Gets.{get_push}
@@ -60,16 +59,6 @@ pub record Kept (all : List Event) (site : SiteState) (tolds : List Given) (hist
 
 pub same_origin : (a b : Origin) → a.site ≡ b.site → a.user ≡ b.user → a.epoch ≡ b.epoch → a.number ≡ b.number → a ≡ b
 same_origin a b site user epoch number = λ i. record { site = site i; user = user i; epoch = epoch i; number = number i }
-
-pub user_tells : (a b : List ℕ) → (a ≡ b) ⊎ (a ≢ b)
-user_tells a b = by_test (bytes_eq a b) refl
-  where
-    by_test : (t : Bool) → bytes_eq a b ≡ t → (a ≡ b) ⊎ (a ≢ b)
-    by_test true e = inl ((bytes_eq-Decides a b).0 e)
-    by_test false e = inr (λ same. absurd (differ ((bytes_eq-Decides a b).1 same) e))
-      where
-        differ : bytes_eq a b ≡ true → bytes_eq a b ≡ false → ⊥
-        differ x y = cc
 
 -- what stands at a place stands there still when the list grows
 pub get_front : {X : Type 0} (xs ys : List X) (x : X) (i : ℕ) → slice_get xs i ≡ Some x → slice_get (xs ++ ys) i ≡ Some x

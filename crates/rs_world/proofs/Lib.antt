@@ -1,3 +1,4 @@
+pub mod Answering
 pub mod AtEach
 pub mod Deliveries
 pub mod Entered
@@ -13,6 +14,8 @@ pub mod Messages
 pub mod Opened
 pub mod Places
 pub mod Played
+pub mod Posts
+pub mod Progress
 pub mod Refusals
 pub mod Replied
 pub mod Reported

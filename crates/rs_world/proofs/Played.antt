@@ -1,6 +1,6 @@
 -- What may happen by valid events that are accepted: site 1 is opened, and then asks of it are posted within their
 -- limits, datagrams delivered, and noise given to it.
-use Rattle.std.proofs.Common.{◌≡◌, ℕ, zero, suc, Bool, true, false, ◌&&◌, List, [], ◌∷◌, ◌++◌, Some, None, IsTrue, refl, sym, ap, subst, ◌∙◌, arith}
+use Rattle.std.proofs.Common.{◌≡◌, ◌≤◌, ℕ, zero, suc, Bool, true, false, ◌&&◌, List, [], ◌∷◌, ◌++◌, Some, None, IsTrue, refl, sym, ap, subst, ◌∙◌, arith}
 use Rattle.std.specs.Prelude.{fold, replicate, ◌==◌}
 use Rattle.std.proofs.lemmas.Bool.Decides.{nat_tests}
 use Rattle.std.proofs.lemmas.List.Sums.{fold-append}
@@ -56,24 +56,29 @@ played_again : (n : ℕ) → ArePlayed (replicate n Deliver)
 played_again zero = played_none
 played_again (suc n) = played_more Deliver (replicate n Deliver) tt (played_again n)
 
-deliveries_are : (n : ℕ) × (deliveries ≡ replicate n Deliver)
+-- a settle makes some deliveries
+pub deliveries_are : (n : ℕ) × (1 ≤ n) × (deliveries ≡ replicate n Deliver)
 unfolding deliveries
-deliveries_are = (16777216, refl)
+deliveries_are = (16777216, omega arith, refl)
 
 played_deliveries : ArePlayed deliveries
-played_deliveries = subst ArePlayed (sym deliveries_are.1) (played_again deliveries_are.0)
+played_deliveries = subst ArePlayed (sym deliveries_are.2) (played_again deliveries_are.0)
 
-both_true : (a b : Bool) → (a && b) ≡ true → (a ≡ true) × (b ≡ true)
+pub both_true : (a b : Bool) → (a && b) ≡ true → (a ≡ true) × (b ≡ true)
 both_true true b e = (refl, e)
 both_true false b e = absurd cc
+
+-- an ask behind the opening is one of site 1
+pub is_post : (origin : Origin) (text : List ℕ) → IsLater 1 (events.Ask origin text) → IsPost origin text
+is_post origin text later = record {
+  site = omega (arith, later.fits.fields.site.0, later.fits.site_right);
+  within = record { user = later.fits.fields.user; epoch = later.fits.fields.epoch; number = later.fits.fields.number; part = omega arith; text = later.text.short };
+}
 
 -- what happens by one event
 played_event : (is_open : Bool) (event : Event) → IsLater 1 event → may_come is_open event ≡ true → ArePlayed (happenings_of event)
 played_event is_open (events.Sites last) later may = absurd (later.fits.sites_once tt)
-played_event is_open (events.Ask origin text) later may = played_more (Post origin text) [] (record {
-  site = omega (arith, later.fits.fields.site.0, later.fits.site_right);
-  within = record { user = later.fits.fields.user; epoch = later.fits.fields.epoch; number = later.fits.fields.number; part = omega arith; text = later.text.short };
-}) played_none
+played_event is_open (events.Ask origin text) later may = played_more (Post origin text) [] (is_post origin text later) played_none
 played_event is_open (events.Settle None) later may = played_deliveries
 played_event is_open (events.Settle (Some n)) later may = played_none
 played_event is_open (events.Noise site bytes) later may = played_more (Noise site bytes) [] (omega (arith, later.fits.fields.0.0, later.fits.site_right)) played_none
@@ -96,11 +101,14 @@ pub record Playable (given : List Event) : Type 0 where
   pub parted : happenings given ≡ Open 1 ∷ others
   pub are : ArePlayed others
 
+pub one_site : (last : ℕ) (others : List Event) → IsTrue (are_accepted false (events.Sites last ∷ others)) → last ≡ 1
+one_site last others are = grind (arith, nat_tests, (both_true (last == 1) (are_accepted false others) are).0)
+
 pub playable : (given : List Event) → IsValid given → IsTrue (are_accepted false given) → Playable given
 playable [] valid are = absurd valid
 playable (events.Sites last ∷ others) valid are =
     let parts = both_true (last == 1) (are_accepted false others) are in
-    let one : last ≡ 1 = grind (arith, nat_tests, parts.0) in
+    let one = one_site last others are in
     record {
       others = happenings others;
       parted = ap (λ (n : ℕ). Open n ∷ happenings others) one;

@@ -15,7 +15,7 @@ use Rattle.rs_world.specs.declared.report.Given.{Given}
 use Rattle.rs_world.specs.declared.world.Datagram.{Datagram}
 use Rattle.rs_world.specs.declared.world.World.{World}
 use Rattle.rs_world.specs.Course.{Happening, Post, Deliver, sent_by, given_of, ask_datagram, happen}
-use Rattle.rs_world.proofs.Heard.{IsOf, IsAsked, Does, Posts, Hears, Stays, hearing, does}
+use Rattle.rs_world.proofs.Heard.{IsOf, IsAsked, Does, Posts, Hears, Stays, hearing, hears_next, does}
 use Rattle.rs_world.proofs.Played.{IsPost, IsPlayed}
 
 -- the happening is a delivery, by which this ask is heard
@@ -47,6 +47,14 @@ hears_on : (world : World) (came : SiteState × Outs) → came.1.sends ≡ [] �
 hears_on world came none =
     let sent : world.sent ++ flat_map (sent_by 1) came.1.sends ≡ world.sent = ap (λ (sends : List (Peer × List ℕ)). world.sent ++ flat_map (sent_by 1) sends) none ∙ append-nil world.sent in
     ap (λ (all : List Datagram). record { sites = came.0 ∷ []; sent = all; delivered = world.delivered + 1; replies = world.replies ++ map given_of came.1.replies; history = world.history ++ came.1.decided }) sent
+
+-- the world behind the delivery of the ask that waits longest
+pub turns_heard : (before : List Happening) (world : World) (site : SiteState) → IsOf world site → (origin : Origin) (text : List ℕ) → IsPost origin text → slice_get world.sent world.delivered ≡ Some (ask_datagram origin text)
+    → happen world Deliver ≡ onward world (on_first site (peers.Client 0) origin text).0 (map given_of (on_first site (peers.Client 0) origin text).1.replies) (on_first site (peers.Client 0) origin text).1.decided
+turns_heard before world site one origin text post there =
+    let from = peers.Client 0 in
+    let came = on_first site from origin text in
+    hears_next before world site one origin text post there ∙ hears_on world came (no_sends site from origin text came (asked site from origin text))
 
 -- one of the cases is there
 pub turns : (before : List Happening) (world : World) (site : SiteState) → IsOf world site → ((i : ℕ) (datagram : Datagram) → slice_get world.sent i ≡ Some datagram → IsAsked before datagram) → (happening : Happening) → IsPlayed happening

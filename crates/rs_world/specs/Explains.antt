@@ -7,7 +7,7 @@ use Rattle.rs_base.specs.declared.txn.Origin.{Origin}
 use Rattle.rs_base.specs.declared.reply.Denial.{Denial}
 use Rattle.rs_base.specs.declared.reply.Reply.{Reply}
 use Rattle.rs_base.specs.declared.reply.Reply.TheVariants as replies
-use Rattle.rs_parse.specs.Parsing.{statement_of}
+use Rattle.rs_site.specs.Statement.{statement_of}
 use Rattle.rs_mean.specs.Database.{IsInOrder}
 use Rattle.rs_mean.specs.Meaning.{Outcome}
 use Rattle.rs_sched.specs.declared.event.Event.{Event}

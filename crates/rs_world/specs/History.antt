@@ -1,7 +1,7 @@
 -- A history: the list of committed executions, in their serial order, and the database that it builds.
 use Rattle.std.specs.Prelude.{List, fold, Option, Some, None}
-use Rattle.rs_ast.specs.declared.stmt.Stmt.{Stmt}
-use Rattle.rs_parse.specs.Parsing.{statement_of}
+use Rattle.rs_mean.specs.declared.built.Stmt.{Stmt}
+use Rattle.rs_site.specs.Statement.{statement_of}
 use Rattle.rs_mean.specs.Database.{Database, empty}
 use Rattle.rs_mean.specs.Meaning.{Outcome, meaning}
 use Rattle.rs_site.specs.Asking.{execution_of}

@@ -1,4 +1,5 @@
 pub mod Accepted
+pub mod Answered
 pub mod Course
 pub mod Explains
 pub mod History

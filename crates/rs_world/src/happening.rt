@@ -100,8 +100,8 @@ impl World {
         self.take_input(alloc, site, &input)
     }
 
-    #[tactic(auto, using(crate::proofs::Deliveries::none_left, crate::proofs::Deliveries::one_of))]
     /// So many deliveries at most. Where nothing is left to deliver, no more are made.
+    #[tactic(auto, using(crate::proofs::Deliveries::none_left, crate::proofs::Deliveries::one_of))]
     fn deliver_most(&mut self, alloc: Global, most: usize) -> Result<(), NoMemory>
         ensures { OnOk result (self.new ≡ fold spec.happen self.old (replicate most spec.Deliver)) }
     {

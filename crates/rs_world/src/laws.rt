@@ -4,10 +4,16 @@ ghost use Rattle.std.specs.Prelude.{List, Bool.false, IsTrue};
 ghost use Rattle.rs_sched.specs.declared.event.Event.{Event};
 ghost use Rattle.rs_sched.specs.Schedule.{IsValid};
 ghost use Rattle.rs_world.specs.Accepted.{are_accepted};
+ghost use Rattle.rs_world.specs.Answered.{EachAskIsAnswered, HaveTransactions};
 ghost use Rattle.rs_world.specs.Course.{course, report_of};
 ghost use Rattle.rs_world.specs.Explains.{Explains};
 
 /// The report of the course of each valid and accepted list of events explains them.
 pub fn explained()
     ensures { (events : List Event) → IsValid events → IsTrue (are_accepted false events) → Explains events (report_of (course events)) }
+{}
+
+/// By the report of the course of each valid and accepted list of fewer than 2^64 - 1 events each ask is answered.
+pub fn answered()
+    ensures { (events : List Event) → IsValid events → IsTrue (are_accepted false events) → HaveTransactions events → EachAskIsAnswered events (report_of (course events)) }
 {}

@@ -2,7 +2,7 @@
 
 ghost use Rattle.std.specs.Prelude.{◌≡◌, reverse, IfOk};
 
-use rs_base::NoMemory;
+use rs_base::{NoMemory, with_room};
 use sqlite_items::Items;
 use std::alloc::Global;
 
@@ -10,7 +10,7 @@ use std::alloc::Global;
 pub fn turned<T: Drop>(alloc: Global, mut items: Items<T>) -> Result<Items<T>, NoMemory>
     ensures { IfOk result (λ turned. reverse turned ≡ items) }
 {
-    let mut turned = Items::new(alloc);
+    let mut turned = with_room(alloc, items.len())?;
     while let Some(item) = items.pop() {
         turned.push(item)?;
     }

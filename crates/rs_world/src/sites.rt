@@ -1,6 +1,6 @@
 //! The sites of a world.
 
-ghost use Rattle.std.specs.Prelude.{◌≡◌, ◌-◌, [], map, IfOk, slice_get};
+ghost use Rattle.std.specs.Prelude.{◌≡◌, ◌-◌, [], map, IfOk, OnErr, slice_get};
 ghost use Rattle.std.specs.List.{range_with_len};
 ghost use Rattle.rs_site.specs.State.{opened};
 ghost use Rattle.rs_world.specs.Course.{view_of};
@@ -61,6 +61,7 @@ impl Sites {
     ) -> Result<Option<Outs>, NoMemory>
         ensures sites { IfOk result (λ _. self.new ≡ spec.sites_after self.old (number - 1) input.now (slice_get self.old (number - 1))) }
         ensures outs { IfOk result (λ outs. outs ≡ spec.outs_of input.now (slice_get self.old (number - 1))) }
+        ensures err { OnErr result (self.new ≡ self.old) }
     {
         match self.sites.get_mut(usize::from(number.number() - 1)) {
             Some(site) => Ok(Some(site.step(alloc, input)?)),

@@ -86,9 +86,7 @@ fn events_of(alloc: Global, texts: &[&[u8]]) -> Result<Events, NoMemory> {
 fn played(alloc: Global, events: &Events) -> Result<Bytes, NoMemory> {
     let world = World::play(alloc, events.as_slice())?;
     let report = world.into_report(alloc)?;
-    let mut text = Bytes::new(alloc);
-    print_report(alloc, &report, &mut text)?;
-    Ok(text)
+    print_report(alloc, &report)
 }
 
 fn reports(alloc: Global, texts: &[&[u8]], report: &[u8]) -> bool {

@@ -4,6 +4,7 @@ ghost use Rattle.std.specs.Prelude.{◌≡◌, List, false, IsTrue, OnOk, IfOk};
 ghost use Rattle.rs_sched.specs.declared.event.Event.{Event};
 ghost use Rattle.rs_sched.specs.Schedule.{IsValid};
 ghost use Rattle.rs_world.specs.Accepted.{are_accepted};
+ghost use Rattle.rs_world.specs.Answered.{EachAskIsAnswered, HaveTransactions};
 ghost use Rattle.rs_world.specs.Course as spec;
 ghost use Rattle.rs_world.specs.Explains.{Explains};
 
@@ -93,10 +94,12 @@ impl World {
         })
     }
 
-    /// What the world reports. It explains each valid and accepted list of events by which the world came to be.
+    /// What the world reports. It explains each valid and accepted list of events by which the world came to be, and each
+    /// ask of these is answered.
     pub fn into_report(self, alloc: Global) -> Result<Report, NoMemory>
         ensures value { IfOk result (λ report. report ≡ spec.report_of self) }
         ensures explains { IfOk result (λ report. (events : List Event) → IsValid events → IsTrue (are_accepted false events) → self ≡ spec.course events → Explains events report) }
+        ensures answers { IfOk result (λ report. (events : List Event) → IsValid events → IsTrue (are_accepted false events) → HaveTransactions events → self ≡ spec.course events → EachAskIsAnswered events report) }
     {
         self.reported(alloc)
     }

@@ -1,3 +1,4 @@
+pub mod FewEvents
 pub mod ReadSource
 pub mod ReadingOf
 pub mod RefusalLaws

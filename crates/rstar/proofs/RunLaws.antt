@@ -7,6 +7,7 @@ use Rattle.std.proofs.lemmas.List.{take_all, take_at, append-nil}
 use Rattle.rs_base.specs.Streams.{AppendsFront}
 use Rattle.rs_sched.specs.declared.event.Event.{Event}
 use Rattle.rs_world.specs.declared.report.Report.{Report}
+use Rattle.rs_world.specs.Answered.{EachAskIsAnswered}
 use Rattle.rs_world.specs.Explains.{Explains}
 use Rattle.rs_world.specs.ReportText.{printed_report}
 use Rattle.rstar.specs.declared.run.Finding.{Finding}
@@ -18,12 +19,13 @@ use Rattle.rstar.proofs.ReadingOf.{source_is_played}
 -- ---- from bytes to the report
 
 -- the report of the course of the events that were read
-pub reports : (bytes text start : List ℕ) (given : List Event) (report : Report) → IsSource bytes given → Explains given report → start ≡ [] → text ≡ start ++ printed_report report → Reports bytes text
-reports bytes text start given report source explains empty printed = record {
+pub reports : (bytes text start : List ℕ) (given : List Event) (report : Report) → IsSource bytes given → Explains given report → EachAskIsAnswered given report → start ≡ [] → text ≡ start ++ printed_report report → Reports bytes text
+reports bytes text start given report source explains answers empty printed = record {
   given = given;
   is_source = source;
   report = report;
   explains = explains;
+  answers = answers;
   prints = printed ∙ ap (λ (front : List ℕ). front ++ printed_report report) empty;
 }
 

@@ -6,6 +6,7 @@ use Rattle.std.specs.declared.alloc.Global.{Global}
 use Rattle.rs_base.specs.Streams.{AppendsFront}
 use Rattle.rs_sched.specs.declared.event.Event.{Event}
 use Rattle.rs_world.specs.declared.report.Report.{Report}
+use Rattle.rs_world.specs.Answered.{EachAskIsAnswered}
 use Rattle.rs_world.specs.Explains.{Explains}
 use Rattle.rs_world.specs.ReportText.{printed_report}
 use Rattle.rstar.specs.declared.source.Cause.{Cause}
@@ -25,12 +26,14 @@ most_read = 16777217
 abbrev pub IsNoSource : List ℕ → Type 0
 IsNoSource bytes = (given : List Event) → IsSource bytes given → ⊥
 
--- The text reports a source of these bytes: they stand for events, and the text is that of a report that explains them.
+-- The text reports a source of these bytes: they stand for events, and the text is that of a report that explains them, and by
+-- which each of their asks is answered.
 pub record Reports (bytes text : List ℕ) : Type 0 where
   pub given : List Event
   pub is_source : IsSource bytes given
   pub report : Report
   pub explains : Explains given report
+  pub answers : EachAskIsAnswered given report
   pub prints : text ≡ printed_report report
 
 -- The text says at which line these bytes are refused, and why.

@@ -88,6 +88,7 @@ fn find_owed<S: Source>(alloc: Global, words: &[String], source: &mut S) -> Resu
     ensures replay { IsErrOf result Fault.Failed → spec.IsReplay words.now }
     ensures faults { CountsFault result (S.faults source.old) (S.faults source.new) }
     ensures reads { ConsumesAtMost spec.most_read (S.left source.old) (S.left source.new) }
+    ensures unread { (spec.IsReplay words.now → ⊥) → S.left source.new ≡ S.left source.old }
 {
     if !is_replay(words) {
         return Ok(Owed {
@@ -102,7 +103,7 @@ fn find_owed<S: Source>(alloc: Global, words: &[String], source: &mut S) -> Resu
 /// Does the work of the program whose words these are, and answers its status:
 ///
 /// - 0: the source was read to its end, and the report of its events was written;
-/// - 1: the words are not the one word `replay`; `usage` was written;
+/// - 1: the words are not the one word `replay`; `usage` was written, and the source wasn't read;
 /// - 2: the bytes read, to the end of the source or one byte more than a source has, are no source; the line at which
 ///   they are refused was written, and the cause;
 /// - 3: the source failed, and nothing was written;
@@ -137,6 +138,7 @@ pub fn run<S: Source, K: Sink>(alloc: Global, words: &[String], source: &mut S, 
         → (result ≡ 2) ⊎ (result ≡ 5) }
 
     ensures reads { ConsumesAtMost spec.most_read (S.left source.old) (S.left source.new) }
+    ensures unread { (spec.IsReplay words.now → ⊥) → S.left source.new ≡ S.left source.old }
     ensures source_faults { result ≢ 3 → S.faults source.new ≡ S.faults source.old }
     ensures sink_faults { result ≢ 4 → K.faults sink.new ≡ K.faults sink.old }
 {

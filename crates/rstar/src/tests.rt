@@ -3,6 +3,7 @@ mod devices;
 mod full_rows;
 mod later_lines;
 mod limits;
+mod outside;
 mod reports;
 mod sessions;
 

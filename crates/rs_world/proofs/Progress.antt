@@ -1,0 +1,239 @@
+-- At each moment the replies answer the asks that were delivered, and the rest of what was posted waits.
+use Rattle.std.proofs.Common.{◌≡◌, ◌<◌, ◌≤◌, ℕ, zero, suc, ◌+◌, Bool, true, false, cond, ◌||◌, inl, inr, List, [], ◌∷◌, ◌++◌, map, length, take, Some, None, refl, sym, ap, subst, ◌∙◌, arith, length-append}
+use Rattle.std.specs.Prelude.{◌==◌}
+use Rattle.std.specs.List.{slice_get}
+use Rattle.std.proofs.lemmas.Bool.Decides.{nat_tests}
+use Rattle.std.proofs.lemmas.List.{append-nil, length-map, take-append-le, map-append}
+use Rattle.std.proofs.lemmas.List.Concat.{flat_map-append}
+use Rattle.std.proofs.lemmas.List.Sums.{fold_push}
+use Rattle.rs_base.specs.declared.peer.Peer.TheVariants as peers
+use Rattle.rs_base.specs.declared.txn.Origin.{Origin}
+use Rattle.rs_base.specs.declared.reply.Reply.{Reply}
+use Rattle.rs_sched.specs.declared.event.Event.{Event}
+use Rattle.rs_site.specs.declared.session.Session.{Session}
+use Rattle.rs_site.specs.declared.outs.Outs.{Outs}
+use Rattle.rs_site.specs.declared.outs.Decided.{Decided}
+use Rattle.rs_site.specs.Asking.{last_number, on_first, remembering}
+use Rattle.rs_site.specs.Sessions.{Book, session_of, is_there, may_go_on}
+use Rattle.rs_site.specs.State.{SiteState}
+use Rattle.rs_site.proofs.Asked.{Asked, Refused, ToldAgain, Silent, NoRequest, Spent, Executed, asked}
+use Rattle.rs_site.proofs.PutSessions.{session_put, session_beside, user_tells}
+use Rattle.rs_world.specs.declared.report.Given.{Given}
+use Rattle.rs_world.specs.declared.world.Datagram.{Datagram}
+use Rattle.rs_world.specs.declared.world.World.{World}
+use Rattle.rs_world.specs.Answered.{numbered, requests_answered}
+use Rattle.rs_world.specs.Course.{Happening, Open, Post, Deliver, Noise, given_of, ask_datagram, happen}
+use Rattle.rs_world.proofs.AtEach.{IsLaw, Moment, at_each}
+use Rattle.rs_world.proofs.Deliveries.{nothing_left}
+use Rattle.rs_world.proofs.Entered.{Entered}
+use Rattle.rs_world.proofs.Entering.{entered_law}
+use Rattle.rs_world.proofs.Gets.{get_push, get_at, take-get}
+use Rattle.rs_world.proofs.Heard.{noise_stays}
+use Rattle.rs_world.proofs.Played.{IsPost, IsPlayed, Playable}
+use Rattle.rs_world.proofs.Posts.{posts_in, posts_of, posts_push, numbered_of, waits, waiting}
+use Rattle.rs_world.proofs.Turns.{onward, turns_heard}
+use Rattle.rs_world.proofs.Walk.{after, after_push, walk}
+
+-- ---- the last request of each user is answered
+
+abbrev pub GoOn : SiteState → Type 0
+GoOn site = (user : List ℕ) → may_go_on (session_of user site.sessions) ≡ true
+
+or_true : (b : Bool) → (b || true) ≡ true
+or_true true = refl
+or_true false = refl
+
+go_on_remembering : (site : SiteState) (origin : Origin) (reply : Reply) → GoOn site → GoOn (remembering site origin reply)
+go_on_remembering site origin reply go user =
+    elim (user_tells user origin.user) [
+      | inl e ↦
+          let is : session_of user book ≡ session = ap (λ (u : List ℕ). session_of u book) e ∙ session_put origin.user session site.sessions in
+          ap may_go_on is ∙ or_true (origin.number == 0)
+      | inr differ ↦ ap may_go_on (session_beside origin.user session site.sessions user differ) ∙ go user
+    ]
+  where
+    session : Session
+    session = record { last = origin.number; reply = Some reply }
+
+    book : Book
+    book = (remembering site origin reply).sessions
+
+go_on_heard : (site : SiteState) (origin : Origin) (text : List ℕ) (came : SiteState × Outs) → Asked site (peers.Client 0) origin text came → GoOn site → GoOn came.0
+go_on_heard site origin text came (Refused reply refusal is e) go = subst (λ (p : SiteState × Outs). GoOn p.0) (sym e) go
+go_on_heard site origin text came (ToldAgain reply last kept e) go = subst (λ (p : SiteState × Outs). GoOn p.0) (sym e) go
+go_on_heard site origin text came (Silent last kept e) go = subst (λ (p : SiteState × Outs). GoOn p.0) (sym e) go
+go_on_heard site origin text came (NoRequest next none e) go = subst (λ (p : SiteState × Outs). GoOn p.0) (sym e) (go_on_remembering site origin _ go)
+go_on_heard site origin text came (Spent next stmt reads spent e) go = subst (λ (p : SiteState × Outs). GoOn p.0) (sym e) go
+go_on_heard site origin text came (Executed next stmt reads room e) go = subst (λ (p : SiteState × Outs). GoOn p.0) (sym e) (go_on_remembering site origin _ go)
+
+abbrev pub Works : List Event → List Happening → SiteState → List Given → List Decided → Type 0
+Works given before site givens history = GoOn site × Entered given site givens history
+
+pub works_law : (given : List Event) → IsLaw given (Works given)
+works_law given = record {
+  first = (λ user. refl, (entered_law given).first);
+  later = λ before happening site givens history holds. holds;
+  heard = λ before site origin text came hearing delivers cases holds. (go_on_heard site origin text came cases holds.0, (entered_law given).heard before site origin text came hearing delivers cases holds.1);
+}
+
+-- ---- what an ask gives that is heard
+
+-- where no reply is kept, no request was taken
+pub none_kept : (session : Session) → session.reply ≡ None → may_go_on session ≡ true → session.last ≡ 0
+none_kept session kept go =
+    let none : is_there session.reply ≡ false = ap is_there kept in
+    let first : (session.last == 0) ≡ true = by_none (session.last == 0) (is_there session.reply) none go in
+    grind (arith, nat_tests, first)
+  where
+    by_none : (a b : Bool) → b ≡ false → (a || b) ≡ true → a ≡ true
+    by_none true b e h = refl
+    by_none false b e h = absurd cc
+
+not_numbered : (origin : Origin) → origin.number ≡ 0 → numbered origin ≡ []
+not_numbered origin none = ap (λ (n : ℕ). cond (n == 0) [] (origin ∷ [])) none
+
+module _ (site : SiteState) (origin : Origin) (text : List ℕ) (go : GoOn site) (room : site.begun < last_number) where
+  abbrev IsTold : SiteState × Outs → Type 0
+  IsTold came = (requests_answered (map given_of came.1.replies) ≡ numbered origin) × (length came.1.decided ≤ 1)
+
+  pub told_once : (came : SiteState × Outs) → Asked site (peers.Client 0) origin text came → IsTold came
+  told_once came (Refused reply refusal is e) = subst IsTold (sym e) (append-nil (numbered origin), omega arith)
+  told_once came (ToldAgain reply last kept e) = subst IsTold (sym e) (append-nil (numbered origin), omega arith)
+  told_once came (Silent last kept e) = subst IsTold (sym e) (sym (not_numbered origin (last.number ∙ none_kept (session_of origin.user site.sessions) kept (go origin.user))), omega arith)
+  told_once came (NoRequest next none e) = subst IsTold (sym e) (append-nil (numbered origin), omega arith)
+  told_once came (Spent next stmt reads spent e) = absurd (omega (arith, spent, room))
+  told_once came (Executed next stmt reads is e) = subst IsTold (sym e) (append-nil (numbered origin), omega arith)
+
+-- ---- what holds at each moment
+
+abbrev pub Posting : Type 0
+Posting = Origin × List ℕ
+
+abbrev pub datagram_of : Posting → Datagram
+datagram_of post = ask_datagram post.0 post.1
+
+pub record Progress (done : List Happening) (world : World) : Type 0 where
+  pub sent : world.sent ≡ map datagram_of (posts_of done)
+  pub posts : (i : ℕ) (post : Posting) → slice_get (posts_of done) i ≡ Some post → IsPost post.0 post.1
+  pub waits_for : length world.sent ≡ world.delivered + waiting done
+  pub answered : requests_answered world.replies ≡ numbered_of (take world.delivered (posts_of done))
+  pub entries : length world.history ≤ world.delivered
+
+get_map : {X Y : Type 0} (f : X → Y) (xs : List X) (i : ℕ) (x : X) → slice_get xs i ≡ Some x → slice_get (map f xs) i ≡ Some (f x)
+get_map f [] i x e = absurd cc
+get_map {X} f (y ∷ ys) zero x e = let same : y ≡ x = cc in ap (λ (z : X). Some (f z)) same
+get_map f (y ∷ ys) (suc i) x e = get_map f ys i x e
+
+nothing_at : {X : Type 0} (i : ℕ) (x : X) → slice_get [] i ≡ Some x → ⊥
+nothing_at i x e = cc
+
+progress_first : Progress [] (after [])
+progress_first = record { sent = refl; posts = λ i post at. absurd (nothing_at i post at); waits_for = refl; answered = refl; entries = omega arith }
+
+waiting_push : (done : List Happening) (happening : Happening) → waiting (done ++ happening ∷ []) ≡ waits (waiting done) happening
+waiting_push done happening = fold_push waits 0 done happening
+
+module _ (done : List Happening) (world : World) (now : Progress done world) where
+  as_many : length (posts_of done) ≡ length world.sent
+  as_many = sym (ap (λ (ds : List Datagram). length ds) now.sent ∙ length-map (posts_of done) datagram_of)
+
+  -- nothing is posted, and nothing comes of it
+  on_nothing : (happening : Happening) → posts_in happening ≡ [] → waits (waiting done) happening ≡ waiting done → Progress (done ++ happening ∷ []) world
+  on_nothing happening none same = record {
+    sent = now.sent ∙ ap (λ (ps : List Posting). map datagram_of ps) (sym posts_same);
+    posts = λ i post at. now.posts i post (ap (λ (ps : List Posting). slice_get ps i) (sym posts_same) ∙ at);
+    waits_for = now.waits_for ∙ ap (λ (n : ℕ). world.delivered + n) (sym (waiting_push done happening ∙ same));
+    answered = now.answered ∙ ap (λ (ps : List Posting). numbered_of (take world.delivered ps)) (sym posts_same);
+    entries = now.entries;
+  }
+    where
+      posts_same : posts_of (done ++ happening ∷ []) ≡ posts_of done
+      posts_same = posts_push done happening ∙ ap (λ (ps : List Posting). posts_of done ++ ps) none ∙ append-nil (posts_of done)
+
+  on_post : (origin : Origin) (text : List ℕ) → IsPost origin text → Progress (done ++ Post origin text ∷ []) (record world { sent = world.sent ++ ask_datagram origin text ∷ [] })
+  on_post origin text is = record {
+    sent = ap (λ (ds : List Datagram). ds ++ ask_datagram origin text ∷ []) now.sent ∙ sym (map-append datagram_of (posts_of done) ((origin, text) ∷ [])) ∙ ap (λ (ps : List Posting). map datagram_of ps) (sym longer);
+    posts = posts_next;
+    waits_for = omega (arith, length-append world.sent (ask_datagram origin text ∷ []), now.waits_for, waiting_push done (Post origin text));
+    answered = now.answered ∙ ap numbered_of (sym (take-append-le world.delivered (posts_of done) ((origin, text) ∷ []) (omega (arith, as_many, now.waits_for))))
+        ∙ ap (λ (ps : List Posting). numbered_of (take world.delivered ps)) (sym longer);
+    entries = now.entries;
+  }
+    where
+      longer : posts_of (done ++ Post origin text ∷ []) ≡ posts_of done ++ (origin, text) ∷ []
+      longer = posts_push done (Post origin text)
+
+      posts_next : (i : ℕ) (post : Posting) → slice_get (posts_of (done ++ Post origin text ∷ [])) i ≡ Some post → IsPost post.0 post.1
+      posts_next i post at =
+          elim (get_push (posts_of done) (origin, text) post i (ap (λ (ps : List Posting). slice_get ps i) (sym longer) ∙ at)) [
+            | inl p ↦ now.posts i post p.1
+            | inr p ↦ subst (λ (p : Posting). IsPost p.0 p.1) p.1 is
+          ]
+
+  -- an ask that waited is heard
+  on_heard : (site : SiteState) (post : Posting) → slice_get (posts_of done) world.delivered ≡ Some post → (came : SiteState × Outs)
+      → requests_answered (map given_of came.1.replies) ≡ numbered post.0 → length came.1.decided ≤ 1 → (w : ℕ) → waiting done ≡ suc w
+      → Progress (done ++ Deliver ∷ []) (onward world came.0 (map given_of came.1.replies) came.1.decided)
+  on_heard site post at came told few w some = record {
+    sent = now.sent ∙ ap (λ (ps : List Posting). map datagram_of ps) (sym posts_same);
+    posts = λ i other there. now.posts i other (ap (λ (ps : List Posting). slice_get ps i) (sym posts_same) ∙ there);
+    waits_for = omega (arith, now.waits_for, some, waiting_push done Deliver);
+    answered =
+        flat_map-append (λ (given : Given). numbered given.origin) world.replies (map given_of came.1.replies)
+        ∙ ap (λ (os : List Origin). os ++ requests_answered (map given_of came.1.replies)) now.answered
+        ∙ ap (λ (os : List Origin). numbered_of (take world.delivered (posts_of done)) ++ os) (told ∙ sym (append-nil (numbered post.0)))
+        ∙ sym (flat_map-append (λ (p : Posting). numbered p.0) (take world.delivered (posts_of done)) (post ∷ []))
+        ∙ ap numbered_of (sym (take-get (posts_of done) world.delivered post at))
+        ∙ ap (λ (ps : List Posting). numbered_of (take (world.delivered + 1) ps)) (sym posts_same);
+    entries = omega (arith, length-append world.history came.1.decided, now.entries, few);
+  }
+    where
+      posts_same : posts_of (done ++ Deliver ∷ []) ≡ posts_of done
+      posts_same = posts_push done Deliver ∙ append-nil (posts_of done)
+
+-- ---- each moment
+
+module _ (given : List Event) (can : Playable given) (few : length (posts_of can.others) < last_number) where
+  moment : (done behind : List Happening) → can.others ≡ done ++ behind → Moment (Works given) (Open 1 ∷ done) (after done)
+  moment done behind parted = at_each given can (Works given) (works_law given) done behind parted
+
+  few_now : (done behind : List Happening) → can.others ≡ done ++ behind → length (posts_of done) < last_number
+  few_now done behind parted =
+      let parts : posts_of can.others ≡ posts_of done ++ posts_of behind = ap posts_of parted ∙ flat_map-append posts_in done behind in
+      omega (arith, few, ap (λ (ps : List Posting). length ps) parts, length-append (posts_of done) (posts_of behind))
+
+  pub room_now : (done behind : List Happening) → can.others ≡ done ++ behind → Progress done (after done) → (site : SiteState) → site.begun ≡ length (after done).history → site.begun < last_number
+  room_now done behind parted now site begun = omega (arith, begun, now.entries, now.waits_for, as_many done (after done) now, few_now done behind parted)
+
+  by_waiting : (done behind : List Happening) → can.others ≡ done ++ Deliver ∷ behind → Progress done (after done) → (n : ℕ) → waiting done ≡ n → Progress (done ++ Deliver ∷ []) (happen (after done) Deliver)
+  by_waiting done behind parted now zero none =
+      let left : happen (after done) Deliver ≡ after done = nothing_left (after done) (omega (arith, now.waits_for, none)) in
+      subst (Progress (done ++ Deliver ∷ [])) (sym left) (on_nothing done (after done) now Deliver refl (omega (arith, none)))
+  by_waiting done behind parted now (suc w) some =
+      let world = after done in
+      let found = get_at (posts_of done) world.delivered (omega (arith, now.waits_for, some, as_many done world now)) in
+      let post = found.0 in
+      let is = now.posts world.delivered post found.1 in
+      let m = moment done (Deliver ∷ behind) parted in
+      let there : slice_get world.sent world.delivered ≡ Some (datagram_of post) = ap (λ (ds : List Datagram). slice_get ds world.delivered) now.sent ∙ get_map datagram_of (posts_of done) world.delivered post found.1 in
+      let came : SiteState × Outs = on_first m.site (peers.Client 0) post.0 post.1 in
+      let told = told_once m.site post.0 post.1 m.holds.0 (room_now done (Deliver ∷ behind) parted now m.site m.holds.1.begun) came (asked m.site (peers.Client 0) post.0 post.1) in
+      subst (Progress (done ++ Deliver ∷ [])) (sym (turns_heard (Open 1 ∷ done) world m.site m.stands.one post.0 post.1 is there)) (on_heard done world now m.site post found.1 came told.0 told.1 w some)
+
+  on_happening : (done : List Happening) (happening : Happening) (behind : List Happening) → can.others ≡ done ++ happening ∷ behind → IsPlayed happening → Progress done (after done)
+      → Progress (done ++ happening ∷ []) (happen (after done) happening)
+  on_happening done (Open last) behind parted is now = absurd is
+  on_happening done (Post origin text) behind parted is now = on_post done (after done) now origin text is
+  on_happening done Deliver behind parted is now = by_waiting done behind parted now (waiting done) refl
+  on_happening done (Noise number bytes) behind parted is now =
+      let m = moment done (Noise number bytes ∷ behind) parted in
+      subst (Progress (done ++ Noise number bytes ∷ [])) (sym (noise_stays (Open 1 ∷ done) (after done) m.site m.stands.one number bytes is)) (on_nothing done (after done) now (Noise number bytes) refl refl)
+
+  abbrev At : List Happening → Type 0
+  At done = Progress done (after done)
+
+  at_step : (done : List Happening) (happening : Happening) (behind : List Happening) → can.others ≡ done ++ happening ∷ behind → IsPlayed happening → At done → At (done ++ happening ∷ [])
+  at_step done happening behind parted is now = subst (Progress (done ++ happening ∷ [])) (sym (after_push done happening)) (on_happening done happening behind parted is now)
+
+  pub progress : (done behind : List Happening) → can.others ≡ done ++ behind → Progress done (after done)
+  progress done behind parted = walk At can.others can.are at_step progress_first done behind parted

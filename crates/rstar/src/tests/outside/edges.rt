@@ -1,0 +1,245 @@
+use super::course::Course;
+use super::{gives, refuses};
+use rs_base::{Bytes, NoMemory};
+use std::alloc::Global;
+use std::test::*;
+
+const FRONT: &[u8] = b"sites 1\nask 1 ann 1 1 ";
+
+const NOTHING: &[u8] = b"history 0\nruns 0\nsite 1 up 1\n";
+
+const NO_REQUEST: &[u8] = b"reply 1 ann 1 1 syntax 0\nhistory 0\nruns 0\nsite 1 up 1\n";
+
+// The bytes of an ask of ann's first request, up to its text.
+const ASK: &[u8] = b"noise 1 520103616e6e00000001000000000000000100000000";
+
+// A piece, how often a text of 255 bytes has it, and what stands behind it; each as it is spelled in a statement.
+const LONGEST: [(&[u8], u64, &[u8]); 5] = [
+    (b"x", 255, b""),
+    (b"''", 255, b""),
+    (b"\xC3\xA9", 127, b"x"),
+    (b"\xF0\x9F\x98\x80", 63, b"xyz"),
+    (b" ", 254, b"''"),
+];
+
+// What stands before a piece, the piece, how often it stands there, what stands behind, and the fault of it.
+const FAULTS: [(&[u8], &[u8], u64, &[u8], u64, &[u8]); 20] = [
+    (FRONT, b" ", 8193, b"\nsettle\n", 2, b"too long"),
+    (FRONT, b" ", 8193, b"", 2, b"too long"),
+    (FRONT, b"x", 8192, b"\r\rx\nsettle\n", 2, b"too long"),
+    (FRONT, b"\xC3\xA9", 4096, b"x\nsettle\n", 2, b"too long"),
+    (FRONT, b"x", 20000, b"\nfly\n", 2, b"too long"),
+    (FRONT, b"x", 8192, b"\nfly\n", 3, b"unknown word"),
+    (FRONT, b"x", 8192, b"\n\n", 4, b"later"),
+    (FRONT, b"x", 8191, b"\xC3\xA9\n", 2, b"too long"),
+    (FRONT, b"x", 8192, b"\xC3\n", 2, b"not UTF-8"),
+    (
+        b"sites 1\nask 1 Ann 1 1 ",
+        b"x",
+        8193,
+        b"\n",
+        2,
+        b"bad fields",
+    ),
+    (
+        b"sites 2\nask 3 ann 1 1 ",
+        b"x",
+        8193,
+        b"\n",
+        2,
+        b"bad fields",
+    ),
+    (
+        b"sites 2\nask 2 ann 1 1 ",
+        b"x",
+        8193,
+        b"\n",
+        2,
+        b"too long",
+    ),
+    (
+        b"ask 1 ann 1 1 ",
+        b"x",
+        8193,
+        b"\nsites 1\n",
+        1,
+        b"no sites line",
+    ),
+    (b"sites 1\nnoise 1 ", b"00", 32768, b"0\n", 2, b"bad fields"),
+    (b"sites 1\nnoise 1 ", b"00", 32769, b"F\n", 2, b"bad fields"),
+    (b"sites ", b"1", 10000, b"\n", 1, b"no sites line"),
+    (b"sites 1\n", b"settle", 10000, b"\n", 2, b"unknown word"),
+    (b"sites 1\nsettle ", b"9", 10000, b"\n", 2, b"bad fields"),
+    (
+        b"sites 1\nask 1 ",
+        b"a",
+        10000,
+        b" 1 1 \xFF\n",
+        2,
+        b"bad fields",
+    ),
+    (b"sites 1\n", b"\n", 10000, b"fly", 10002, b"unknown word"),
+];
+
+// The same with the report of it.
+const REPORTS: [(&[u8], &[u8], u64, &[u8], &[u8]); 21] = [
+    (FRONT, b" ", 8192, b"\r\r\r\nsettle\n", NO_REQUEST),
+    (FRONT, b"\xC3\xA9", 4096, b"\nsettle\r", NO_REQUEST),
+    (b"sites 1\nnoise 1 ", b"00", 32768, b"\n", NOTHING),
+    (b"sites 1\nnoise 1 ", b"00", 32769, b"", NOTHING),
+    (b"sites 1\nnoise 1 ", b"52", 100_000, b"\r\n", NOTHING),
+    (b"sites 1\n", b"#", 100_000, b"\n", NOTHING),
+    (b"sites 1\n", b"#\xFF\r\n", 10000, b"", NOTHING),
+    (b"sites 1\n", b"settle\n", 10000, b"", NOTHING),
+    (b"sites 1", b"\r", 10000, b"", NOTHING),
+    (
+        b"sites 1\nask 1 ann 1 1 x",
+        b"\r",
+        10000,
+        b"\nsettle\n",
+        NO_REQUEST,
+    ),
+    (
+        b"sites 1\nask 1 ann 1 1 ",
+        b"\r",
+        10000,
+        b"\nsettle\n",
+        NO_REQUEST,
+    ),
+    (FRONT, b"x", 8192, b"\nsettle\n", NO_REQUEST),
+    (FRONT, b"(", 8192, b"\nsettle\n", NO_REQUEST),
+    (FRONT, b"'", 8192, b"\nsettle\n", NO_REQUEST),
+    (FRONT, b"''", 4095, b"'\nsettle\n", NO_REQUEST),
+    (FRONT, b";", 8192, b"\nsettle\n", NO_REQUEST),
+    (FRONT, b"0", 8192, b"\nsettle\n", NO_REQUEST),
+    (
+        FRONT,
+        b"INSERT INTO t VALUES (-",
+        356,
+        b"\nsettle\n",
+        NO_REQUEST,
+    ),
+    (FRONT, b"SELECT * FROM t;", 512, b"\nsettle\n", NO_REQUEST),
+    (
+        FRONT,
+        b"create table values ",
+        400,
+        b"\nsettle\n",
+        NO_REQUEST,
+    ),
+    (
+        FRONT,
+        b"INSERT INTO t VALUES (1),",
+        327,
+        b"\nsettle\n",
+        NO_REQUEST,
+    ),
+];
+
+/// A front, a piece so often, and what stands behind.
+fn filled(
+    alloc: Global,
+    front: &[u8],
+    piece: &[u8],
+    count: u64,
+    back: &[u8],
+) -> Result<Bytes, NoMemory> {
+    let mut text = Bytes::from_slice(alloc, front)?;
+    for _ in 0..count {
+        text.extend(piece)?;
+    }
+    text.extend(back)?;
+    Ok(text)
+}
+
+/// Puts each longest text as a row, and isn't taken with one byte more.
+fn put_longest(alloc: Global, course: &mut Course, rows: &mut Bytes) -> Result<(), NoMemory> {
+    let insert = b"INSERT INTO t VALUES (";
+    for case in &LONGEST {
+        let mut value = filled(alloc, b"'", case.0, case.1, case.2)?;
+        let longer = filled(alloc, insert, value.as_slice(), 1, b"y')")?;
+        course.ask(alloc, longer.as_slice(), b"syntax 0")?;
+        value.extend(b"'")?;
+        let longest = filled(alloc, insert, value.as_slice(), 1, b")")?;
+        course.execute(alloc, longest.as_slice(), b"done 1\nchanged 1")?;
+        rows.extend(value.as_slice())?;
+        rows.extend(b"\n")?;
+    }
+    Ok(())
+}
+
+/// A text has 255 bytes at most, however it is spelled.
+fn texts_have_255_bytes(alloc: Global) -> Result<bool, NoMemory> {
+    let mut course = Course::new(alloc)?;
+    course.execute(alloc, b"CREATE TABLE t (a TEXT)", b"done 1\nok")?;
+    let mut shown = Bytes::from_slice(alloc, b"table ann@1.t@1 made 1.1.1 rows 5\n")?;
+    put_longest(alloc, &mut course, &mut shown)?;
+    course.ends(alloc, shown.as_slice())
+}
+
+/// Requests of 8,192 bytes are executed, and stand whole in the history.
+fn requests_have_8192_bytes(alloc: Global) -> Result<bool, NoMemory> {
+    let mut course = Course::new(alloc)?;
+    let create = filled(alloc, b"CREATE TABLE t", b" ", 8170, b"(a TEXT)")?;
+    course.execute(alloc, create.as_slice(), b"done 1\nok")?;
+    let insert = filled(alloc, b"INSERT INTO t VALUES ('x')", b",('x')", 1361, b"")?;
+    course.execute(alloc, insert.as_slice(), b"done 1\nchanged 1362")?;
+    let select = filled(alloc, b"", b"\t", 8177, b"SELECT * FROM u")?;
+    course.execute(alloc, select.as_slice(), b"denied 1 NoTable")?;
+    let table = b"table ann@1.t@1 made 1.1.1 rows 1362\n";
+    let shown = filled(alloc, table, b"'x'\n", 1362, b"")?;
+    course.ends(alloc, shown.as_slice())
+}
+
+/// The bytes of an ask are given to nobody where its text has 8,192 bytes, and are no message where it has one more.
+fn long_asks_are_noise(alloc: Global) -> Result<bool, NoMemory> {
+    let mut course = Course::new(alloc)?;
+    let most = filled(alloc, ASK, b"8040", 1, b"")?;
+    let longest = filled(alloc, most.as_slice(), b"78", 8192, b"")?;
+    course.line(longest.as_slice())?;
+    let more = filled(alloc, ASK, b"8140", 1, b"")?;
+    let longer = filled(alloc, more.as_slice(), b"78", 8193, b"")?;
+    course.line(longer.as_slice())?;
+    course.execute(alloc, b"SELECT * FROM t", b"denied 1 NoTable")?;
+    course.ends(alloc, b"")
+}
+
+/// More than 16,777,216 bytes are too many, wrong as they are besides: 65,281 times 257 are one more.
+fn long_sources_are_too_long(alloc: Global) -> Result<bool, NoMemory> {
+    let piece = filled(alloc, b"", b"x", 257, b"")?;
+    let source = filled(alloc, b"", piece.as_slice(), 65281, b"")?;
+    Ok(refuses(alloc, source.as_slice(), 0, b"too long"))
+}
+
+#[test]
+fn limits_are_reached_and_kept(rt: HostRuntime) -> Result<(), Fail> {
+    let alloc = rt.alloc();
+    for case in &FAULTS {
+        let source = filled(alloc, case.0, case.1, case.2, case.3)?;
+        assert!(rt;
+            refuses(alloc, source.as_slice(), case.4, case.5),
+            "{:?} {} times, then {:?}",
+            case.1,
+            case.2,
+            case.3
+        );
+    }
+    for case in &REPORTS {
+        let source = filled(alloc, case.0, case.1, case.2, case.3)?;
+        assert!(rt;
+            gives(alloc, source.as_slice(), 0, case.4),
+            "{:?} {} times, then {:?}",
+            case.1,
+            case.2,
+            case.3
+        );
+    }
+    assert!(rt; texts_have_255_bytes(alloc)?, "texts of 255 bytes");
+    assert!(rt; requests_have_8192_bytes(alloc)?, "requests of 8,192 bytes");
+    assert!(rt;
+        long_sources_are_too_long(alloc)?,
+        "sources that are too long"
+    );
+    assert!(rt; long_asks_are_noise(alloc)?, "asks as noise");
+    Ok(())
+}
