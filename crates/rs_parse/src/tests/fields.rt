@@ -110,10 +110,10 @@ fn reads_a_table(rt: HostRuntime) -> Result<(), Fail> {
 }
 
 fn dropped(alloc: Global, text: &[u8]) -> Result<NameText, Fail> {
-    match parse(alloc, text)? {
-        Stmt::DropTable { name } => Ok(name),
-        _ => Err(Fail::from("a table is dropped")),
-    }
+    let Stmt::DropTable { name } = parse(alloc, text)? else {
+        return Err(Fail::from("a table is dropped"));
+    };
+    Ok(name)
 }
 
 #[test]
@@ -174,7 +174,7 @@ fn reads_synonyms_and_places(rt: HostRuntime) -> Result<(), Fail> {
     assert!(rt; is_ident(&synonym, b"s"));
     assert_eq!(rt; name, whole(b"ann", 1, b"t", 2)?);
     let dropped = parse(rt.alloc(), b"DROP SYNONYM r")?;
-    assert!(rt; matches!(dropped, Stmt::DropSynonym { synonym } if is_ident(&synonym, b"r")));
+    assert!(rt; matches!(&dropped, Stmt::DropSynonym { synonym } if is_ident(synonym, b"r")));
     let Stmt::Migrate { name, to } = parse(rt.alloc(), b"MIGRATE TABLE t@1 TO 16")? else {
         return Err(Fail::from("a table is moved"));
     };
@@ -202,9 +202,9 @@ fn reads_programs(rt: HostRuntime) -> Result<(), Fail> {
     let second = body.get(1).ok_or("a second statement")?;
     assert!(rt; matches!(second, Dml::Select(select) if select.clauses.len() == 0));
     let none = parse(rt.alloc(), b"COMPILE p () AS DELETE FROM t; END")?;
-    assert!(rt; matches!(none, Stmt::Compile { params, .. } if params.len() == 0));
+    assert!(rt; matches!(&none, Stmt::Compile { params, .. } if params.len() == 0));
     let dropped = parse(rt.alloc(), b"DROP PROGRAM q;")?;
-    assert!(rt; matches!(dropped, Stmt::DropProgram { program } if is_ident(&program, b"q")));
+    assert!(rt; matches!(&dropped, Stmt::DropProgram { program } if is_ident(program, b"q")));
     Ok(())
 }
 
