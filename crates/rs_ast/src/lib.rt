@@ -9,10 +9,7 @@ mod print;
 mod reserved;
 mod select;
 mod spell;
-mod stmt;
-#[cfg(test)]
-mod tests;
-mod token;
+mod stmt;mod token;
 
 pub use change::{Arith, Expr, Set, Sets, Term, TermRow, TermRows};
 pub use clause::{Clause, Clauses, Cmp, Cmps, Op, Operand};

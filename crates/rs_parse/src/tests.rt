@@ -4,6 +4,7 @@ mod clauses;
 mod cuts;
 mod fields;
 mod limits;
+mod printed;
 mod queries;
 mod requests;
 mod schema;
@@ -11,6 +12,8 @@ mod tokens;
 mod words;
 
 use super::*;
+use rs_ast::print_stmt;
+use rs_base::Bytes;
 use std::alloc::{AllocError, Global};
 use std::process::Abort;
 use std::test::*;
@@ -213,4 +216,22 @@ fn texts_have_255_bytes(rt: HostRuntime) -> Result<(), Fail> {
         assert_eq!(rt; place_of(alloc, longer.as_slice()), Some(22));
     }
     Ok(())
+}
+
+/// The text is that of a statement, and this is the text of the statement.
+fn is_printed(alloc: Global, text: &[u8], printed: &[u8]) -> bool {
+    let Ok(stmt) = parse(alloc, text) else {
+        return false;
+    };
+    let mut out = Bytes::new(alloc);
+    print_stmt(alloc, &stmt, &mut out).is_ok() && out.as_slice() == printed
+}
+
+#[test]
+fn statements_are_printed_and_read_again(rt: HostRuntime) {
+    let alloc = rt.alloc();
+    for case in &printed::PRINTED {
+        assert!(rt; is_printed(alloc, case.0, case.1), "{:?}", shown(case.0));
+        assert!(rt; is_printed(alloc, case.1, case.1), "{:?}", shown(case.1));
+    }
 }
