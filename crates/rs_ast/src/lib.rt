@@ -9,7 +9,8 @@ mod print;
 mod reserved;
 mod select;
 mod spell;
-mod stmt;mod token;
+mod stmt;
+mod token;
 
 pub use change::{Arith, Expr, Set, Sets, Term, TermRow, TermRows};
 pub use clause::{Clause, Clauses, Cmp, Cmps, Op, Operand};

@@ -2,7 +2,6 @@ mod accepted;
 mod changes;
 mod clauses;
 mod cuts;
-mod fields;
 mod limits;
 mod printed;
 mod queries;
