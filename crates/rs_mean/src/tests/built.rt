@@ -64,8 +64,10 @@ fn three_statements_are_executed_so_far(rt: HostRuntime) -> Result<(), Fail> {
     else {
         return Err("an INSERT of a literal isn't executed".into());
     };
-    let values = rows.as_slice()[0].as_slice();
-    assert!(rt; matches!(values, [Value::Int(7)]));
+    let [row] = rows.as_slice() else {
+        return Err("one row is put in".into());
+    };
+    assert!(rt; matches!(row.as_slice(), [Value::Int(7)]));
     Ok(())
 }
 
