@@ -11,7 +11,7 @@ use Rattle.rs_msg.specs.declared.message.Ask.{Ask}
 use Rattle.rs_msg.specs.declared.message.Message.{Message}
 use Rattle.rs_msg.specs.declared.message.Message.TheVariants as messages
 use Rattle.rs_msg.specs.Reader.{message_of}
-use Rattle.rs_site.specs.Statement.{statement_of}
+use Rattle.rs_site.specs.Statement.{statement_of, place_told}
 use Rattle.rs_site.specs.declared.input.Input.{Input}
 use Rattle.rs_site.specs.declared.input.Input.TheVariants as inputs
 use Rattle.rs_site.specs.declared.outs.Outs.{Outs}
@@ -37,7 +37,8 @@ pub record Remembers (site : SiteState) (step : Step) : Type 0 where
   pub from : Peer
   pub origin : Origin
   pub next : IsNext site origin
-  pub is : step ≡ no_request site from origin
+  pub place : ℕ
+  pub is : step ≡ no_request site from origin place
 
 -- a statement was taken and executed
 pub record Executes (site : SiteState) (step : Step) : Type 0 where
@@ -64,7 +65,7 @@ module _ (site : SiteState) (from : Peer) where
 
   module _ (origin : Origin) (text : List ℕ) (next : IsNext site origin) where
     taken_as_kind : (read : Option Stmt) → statement_of text ≡ read → Kind site (taken_as site from origin text read)
-    taken_as_kind None e = inr (inl (record { from = from; origin = origin; next = next; is = refl }))
+    taken_as_kind None e = inr (inl (record { from = from; origin = origin; next = next; place = place_told text; is = refl }))
     taken_as_kind (Some stmt) e =
         by_test (Kind site) (site.begun == last_number) (quiet site) (executed site from origin text stmt) (λ _. inl (refl, refl))
         (λ _. inr (inr (record { from = from; origin = origin; text = text; stmt = stmt; next = next; spelled = e; is = refl })))

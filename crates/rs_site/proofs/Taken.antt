@@ -5,7 +5,7 @@ use Rattle.rs_base.specs.declared.txn.Origin.{Origin}
 use Rattle.rs_base.specs.declared.reply.Reply.{Reply}
 use Rattle.rs_base.specs.declared.reply.Reply.TheVariants as replies
 use Rattle.rs_mean.specs.declared.built.Stmt.{Stmt}
-use Rattle.rs_site.specs.Statement.{statement_of}
+use Rattle.rs_site.specs.Statement.{statement_of, place_told}
 use Rattle.rs_msg.specs.declared.message.Ask.{Ask}
 use Rattle.rs_site.specs.declared.outs.Outs.{Outs}
 use Rattle.rs_site.specs.Asking.{tells, no_request, executed, last_number, origin_of, on_first}
@@ -38,7 +38,7 @@ module _ (site : SiteState) (origin : Origin) (epoch : origin.epoch ≡ site.epo
 
 -- A request is taken: its text is no request, or it is executed.
 pub data Taken (site : SiteState) (from : Peer) (origin : Origin) (text : List ℕ) (came : SiteState × Outs) : Type 0 where
-  NotRead : statement_of text ≡ None → came ≡ no_request site from origin → Taken site from origin text came
+  NotRead : statement_of text ≡ None → came ≡ no_request site from origin (place_told text) → Taken site from origin text came
   Read : (stmt : Stmt) → statement_of text ≡ Some stmt → came ≡ executed site from origin text stmt → Taken site from origin text came
 
 pub taken : (site : SiteState) (from : Peer) (origin : Origin) (text : List ℕ) → origin.epoch ≡ site.epoch → origin.number ≡ (session_of origin.user site.sessions).last + 1 → may_go_on (session_of origin.user site.sessions) ≡ true
@@ -56,7 +56,7 @@ taken_as : (site : SiteState) (from : Peer) (ask : Ask) (came : SiteState × Out
 taken_as site from ask came (NotRead none e) =
     subst (λ (read : Option Stmt). IsTakenAs site from ask read came.0 came.1) (sym none)
     (subst (λ (p : SiteState × Outs). IsTakenAs site from ask None p.0 p.1) (sym e)
-    (record { told = refl; kept = session_put ask.user (record { last = ask.number; reply = Some (replies.Syntax 0) }) site.sessions }, refl))
+    (record { told = refl; kept = session_put ask.user (record { last = ask.number; reply = Some (replies.Syntax (place_told ask.text)) }) site.sessions }, refl))
 taken_as site from ask came (Read stmt reads e) =
     subst (λ (read : Option Stmt). IsTakenAs site from ask read came.0 came.1) (sym reads)
     (subst (λ (p : SiteState × Outs). IsTakenAs site from ask (Some stmt) p.0 p.1) (sym e)

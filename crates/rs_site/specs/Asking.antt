@@ -7,7 +7,7 @@ use Rattle.rs_base.specs.declared.reply.Reply.{Reply}
 use Rattle.rs_base.specs.declared.reply.Reply.TheVariants as replies
 use Rattle.rs_base.specs.Printing.{printed_reply}
 use Rattle.rs_mean.specs.declared.built.Stmt.{Stmt}
-use Rattle.rs_site.specs.Statement.{statement_of}
+use Rattle.rs_site.specs.Statement.{statement_of, place_told}
 use Rattle.rs_mean.specs.declared.execution.Execution.{Execution}
 use Rattle.rs_mean.specs.Meaning.{Outcome, meaning}
 use Rattle.rs_msg.specs.declared.message.Ask.{Ask}
@@ -69,12 +69,13 @@ executed site from origin text stmt =
 abbrev pub last_number : ℕ
 last_number = 18446744073709551615
 
-abbrev pub no_request : SiteState → Peer → Origin → SiteState × Outs
-no_request site from origin = (remembering site origin (replies.Syntax 0), tells from origin 0 (replies.Syntax 0))
+-- the text says no statement that is executed, and goes wrong at this place
+abbrev pub no_request : SiteState → Peer → Origin → ℕ → SiteState × Outs
+no_request site from origin place = (remembering site origin (replies.Syntax place), tells from origin 0 (replies.Syntax place))
 
 -- A text that is no request is told so. A statement for which the epoch has no transaction left is dropped.
 abbrev pub taken_as : SiteState → Peer → Origin → List ℕ → Option Stmt → SiteState × Outs
-taken_as site from origin text None = no_request site from origin
+taken_as site from origin text None = no_request site from origin (place_told text)
 taken_as site from origin text (Some stmt) = if site.begun == last_number then quiet site else executed site from origin text stmt
 
 abbrev pub taken : SiteState → Peer → Origin → List ℕ → SiteState × Outs

@@ -8,7 +8,7 @@ use Rattle.rs_mean.specs.Meaning.{meaning}
 use Rattle.rs_msg.specs.declared.message.Ask.{Ask}
 use Rattle.rs_msg.specs.declared.message.Message.TheVariants as messages
 use Rattle.rs_msg.specs.Message.{IsMessage}
-use Rattle.rs_site.specs.Statement.{statement_of}
+use Rattle.rs_site.specs.Statement.{statement_of, place_told}
 use Rattle.rs_site.specs.declared.input.Input.{Input}
 use Rattle.rs_site.specs.declared.input.Input.TheVariants as inputs
 use Rattle.rs_site.specs.declared.outs.Decided.{Decided}
@@ -72,7 +72,7 @@ pub record IsAnswered (site : SiteState) (from : Peer) (ask : Ask) (reply : Repl
 
 -- A text that is no request is told so, and nothing is committed. A statement is committed, and its reply is its outcome.
 abbrev pub IsTakenAs : SiteState → Peer → Ask → Option Stmt → SiteState → Outs → Type 0
-IsTakenAs site from ask None new outs = IsAnswered site from ask (replies.Syntax 0) new outs × (outs.decided ≡ [])
+IsTakenAs site from ask None new outs = IsAnswered site from ask (replies.Syntax (place_told ask.text)) new outs × (outs.decided ≡ [])
 IsTakenAs site from ask (Some stmt) new outs =
     IsAnswered site from ask (reply_of (meaning site.database (execution_of (next_txn site) (origin_of site ask) stmt)).1) new outs
     × (outs.decided ≡ (record { txn = next_txn site; origin = origin_of site ask; text = ask.text }) ∷ [])

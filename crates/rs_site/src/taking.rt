@@ -1,10 +1,10 @@
 //! An ask that is taken.
 
-ghost use Rattle.std.specs.Prelude.{◌≡◌, ◌+◌, ◌<◌, IfOk, OnOk, OnErr, Some};
+ghost use Rattle.std.specs.Prelude.{◌≡◌, ◌+◌, ◌<◌, IfOk, IfErr, OnOk, OnErr, Some, None, min};
 ghost use Rattle.rs_mean.specs.Meaning.{meaning};
 ghost use Rattle.rs_site.specs.Asking as spec;
 ghost use Rattle.rs_site.specs.State.{next_txn};
-ghost use Rattle.rs_site.specs.Statement.{statement_of};
+ghost use Rattle.rs_site.specs.Statement.{statement_of, place_told};
 
 use crate::outs::{Decided, Outs, commits, nothing, tells};
 use crate::session::Session;
@@ -24,14 +24,26 @@ fn reply_of(outcome: Outcome) -> Reply
     }
 }
 
-/// The statement of a text, where it is one that is executed so far.
-#[tactic(auto, unfolding(crate::specs::Statement::statement_of))]
-fn statement(alloc: Global, text: &[u8]) -> Result<Option<Stmt>, NoMemory>
-    ensures { IfOk result (λ stmt. stmt ≡ statement_of text.now) }
+/// The place of a fault as a reply tells it.
+fn told(place: usize) -> u32
+    ensures { result ≡ min place 4294967295 }
+{
+    u32::try_from(place).unwrap_or(u32::MAX)
+}
+
+/// The statement of a text, where it is one that is executed so far, and else what is told of the text.
+#[tactic(auto, unfolding(crate::specs::Statement::statement_of, crate::specs::Statement::place_told))]
+fn statement(alloc: Global, text: &[u8]) -> Result<Result<Stmt, u32>, NoMemory>
+    ensures statement { IfOk result (λ said. IfOk said (λ stmt. statement_of text.now ≡ Some stmt)) }
+    ensures none { IfOk result (λ said. OnErr said (statement_of text.now ≡ None)) }
+    ensures place { IfOk result (λ said. IfErr said (λ place. place ≡ place_told text.now)) }
 {
     match parse(alloc, text) {
-        Ok(stmt) => Stmt::built(alloc, stmt),
-        Err(ParseFault::Syntax { .. }) => Ok(None),
+        Ok(stmt) => match Stmt::built(alloc, stmt)? {
+            Some(stmt) => Ok(Ok(stmt)),
+            None => Ok(Err(0)),
+        },
+        Err(ParseFault::Syntax { place }) => Ok(Err(told(place))),
         Err(ParseFault::NoMemory) => Err(NoMemory),
     }
 }
@@ -143,18 +155,19 @@ impl Site {
         self.execute(alloc, from, origin, text, stmt)
     }
 
-    /// Takes a text that is no request.
+    /// Takes a text that says no statement that is executed, and goes wrong at this place.
     fn take_no_request(
         &mut self,
         alloc: Global,
         from: &Peer,
         origin: &Origin,
+        place: u32,
     ) -> Result<Outs, NoMemory>
-        ensures ok { IfOk result (λ outs. spec.no_request self.old from.now origin.now ≡ (self.new, outs)) }
+        ensures ok { IfOk result (λ outs. spec.no_request self.old from.now origin.now place ≡ (self.new, outs)) }
         ensures err { OnErr result (self.new ≡ self.old) }
     {
-        let outs = tells(alloc, from, origin, 0, Reply::Syntax(0))?;
-        self.remember(origin, Reply::Syntax(0))?;
+        let outs = tells(alloc, from, origin, 0, Reply::Syntax(place))?;
+        self.remember(origin, Reply::Syntax(place))?;
         Ok(outs)
     }
 
@@ -170,8 +183,8 @@ impl Site {
         ensures err { OnErr result (self.new ≡ self.old) }
     {
         match statement(alloc, text.as_slice())? {
-            Some(stmt) => self.take_statement(alloc, from, origin, text, stmt),
-            None => self.take_no_request(alloc, from, origin),
+            Ok(stmt) => self.take_statement(alloc, from, origin, text, stmt),
+            Err(place) => self.take_no_request(alloc, from, origin, place),
         }
     }
 }

@@ -9,7 +9,7 @@ use Rattle.rs_base.specs.declared.txn.Origin.{Origin}
 use Rattle.rs_base.specs.declared.reply.Reply.{Reply}
 use Rattle.rs_base.specs.declared.reply.Reply.TheVariants as replies
 use Rattle.rs_mean.specs.declared.built.Stmt.{Stmt}
-use Rattle.rs_site.specs.Statement.{statement_of}
+use Rattle.rs_site.specs.Statement.{statement_of, place_told}
 use Rattle.rs_sched.specs.declared.event.Event.{Event}
 use Rattle.rs_sched.specs.declared.event.Event.TheVariants as events
 use Rattle.rs_sched.specs.Schedule.{IsValid, IsLater, AreLater}
@@ -154,14 +154,14 @@ module _ (given : List Event) (valid : IsValid given) (are : IsTrue (are_accepte
         ap (λ (gs : List Given). slice_get gs (length front)) (c.replies_are ∙ ap (λ (gs : List Given). (front ++ gs) ++ c.told_behind) one)
         ∙ get_front (front ++ told_as reply ∷ []) c.told_behind (told_as reply) (length front) (get_last front (told_as reply))
 
-    told_no_request : Takes given origin text → statement_of text ≡ None → Contains (course given).replies (told_as (replies.Syntax 0))
+    told_no_request : Takes given origin text → statement_of text ≡ None → Contains (course given).replies (told_as (replies.Syntax (place_told text)))
     told_no_request takes none = by_taken (comes takes.before takes.site takes.hears) (taken_then takes (comes takes.before takes.site takes.hears))
       where
-        by_taken : (c : Comes takes.before takes.site) → Taken takes.site (peers.Client 0) origin text c.came → Contains (course given).replies (told_as (replies.Syntax 0))
+        by_taken : (c : Comes takes.before takes.site) → Taken takes.site (peers.Client 0) origin text c.came → Contains (course given).replies (told_as (replies.Syntax (place_told text)))
         by_taken c (Read s read e) = absurd (let both : None ≡ Some s = sym none ∙ read in cc)
         by_taken c (NotRead not_read e) =
             let front : List Given = (world_after takes.before).replies in
-            let syntax : Given = told_as (replies.Syntax 0) in
+            let syntax : Given = told_as (replies.Syntax (place_told text)) in
             let whole : (course given).replies ≡ (front ++ syntax ∷ []) ++ c.told_behind = c.replies_are ∙ ap (λ (p : SiteState × Outs). (front ++ map given_of p.1.replies) ++ c.told_behind) e in
             subst (λ (gs : List Given). Contains gs syntax) (sym whole) (Contains-append_left (front ++ syntax ∷ []) c.told_behind syntax (Contains-push front syntax))
 

@@ -6,7 +6,7 @@ use Rattle.rs_base.specs.declared.txn.Origin.{Origin}
 use Rattle.rs_base.specs.declared.reply.Reply.{Reply}
 use Rattle.rs_base.specs.declared.reply.Reply.TheVariants as replies
 use Rattle.rs_mean.specs.declared.built.Stmt.{Stmt}
-use Rattle.rs_site.specs.Statement.{statement_of}
+use Rattle.rs_site.specs.Statement.{statement_of, place_told}
 use Rattle.rs_sched.specs.declared.event.Event.{Event}
 use Rattle.rs_site.specs.declared.outs.Outs.{Outs}
 use Rattle.rs_site.specs.declared.outs.Decided.{Decided}
@@ -54,9 +54,9 @@ module _ (given : List Event) (before : List Happening) (state : SiteState) (ori
       let there = holds.known origin.user reply kept committed in
       (there.0, subst (λ (o : Origin). IsMeaningAt history there.0 (record { origin = o; reply = reply })) asked there.1)) holds
 
-  on_no_request : IsNext state origin → Entered given (remembering state origin (replies.Syntax 0)) (givens ++ (record { origin = origin; reply = replies.Syntax 0 }) ∷ []) (history ++ [])
-  on_no_request next = on_told (remembering state origin (replies.Syntax 0)) (replies.Syntax 0) (λ committed. absurd committed)
-      (entered_remembered given state givens history origin (replies.Syntax 0) next.number home next.epoch (λ committed. committed) holds)
+  on_no_request : IsNext state origin → Entered given (remembering state origin (replies.Syntax (place_told text))) (givens ++ (record { origin = origin; reply = replies.Syntax (place_told text) }) ∷ []) (history ++ [])
+  on_no_request next = on_told (remembering state origin (replies.Syntax (place_told text))) (replies.Syntax (place_told text)) (λ committed. absurd committed)
+      (entered_remembered given state givens history origin (replies.Syntax (place_told text)) next.number home next.epoch (λ committed. committed) holds)
 
   on_executed : IsNext state origin → (stmt : Stmt) → statement_of text ≡ Some stmt → After (executed state (peers.Client 0) origin text stmt)
   on_executed next stmt reads = entered_executed given state givens history origin text stmt reads next.number home next.epoch hearing.stands.one.me hearing.stands.one.epoch

@@ -93,7 +93,7 @@ is_law all = record {
     posted = λ i entry at. Contains-append_left before (happening ∷ []) (Post entry.origin entry.text) (holds.posted i entry at);
   };
   heard = λ before site origin text came next delivers cases holds. record {
-    kept = told_keeps all before site (peers.Client 0) origin text next.hears (next.post.site ∙ sym next.stands.one.me) (world_after before).replies (world_after before).history refl
+    kept = told_keeps all before site (peers.Client 0) origin text next.hears next.post.within.text (next.post.site ∙ sym next.stands.one.me) (world_after before).replies (world_after before).history refl
         holds.kept came cases (ap (λ (w : World). w.replies) delivers);
     posted = posted_heard before (world_after before).history holds.posted origin text next.posted came.1.decided (are_of site origin text came cases);
   };

@@ -49,8 +49,8 @@ IsKeepable (replies.Gap last) = ⊥
 
 pub record Kept (all : List Event) (site : SiteState) (tolds : List Given) (history : List Decided) : Type 0 where
   pub truly : (k : ℕ) (told : Given) → slice_get tolds k ≡ Some told → IsGivenTruly all k told
-  pub syntax_told : (k place : ℕ) (told : Given) → slice_get tolds k ≡ Some told → told.reply ≡ replies.Syntax place → (place ≡ 0) × IsNoRequest all told.origin
-  pub syntax_kept : (user : List ℕ) (place : ℕ) → (session_of user site.sessions).reply ≡ Some (replies.Syntax place) → (place ≡ 0) × IsNoRequest all (last_origin site user)
+  pub syntax_told : (k place : ℕ) (told : Given) → slice_get tolds k ≡ Some told → told.reply ≡ replies.Syntax place → IsNoRequest all told.origin place
+  pub syntax_kept : (user : List ℕ) (place : ℕ) → (session_of user site.sessions).reply ≡ Some (replies.Syntax place) → IsNoRequest all (last_origin site user) place
   pub keepable : (user : List ℕ) (reply : Reply) → (session_of user site.sessions).reply ≡ Some reply → IsKeepable reply
   pub settled : (k : ℕ) (told : Given) → slice_get tolds k ≡ Some told → IsFinal told.reply → IsSettled site told
   pub again : (k l : ℕ) (a b : Given) → slice_get tolds k ≡ Some a → slice_get tolds l ≡ Some b → a.origin ≡ b.origin → IsFinal a.reply → IsFinal b.reply → a.reply ≡ b.reply
@@ -73,7 +73,7 @@ entered_more history more request at = record { place = at.place; entry = at.ent
 
 module _ (all : List Event) (site : SiteState) (tolds : List Given) (history : List Decided) (holds : Kept all site tolds history)
     (told : Given) (truly : IsGivenTruly all (length tolds) told)
-    (syntax_is : (place : ℕ) → told.reply ≡ replies.Syntax place → (place ≡ 0) × IsNoRequest all told.origin)
+    (syntax_is : (place : ℕ) → told.reply ≡ replies.Syntax place → IsNoRequest all told.origin place)
     (final : IsFinal told.reply → IsKept site told) (entered : IsCommitted told.reply → IsEntered history told.origin) where
   meets : (k : ℕ) (a : Given) → slice_get tolds k ≡ Some a → a.origin ≡ told.origin → IsFinal a.reply → IsFinal told.reply → a.reply ≡ told.reply
   meets k a at same final_a final_told =
@@ -92,11 +92,11 @@ module _ (all : List Event) (site : SiteState) (tolds : List Given) (history : L
         | inr p ↦ subst (λ (n : ℕ). IsGivenTruly all n g) (sym p.0) (subst (λ (x : Given). IsGivenTruly all (length tolds) x) p.1 truly)
       ]
 
-  syntax_next : (k place : ℕ) (g : Given) → slice_get (tolds ++ told ∷ []) k ≡ Some g → g.reply ≡ replies.Syntax place → (place ≡ 0) × IsNoRequest all g.origin
+  syntax_next : (k place : ℕ) (g : Given) → slice_get (tolds ++ told ∷ []) k ≡ Some g → g.reply ≡ replies.Syntax place → IsNoRequest all g.origin place
   syntax_next k place g at =
       elim (get_push tolds told g k at) [
         | inl p ↦ holds.syntax_told k place g p.1
-        | inr p ↦ subst (λ (x : Given). x.reply ≡ replies.Syntax place → (place ≡ 0) × IsNoRequest all x.origin) p.1 (syntax_is place)
+        | inr p ↦ subst (λ (x : Given). x.reply ≡ replies.Syntax place → IsNoRequest all x.origin place) p.1 (syntax_is place)
       ]
 
   settled_next : (k : ℕ) (g : Given) → slice_get (tolds ++ told ∷ []) k ≡ Some g → IsFinal g.reply → IsSettled site g
@@ -143,7 +143,7 @@ module _ (all : List Event) (site : SiteState) (tolds : List Given) (history : L
 module _ (all : List Event) (site : SiteState) (tolds : List Given) (history : List Decided) (holds : Kept all site tolds history)
     (origin : Origin) (home : origin.site ≡ site.me) (next : IsNext site origin) (reply : Reply) (after : SiteState) (me : after.me ≡ site.me) (epoch : after.epoch ≡ site.epoch)
     (sessions : after.sessions ≡ with_session origin.user (record { last = origin.number; reply = Some reply }) site.sessions) (more : List Decided)
-    (may_be : IsKeepable reply) (syntax_is : (place : ℕ) → reply ≡ replies.Syntax place → (place ≡ 0) × IsNoRequest all origin) (entered : IsCommitted reply → IsEntered (history ++ more) origin) where
+    (may_be : IsKeepable reply) (syntax_is : (place : ℕ) → reply ≡ replies.Syntax place → IsNoRequest all origin place) (entered : IsCommitted reply → IsEntered (history ++ more) origin) where
   abbrev taken_session : Session
   taken_session = record { last = origin.number; reply = Some reply }
 
@@ -159,14 +159,14 @@ module _ (all : List Event) (site : SiteState) (tolds : List Given) (history : L
   as_before : (user : List ℕ) → user ≢ origin.user → last_origin site user ≡ last_origin after user
   as_before user differ = same_origin (last_origin site user) (last_origin after user) (sym me) refl (sym epoch) (sym (ap (λ (s : Session). s.last) (of_other user differ)))
 
-  syntax_after : (user : List ℕ) (place : ℕ) → (session_of user after.sessions).reply ≡ Some (replies.Syntax place) → (place ≡ 0) × IsNoRequest all (last_origin after user)
+  syntax_after : (user : List ℕ) (place : ℕ) → (session_of user after.sessions).reply ≡ Some (replies.Syntax place) → IsNoRequest all (last_origin after user) place
   syntax_after user place kept =
       elim (user_tells user origin.user) [
         | inl e ↦
             let both : Some reply ≡ Some (replies.Syntax place) = sym (ap (λ (s : Session). s.reply) (of_user user e)) ∙ kept in
             let is : reply ≡ replies.Syntax place = cc in
-            subst (λ (o : Origin). (place ≡ 0) × IsNoRequest all o) (is_last user e) (syntax_is place is)
-        | inr differ ↦ subst (λ (o : Origin). (place ≡ 0) × IsNoRequest all o) (as_before user differ) (holds.syntax_kept user place (sym (ap (λ (s : Session). s.reply) (of_other user differ)) ∙ kept))
+            subst (λ (o : Origin). IsNoRequest all o place) (is_last user e) (syntax_is place is)
+        | inr differ ↦ subst (λ (o : Origin). IsNoRequest all o place) (as_before user differ) (holds.syntax_kept user place (sym (ap (λ (s : Session). s.reply) (of_other user differ)) ∙ kept))
       ]
 
   keepable_after : (user : List ℕ) (kept : Reply) → (session_of user after.sessions).reply ≡ Some kept → IsKeepable kept

@@ -14,5 +14,5 @@ pub refusals_true : (all : List Event) → IsValid all → IsTrue (are_accepted 
 refusals_true all valid are = (holds_last all valid are).holds.kept.truly
 
 pub syntax_true : (all : List Event) → IsValid all → IsTrue (are_accepted false all)
-    → (k place : ℕ) (given : Given) → slice_get (report_of (course all)).replies k ≡ Some given → given.reply ≡ replies.Syntax place → (place ≡ 0) × IsNoRequest all given.origin
+    → (k place : ℕ) (given : Given) → slice_get (report_of (course all)).replies k ≡ Some given → given.reply ≡ replies.Syntax place → IsNoRequest all given.origin place
 syntax_true all valid are = (holds_last all valid are).holds.kept.syntax_told

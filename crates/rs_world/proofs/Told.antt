@@ -1,5 +1,5 @@
 -- What an ask that is heard gives, case by case, keeps what holds of the replies, the entries and the sessions.
-use Rattle.std.proofs.Common.{◌≡◌, ℕ, List, [], ◌∷◌, ◌++◌, length, map, Some, None, Ok, Err, refl, sym, ap, subst, ◌∙◌}
+use Rattle.std.proofs.Common.{◌≡◌, ◌≤◌, ℕ, List, [], ◌∷◌, ◌++◌, length, map, Some, None, Ok, Err, refl, sym, ap, subst, ◌∙◌}
 use Rattle.std.specs.Prelude.{slice_get}
 use Rattle.std.proofs.lemmas.List.{append-nil}
 use Rattle.rs_base.specs.declared.peer.Peer.{Peer}
@@ -7,7 +7,8 @@ use Rattle.rs_base.specs.declared.txn.Origin.{Origin}
 use Rattle.rs_base.specs.declared.reply.Reply.{Reply}
 use Rattle.rs_base.specs.declared.reply.Reply.TheVariants as replies
 use Rattle.rs_mean.specs.declared.built.Stmt.{Stmt}
-use Rattle.rs_site.specs.Statement.{statement_of}
+use Rattle.rs_site.specs.Statement.{statement_of, place_told}
+use Rattle.rs_site.proofs.Said.{told_nothing}
 use Rattle.rs_mean.specs.Meaning.{Outcome, meaning}
 use Rattle.rs_sched.specs.declared.event.Event.{Event}
 use Rattle.rs_site.specs.declared.outs.Decided.{Decided}
@@ -74,7 +75,7 @@ get_last (y ∷ ys) x = get_last ys x
 -- ---- an ask is heard
 
 module _ (all : List Event) (before : List Happening) (site : SiteState) (from : Peer) (origin : Origin) (text : List ℕ) (hears : Hears all before site origin text)
-    (home : origin.site ≡ site.me) (tolds : List Given) (history : List Decided) (number : length (world_after before).replies ≡ length tolds)
+    (short : length text ≤ 8192) (home : origin.site ≡ site.me) (tolds : List Given) (history : List Decided) (number : length (world_after before).replies ≡ length tolds)
     (holds : Kept all site tolds history) where
   abbrev told_as : Reply → Given
   told_as reply = record { origin = origin; reply = reply }
@@ -113,23 +114,23 @@ module _ (all : List Event) (before : List Happening) (site : SiteState) (from :
   on_repeat reply last kept gives =
       let is : last_origin site origin.user ≡ origin = same_origin (last_origin site origin.user) origin (sym home) refl (sym last.epoch) (sym last.number) in
       without_entry (told_as reply ∷ []) (said all site tolds history holds (told_as reply) (truly_as reply gives (true_if_keepable site origin reply (holds.keepable origin.user reply kept)))
-      (λ place e. subst (λ (o : Origin). (place ≡ 0) × IsNoRequest all o) is (holds.syntax_kept origin.user place (kept ∙ ap (λ (r : Reply). Some r) e)))
+      (λ place e. subst (λ (o : Origin). IsNoRequest all o place) is (holds.syntax_kept origin.user place (kept ∙ ap (λ (r : Reply). Some r) e)))
       (λ final. record { number = last.number; reply = kept })
       (λ committed. subst (λ (o : Origin). IsEntered history o) is (holds.entered_kept origin.user reply kept committed)))
 
   on_taken : IsNext site origin → (reply : Reply) → (after : SiteState) → after.me ≡ site.me → after.epoch ≡ site.epoch → after.sessions ≡ (remembering site origin reply).sessions → (more : List Decided)
-      → IsKeepable reply → ((place : ℕ) → reply ≡ replies.Syntax place → (place ≡ 0) × IsNoRequest all origin) → (IsCommitted reply → IsEntered (history ++ more) origin)
+      → IsKeepable reply → ((place : ℕ) → reply ≡ replies.Syntax place → IsNoRequest all origin place) → (IsCommitted reply → IsEntered (history ++ more) origin)
       → Gives (told_as reply ∷ []) → Kept all after (tolds ++ told_as reply ∷ []) (history ++ more)
   on_taken next reply after me epoch sessions more may syntax_is entered gives =
       said all after tolds (history ++ more) (remembered all site tolds history holds origin home next reply after me epoch sessions more may syntax_is entered) (told_as reply)
       (truly_as reply gives (true_if_keepable site origin reply may)) syntax_is
       (λ final. kept_then all site tolds history holds origin home next reply after me epoch sessions more may syntax_is entered) entered
 
-  on_no_request : IsNext site origin → statement_of text ≡ None → Gives (told_as (replies.Syntax 0) ∷ []) → Kept all (remembering site origin (replies.Syntax 0)) (tolds ++ told_as (replies.Syntax 0) ∷ []) (history ++ [])
+  on_no_request : IsNext site origin → statement_of text ≡ None → Gives (told_as (replies.Syntax (place_told text)) ∷ []) → Kept all (remembering site origin (replies.Syntax (place_told text))) (tolds ++ told_as (replies.Syntax (place_told text)) ∷ []) (history ++ [])
   on_no_request next none gives =
-      let no_request : IsNoRequest all origin = record { text = text; takes = record { before = before; site = site; hears = hears; epoch = next.epoch; number = next.number }; no_request = none } in
-      on_taken next (replies.Syntax 0) (remembering site origin (replies.Syntax 0)) refl refl refl [] tt
-      (λ place e. (let zero_is : 0 ≡ place = cc in sym zero_is, no_request))
+      let no_request : IsNoRequest all origin (place_told text) = record { text = text; takes = record { before = before; site = site; hears = hears; epoch = next.epoch; number = next.number }; no_request = none; says = told_nothing text short none } in
+      on_taken next (replies.Syntax (place_told text)) (remembering site origin (replies.Syntax (place_told text))) refl refl refl [] tt
+      (λ place e. let same : place_told text ≡ place = cc in subst (IsNoRequest all origin) same no_request)
       (λ committed. absurd committed) gives
 
   on_executed : IsNext site origin → (stmt : Stmt) → After (executed site from origin text stmt)

@@ -6,7 +6,7 @@ use Rattle.rs_base.specs.declared.txn.Origin.{Origin}
 use Rattle.rs_base.specs.declared.reply.Reply.{Reply}
 use Rattle.rs_base.specs.declared.reply.Reply.TheVariants as replies
 use Rattle.rs_mean.specs.declared.built.Stmt.{Stmt}
-use Rattle.rs_site.specs.Statement.{statement_of}
+use Rattle.rs_site.specs.Statement.{statement_of, place_told}
 use Rattle.rs_sched.specs.declared.event.Event.{Event}
 use Rattle.rs_sched.specs.declared.event.Event.TheVariants as events
 use Rattle.rs_site.specs.declared.outs.Decided.{Decided}
@@ -66,7 +66,7 @@ pub record EachAskIsAnswered (given : List Event) (report : Report) : Type 0 whe
   -- a request that its site takes is entered
   pub entered : (origin : Origin) (text : List ℕ) (stmt : Stmt) → Contains given (events.Ask origin text) → Takes given origin text → statement_of text ≡ Some stmt → IsEntered report.history origin text
   -- one whose text is no request is told so
-  pub told_no_request : (origin : Origin) (text : List ℕ) → Contains given (events.Ask origin text) → Takes given origin text → statement_of text ≡ None → Contains report.replies (record { origin = origin; reply = replies.Syntax 0 })
+  pub told_no_request : (origin : Origin) (text : List ℕ) → Contains given (events.Ask origin text) → Takes given origin text → statement_of text ≡ None → Contains report.replies (record { origin = origin; reply = replies.Syntax (place_told text) })
 
 -- there are fewer events than a site has transactions in an epoch, so that each ask may have one
 abbrev pub HaveTransactions : List Event → Type 0

@@ -7,7 +7,7 @@ use Rattle.rs_base.specs.declared.txn.Origin.{Origin}
 use Rattle.rs_base.specs.declared.reply.Denial.{Denial}
 use Rattle.rs_base.specs.declared.reply.Reply.{Reply}
 use Rattle.rs_base.specs.declared.reply.Reply.TheVariants as replies
-use Rattle.rs_site.specs.Statement.{statement_of}
+use Rattle.rs_site.specs.Statement.{statement_of, SaysNothing}
 use Rattle.rs_mean.specs.Database.{IsInOrder}
 use Rattle.rs_mean.specs.Meaning.{Outcome}
 use Rattle.rs_sched.specs.declared.event.Event.{Event}
@@ -72,11 +72,12 @@ pub record IsGivenTruly (events : List Event) (place : ℕ) (given : Given) : Ty
   pub gives : slice_get (world_after (before ++ Deliver ∷ [])).replies place ≡ Some given
   pub true : IsTrueReply site given.origin given.reply
 
--- the request was taken with a text that is no request
-pub record IsNoRequest (events : List Event) (origin : Origin) : Type 0 where
+-- the request was taken with a text that says no statement that is executed, and goes wrong at this place
+pub record IsNoRequest (events : List Event) (origin : Origin) (place : ℕ) : Type 0 where
   pub text : List ℕ
   pub takes : Takes events origin text
   pub no_request : statement_of text ≡ None
+  pub says : SaysNothing text place
 
 pub record Explains (events : List Event) (report : Report) : Type 0 where
   -- the report is that of the last state of the course
@@ -102,8 +103,8 @@ pub record Explains (events : List Event) (report : Report) : Type 0 where
       → i < j
   -- each reply was true when it was given
   pub refusals_true : (k : ℕ) (given : Given) → slice_get report.replies k ≡ Some given → IsGivenTruly events k given
-  -- a text that was told to be no request is none; the place is 0 until the whole grammar is built
-  pub syntax_true : (k place : ℕ) (given : Given) → slice_get report.replies k ≡ Some given → given.reply ≡ replies.Syntax place → (place ≡ 0) × IsNoRequest events given.origin
+  -- a text that was told to be no request says no statement that is executed, and its fault stands at the place that was told
+  pub syntax_true : (k place : ℕ) (given : Given) → slice_get report.replies k ≡ Some given → given.reply ≡ replies.Syntax place → IsNoRequest events given.origin place
   -- what a request is told again is what it was told first
   pub told_again_the_same : (k l : ℕ) (a b : Given) → slice_get report.replies k ≡ Some a → slice_get report.replies l ≡ Some b → a.origin ≡ b.origin → IsFinal a.reply → IsFinal b.reply → a.reply ≡ b.reply
   -- no stored section ran

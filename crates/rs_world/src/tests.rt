@@ -39,7 +39,7 @@ const REPORTED: [(&str, &[&[u8]], &[u8]); 4] = [
         "what is denied is in the history, and what is no request isn't",
         &[b"SELECT * FROM t", b"SELECT", b"SELECT * FROM u"],
         b"reply 1 ann 1 1 denied 1 NoTable\n\
-        reply 1 ann 1 2 syntax 0\n\
+        reply 1 ann 1 2 syntax 6\n\
         reply 1 ann 1 3 denied 1 NoTable\n\
         history 2\n\
         1 1.1.1 1 ann 1 1 SELECT * FROM t\n\

@@ -1,14 +1,12 @@
 use super::course::Course;
 use super::{gives, refuses};
-use rs_base::{Bytes, NoMemory};
+use rs_base::{Bytes, NoMemory, print_number};
 use std::alloc::Global;
 use std::test::*;
 
 const FRONT: &[u8] = b"sites 1\nask 1 ann 1 1 ";
 
 const NOTHING: &[u8] = b"history 0\nruns 0\nsite 1 up 1\n";
-
-const NO_REQUEST: &[u8] = b"reply 1 ann 1 1 syntax 0\nhistory 0\nruns 0\nsite 1 up 1\n";
 
 // The bytes of an ask of ann's first request, up to its text.
 const ASK: &[u8] = b"noise 1 520103616e6e00000001000000000000000100000000";
@@ -81,59 +79,33 @@ const FAULTS: [(&[u8], &[u8], u64, &[u8], u64, &[u8]); 20] = [
     (b"sites 1\n", b"\n", 10000, b"fly", 10002, b"unknown word"),
 ];
 
-// The same with the report of it.
-const REPORTS: [(&[u8], &[u8], u64, &[u8], &[u8]); 21] = [
-    (FRONT, b" ", 8192, b"\r\r\r\nsettle\n", NO_REQUEST),
-    (FRONT, b"\xC3\xA9", 4096, b"\nsettle\r", NO_REQUEST),
-    (b"sites 1\nnoise 1 ", b"00", 32768, b"\n", NOTHING),
-    (b"sites 1\nnoise 1 ", b"00", 32769, b"", NOTHING),
-    (b"sites 1\nnoise 1 ", b"52", 100_000, b"\r\n", NOTHING),
-    (b"sites 1\n", b"#", 100_000, b"\n", NOTHING),
-    (b"sites 1\n", b"#\xFF\r\n", 10000, b"", NOTHING),
-    (b"sites 1\n", b"settle\n", 10000, b"", NOTHING),
-    (b"sites 1", b"\r", 10000, b"", NOTHING),
-    (
-        b"sites 1\nask 1 ann 1 1 x",
-        b"\r",
-        10000,
-        b"\nsettle\n",
-        NO_REQUEST,
-    ),
-    (
-        b"sites 1\nask 1 ann 1 1 ",
-        b"\r",
-        10000,
-        b"\nsettle\n",
-        NO_REQUEST,
-    ),
-    (FRONT, b"x", 8192, b"\nsettle\n", NO_REQUEST),
-    (FRONT, b"(", 8192, b"\nsettle\n", NO_REQUEST),
-    (FRONT, b"'", 8192, b"\nsettle\n", NO_REQUEST),
-    (FRONT, b"''", 4095, b"'\nsettle\n", NO_REQUEST),
-    (FRONT, b";", 8192, b"\nsettle\n", NO_REQUEST),
-    (FRONT, b"0", 8192, b"\nsettle\n", NO_REQUEST),
-    (
-        FRONT,
-        b"INSERT INTO t VALUES (-",
-        356,
-        b"\nsettle\n",
-        NO_REQUEST,
-    ),
-    (FRONT, b"SELECT * FROM t;", 512, b"\nsettle\n", NO_REQUEST),
-    (
-        FRONT,
-        b"create table values ",
-        400,
-        b"\nsettle\n",
-        NO_REQUEST,
-    ),
-    (
-        FRONT,
-        b"INSERT INTO t VALUES (1),",
-        327,
-        b"\nsettle\n",
-        NO_REQUEST,
-    ),
+// The same without a fault, where nothing is asked.
+const NOTHINGS: [(&[u8], &[u8], u64, &[u8]); 7] = [
+    (b"sites 1\nnoise 1 ", b"00", 32768, b"\n"),
+    (b"sites 1\nnoise 1 ", b"00", 32769, b""),
+    (b"sites 1\nnoise 1 ", b"52", 100_000, b"\r\n"),
+    (b"sites 1\n", b"#", 100_000, b"\n"),
+    (b"sites 1\n", b"#\xFF\r\n", 10000, b""),
+    (b"sites 1\n", b"settle\n", 10000, b""),
+    (b"sites 1", b"\r", 10000, b""),
+];
+
+// The same where one text is asked that is no request, with the place at which it goes wrong.
+const NO_REQUESTS: [(&[u8], &[u8], u64, &[u8], u64); 14] = [
+    (FRONT, b" ", 8192, b"\r\r\r\nsettle\n", 8192),
+    (FRONT, b"\xC3\xA9", 4096, b"\nsettle\r", 0),
+    (b"sites 1\nask 1 ann 1 1 x", b"\r", 10000, b"\nsettle\n", 0),
+    (FRONT, b"\r", 10000, b"\nsettle\n", 0),
+    (FRONT, b"x", 8192, b"\nsettle\n", 0),
+    (FRONT, b"(", 8192, b"\nsettle\n", 0),
+    (FRONT, b"'", 8192, b"\nsettle\n", 0),
+    (FRONT, b"''", 4095, b"'\nsettle\n", 0),
+    (FRONT, b";", 8192, b"\nsettle\n", 0),
+    (FRONT, b"0", 8192, b"\nsettle\n", 0),
+    (FRONT, b"INSERT INTO t VALUES (-", 356, b"\nsettle\n", 23),
+    (FRONT, b"SELECT * FROM t;", 512, b"\nsettle\n", 16),
+    (FRONT, b"create table values ", 400, b"\nsettle\n", 13),
+    (FRONT, b"INSERT INTO t VALUES (1),", 327, b"\nsettle\n", 25),
 ];
 
 /// A front, a piece so often, and what stands behind.
@@ -152,13 +124,22 @@ fn filled(
     Ok(text)
 }
 
+/// The report where ann's first request is told to go wrong at this place, and nothing else is asked.
+fn told_place(alloc: Global, place: u64) -> Result<Bytes, NoMemory> {
+    let mut report = Bytes::from_slice(alloc, b"reply 1 ann 1 1 syntax ")?;
+    print_number(alloc, place, &mut report)?;
+    report.extend(b"\n")?;
+    report.extend(NOTHING)?;
+    Ok(report)
+}
+
 /// Puts each longest text as a row, and isn't taken with one byte more.
 fn put_longest(alloc: Global, course: &mut Course, rows: &mut Bytes) -> Result<(), NoMemory> {
     let insert = b"INSERT INTO t VALUES (";
     for case in &LONGEST {
         let mut value = filled(alloc, b"'", case.0, case.1, case.2)?;
         let longer = filled(alloc, insert, value.as_slice(), 1, b"y')")?;
-        course.ask(alloc, longer.as_slice(), b"syntax 0")?;
+        course.ask(alloc, longer.as_slice(), b"syntax 22")?;
         value.extend(b"'")?;
         let longest = filled(alloc, insert, value.as_slice(), 1, b")")?;
         course.execute(alloc, longest.as_slice(), b"done 1\nchanged 1")?;
@@ -224,10 +205,10 @@ fn limits_are_reached_and_kept(rt: HostRuntime) -> Result<(), Fail> {
             case.3
         );
     }
-    for case in &REPORTS {
+    for case in &NOTHINGS {
         let source = filled(alloc, case.0, case.1, case.2, case.3)?;
         assert!(rt;
-            gives(alloc, source.as_slice(), 0, case.4),
+            gives(alloc, source.as_slice(), 0, NOTHING),
             "{:?} {} times, then {:?}",
             case.1,
             case.2,
@@ -241,5 +222,22 @@ fn limits_are_reached_and_kept(rt: HostRuntime) -> Result<(), Fail> {
         "sources that are too long"
     );
     assert!(rt; long_asks_are_noise(alloc)?, "asks as noise");
+    Ok(())
+}
+
+#[test]
+fn long_texts_go_wrong_at_places(rt: HostRuntime) -> Result<(), Fail> {
+    let alloc = rt.alloc();
+    for case in &NO_REQUESTS {
+        let source = filled(alloc, case.0, case.1, case.2, case.3)?;
+        let report = told_place(alloc, case.4)?;
+        assert!(rt;
+            gives(alloc, source.as_slice(), 0, report.as_slice()),
+            "{:?} {} times, then {:?}",
+            case.1,
+            case.2,
+            case.3
+        );
+    }
     Ok(())
 }

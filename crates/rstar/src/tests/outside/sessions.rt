@@ -235,8 +235,8 @@ const SESSIONS: [(&str, &[u8], &[u8]); 10] = [
         settle\n\
         ask 1 ann 1 4 SELECT * FROM t\n\
         settle\n",
-        b"reply 1 ann 1 1 syntax 0\n\
-        reply 1 ann 1 1 syntax 0\n\
+        b"reply 1 ann 1 1 syntax 7\n\
+        reply 1 ann 1 1 syntax 7\n\
         reply 1 ann 1 2 done 1\n\
         ok\n\
         reply 1 ann 1 1 oldrequest 2\n\
@@ -358,7 +358,7 @@ const SESSIONS: [(&str, &[u8], &[u8]); 10] = [
         ok\n\
         reply 1 t 1 1 done 1\n\
         ok\n\
-        reply 1 table 1 1 syntax 0\n\
+        reply 1 table 1 1 syntax 13\n\
         history 2\n\
         1 1.1.1 1 select 1 1 CREATE TABLE t (a INT)\n\
         2 1.1.2 1 t 1 1 CREATE TABLE t (a INT)\n\

@@ -3,140 +3,161 @@ use rs_base::{Bytes, NoMemory, print_number};
 use std::alloc::Global;
 use std::test::*;
 
-// Each is no request.
-const NO_REQUESTS: [&[u8]; 128] = [
-    b"",
-    b"nonsense",
-    b"STOP",
-    b"SELECT",
-    b"SELECT *",
-    b"SELECT * FROM",
-    b"SELECT FROM t",
+// The place at which each goes wrong, and a text that is no request.
+const NO_REQUESTS: [(u64, &[u8]); 131] = [
+    (0, b""),
+    (0, b"nonsense"),
+    (0, b"STOP"),
+    (6, b"SELECT"),
+    (8, b"SELECT *"),
+    (13, b"SELECT * FROM"),
+    (7, b"SELECT FROM t"),
+    (8, b"SELECT *, * FROM t"),
+    (8, b"SELECT ** FROM t"),
+    (16, b"SELECT * FROM t."),
+    (14, b"SELECT * FROM 't'"),
+    (14, b"SELECT * FROM \"t\""),
+    (14, b"SELECT * FROM (t)"),
+    (14, b"SELECT * FROM 1"),
+    (9, b"SELECT * FROMt"),
+    (0, b"SELECTED * FROM t"),
+    (16, b"SELECT * FROM t -- x"),
+    (16, b"SELECT * FROM t /* x */"),
+    (16, b"SELECT * FROM t # x"),
+    (16, b"SELECT * FROM t !"),
+    (15, b"SELECT * FROM t\x0B"),
+    (15, b"SELECT * FROM t\x00"),
+    (6, b"SELECT\x0C* FROM t"),
+    (6, b"SELECT\xC2\xA0* FROM t"),
+    (0, b"\xEF\xBB\xBFSELECT * FROM t"),
+    (0, b"'SELECT * FROM t'"),
+    (0, b"(SELECT * FROM t)"),
+    (0, b"\xC5\xBFELECT * FROM t"),
+    (15, b"SELECT * FROM t\xE2\x84\xAA"),
+    (15, b"SELECT * FROM t\xC2\x85"),
+    (14, b"SELECT * FROM \xD1\x82"),
+    (7, b"CREATE u (a INT)"),
+    (0, b"TABLE u (a INT)"),
+    (12, b"CREATE TABLE"),
+    (14, b"CREATE TABLE u"),
+    (13, b"CREATE TABLE (a INT)"),
+    (16, b"CREATE TABLE u ()"),
+    (17, b"CREATE TABLE u (a)"),
+    (16, b"CREATE TABLE u (INT)"),
+    (16, b"CREATE TABLE u (INT a)"),
+    (21, b"CREATE TABLE u (a INT"),
+    (15, b"CREATE TABLE u a INT"),
+    (15, b"CREATE TABLE u a INT)"),
+    (22, b"CREATE TABLE u (a INT))"),
+    (16, b"CREATE TABLE u ((a INT))"),
+    (22, b"CREATE TABLE u (a INT,)"),
+    (16, b"CREATE TABLE u (,a INT)"),
+    (22, b"CREATE TABLE u (a INT,,b INT)"),
+    (22, b"CREATE TABLE u (a INT b INT)"),
+    (21, b"CREATE TABLE u (a INT; b INT)"),
+    (22, b"CREATE TABLE u (a INT TEXT)"),
+    (17, b"CREATE TABLE u (a, b INT)"),
+    (18, b"CREATE TABLE u (a VARCHAR)"),
+    (18, b"CREATE TABLE u (a INTS)"),
+    (22, b"CREATE TABLE u (a TEXT(9))"),
+    (16, b"CREATE TABLE u (1 INT)"),
+    (16, b"CREATE TABLE u ('a' INT)"),
+    (17, b"CREATE TABLE u (a.b INT)"),
+    (16, b"CREATE TABLE u (* INT)"),
+    (13, b"CREATE TABLE _u (a INT)"),
+    (13, b"CREATE TABLE 1u (a INT)"),
+    (14, b"CREATE TABLE u-v (a INT)"),
+    (15, b"CREATE TABLE u v (a INT)"),
+    (16, b"CREATE TABLE caf\xC3\xA9 (a INT)"),
+    (7, b"CREATE TABLES u (a INT)"),
+    (0, b"CREATETABLE u (a INT)"),
+    (23, b"CREATE TABLE u (a INT) SELECT * FROM t"),
+    (7, b"INSERT t VALUES (1)"),
+    (12, b"INSERT INTO VALUES (1)"),
+    (14, b"INSERT INTO t (1)"),
+    (14, b"INSERT INTO t VALUE (1)"),
+    (20, b"INSERT INTO t VALUES"),
+    (22, b"INSERT INTO t VALUES ()"),
+    (21, b"INSERT INTO t VALUES 1"),
+    (23, b"INSERT INTO t VALUES (1"),
+    (21, b"INSERT INTO t VALUES 1)"),
+    (24, b"INSERT INTO t VALUES (1,)"),
+    (22, b"INSERT INTO t VALUES (,1)"),
+    (25, b"INSERT INTO t VALUES (1),"),
+    (21, b"INSERT INTO t VALUES ,(1)"),
+    (25, b"INSERT INTO t VALUES (1) (2)"),
+    (26, b"INSERT INTO t VALUES (1), 2"),
+    (24, b"INSERT INTO t VALUES (1 2)"),
+    (22, b"INSERT INTO t VALUES ((1))"),
+    (22, b"INSERT INTO t VALUES (a)"),
+    (22, b"INSERT INTO t VALUES (*)"),
+    (22, b"INSERT INTO t VALUES (+1)"),
+    (23, b"INSERT INTO t VALUES (--1)"),
+    (23, b"INSERT INTO t VALUES (-)"),
+    (23, b"INSERT INTO t VALUES (1-)"),
+    (24, b"INSERT INTO t VALUES (1 + 1)"),
+    (23, b"INSERT INTO t VALUES (-'x')"),
+    (23, b"INSERT INTO t VALUES (1.5)"),
+    (23, b"INSERT INTO t VALUES (1e5)"),
+    (23, b"INSERT INTO t VALUES (1_000)"),
+    (22, b"INSERT INTO t VALUES (NULL)"),
+    (22, b"INSERT INTO t VALUES (\"x\")"),
+    (26, b"INSERT INTO t VALUES ('a' 'b')"),
+    (22, b"INSERT INTO t VALUES ('a)"),
+    (22, b"INSERT INTO t VALUES ('a'')"),
+    (27, b"INSERT INTO t VALUES ('''')'"),
+    (22, b"INSERT INTO t VALUES ('"),
+    (22, b"INSERT INTO t VALUES ('\x00')"),
+    (22, b"INSERT INTO t VALUES ('\x1F')"),
+    (22, b"INSERT INTO t VALUES ('\x7F')"),
+    (22, b"INSERT INTO t VALUES ('a\tb')"),
+    (22, b"INSERT INTO t VALUES ('a\rb')"),
+    (14, b"INSERT INTO t (a) VALUES (1)"),
+    (14, b"INSERT INTO t SELECT * FROM t"),
+    (25, b"INSERT INTO t VALUES (1) WHERE a = 1"),
+    (7, b"CREATE UNIQUE INDEX i ON t (a)"),
+    (0, b"OUTCOME 1 1"),
+    (0, b"GRANT SELECT ON t TO bob"),
+    (0, b"REVOKE SELECT ON t FROM bob"),
+    (7, b"CREATE SNAPSHOT s AS SELECT a FROM t"),
+    (0, b"REFRESH SNAPSHOT s"),
+    (10, b"DROP TABLE"),
+    (5, b"DROP t"),
+    (4, b"SHOW"),
+    (5, b"SHOW TABLES"),
+    (8, b"EXPLAIN DELETE FROM t"),
+    (10, b"SELECT a, FROM t"),
+    (21, b"SELECT * FROM t WHERE"),
+    (16, b"SELECT * FROM t@17"),
+    (30, b"SELECT * FROM a, b, c, d, e, f, g"),
+    (25, b"SELECT * FROM t ORDER BY 4294967296"),
+    (14, b"UPDATE t SET a"),
+    (7, b"DELETE t"),
+    (33, b"COMPILE p () AS SELECT * FROM t; SHOW CACHE"),
+    (32, b"COMPILE p () AS SELECT * FROM t END"),
+    (19, b"MIGRATE TABLE t TO 0"),
+];
+
+// Statements that aren't built yet: the place is 0.
+const NOT_BUILT: [&[u8]; 29] = [
     b"SELECT a FROM t",
-    b"SELECT *, * FROM t",
-    b"SELECT ** FROM t",
     b"SELECT * FROM t t",
     b"SELECT * FROM t, t",
-    b"SELECT * FROM t.",
     b"SELECT * FROM ann.t",
     b"SELECT * FROM t@1",
     b"SELECT * FROM ann@1.t@1",
-    b"SELECT * FROM 't'",
-    b"SELECT * FROM \"t\"",
-    b"SELECT * FROM (t)",
-    b"SELECT * FROM 1",
-    b"SELECT * FROMt",
-    b"SELECTED * FROM t",
     b"SELECT * FROM t WHERE a = 1",
     b"SELECT * FROM t ORDER BY a",
     b"SELECT * FROM t GROUP BY a",
     b"SELECT DISTINCT * FROM t",
     b"SELECT COUNT(*) FROM t",
-    b"SELECT * FROM t -- x",
-    b"SELECT * FROM t /* x */",
-    b"SELECT * FROM t # x",
-    b"SELECT * FROM t !",
-    b"SELECT * FROM t\x0B",
-    b"SELECT * FROM t\x00",
-    b"SELECT\x0C* FROM t",
-    b"SELECT\xC2\xA0* FROM t",
-    b"\xEF\xBB\xBFSELECT * FROM t",
-    b"'SELECT * FROM t'",
-    b"(SELECT * FROM t)",
-    b"\xC5\xBFELECT * FROM t",
-    b"SELECT * FROM t\xE2\x84\xAA",
-    b"SELECT * FROM t\xC2\x85",
-    b"SELECT * FROM \xD1\x82",
-    b"CREATE u (a INT)",
-    b"TABLE u (a INT)",
-    b"CREATE TABLE",
-    b"CREATE TABLE u",
-    b"CREATE TABLE (a INT)",
-    b"CREATE TABLE u ()",
-    b"CREATE TABLE u (a)",
-    b"CREATE TABLE u (INT)",
-    b"CREATE TABLE u (INT a)",
-    b"CREATE TABLE u (a INT",
-    b"CREATE TABLE u a INT",
-    b"CREATE TABLE u a INT)",
-    b"CREATE TABLE u (a INT))",
-    b"CREATE TABLE u ((a INT))",
-    b"CREATE TABLE u (a INT,)",
-    b"CREATE TABLE u (,a INT)",
-    b"CREATE TABLE u (a INT,,b INT)",
-    b"CREATE TABLE u (a INT b INT)",
-    b"CREATE TABLE u (a INT; b INT)",
-    b"CREATE TABLE u (a INT TEXT)",
-    b"CREATE TABLE u (a, b INT)",
-    b"CREATE TABLE u (a VARCHAR)",
-    b"CREATE TABLE u (a INTS)",
-    b"CREATE TABLE u (a TEXT(9))",
-    b"CREATE TABLE u (1 INT)",
-    b"CREATE TABLE u ('a' INT)",
-    b"CREATE TABLE u (a.b INT)",
-    b"CREATE TABLE u (* INT)",
-    b"CREATE TABLE _u (a INT)",
-    b"CREATE TABLE 1u (a INT)",
-    b"CREATE TABLE u-v (a INT)",
     b"CREATE TABLE u@1 (a INT)",
-    b"CREATE TABLE u v (a INT)",
-    b"CREATE TABLE caf\xC3\xA9 (a INT)",
-    b"CREATE TABLES u (a INT)",
-    b"CREATETABLE u (a INT)",
-    b"CREATE TABLE u (a INT) SELECT * FROM t",
-    b"INSERT t VALUES (1)",
-    b"INSERT INTO VALUES (1)",
-    b"INSERT INTO t (1)",
-    b"INSERT INTO t VALUE (1)",
-    b"INSERT INTO t VALUES",
-    b"INSERT INTO t VALUES ()",
-    b"INSERT INTO t VALUES 1",
-    b"INSERT INTO t VALUES (1",
-    b"INSERT INTO t VALUES 1)",
-    b"INSERT INTO t VALUES (1,)",
-    b"INSERT INTO t VALUES (,1)",
-    b"INSERT INTO t VALUES (1),",
-    b"INSERT INTO t VALUES ,(1)",
-    b"INSERT INTO t VALUES (1) (2)",
-    b"INSERT INTO t VALUES (1), 2",
-    b"INSERT INTO t VALUES (1 2)",
-    b"INSERT INTO t VALUES ((1))",
-    b"INSERT INTO t VALUES (a)",
     b"INSERT INTO t VALUES (:a)",
-    b"INSERT INTO t VALUES (*)",
-    b"INSERT INTO t VALUES (+1)",
-    b"INSERT INTO t VALUES (--1)",
-    b"INSERT INTO t VALUES (-)",
-    b"INSERT INTO t VALUES (1-)",
-    b"INSERT INTO t VALUES (1 + 1)",
-    b"INSERT INTO t VALUES (-'x')",
-    b"INSERT INTO t VALUES (1.5)",
-    b"INSERT INTO t VALUES (1e5)",
-    b"INSERT INTO t VALUES (1_000)",
-    b"INSERT INTO t VALUES (NULL)",
-    b"INSERT INTO t VALUES (\"x\")",
-    b"INSERT INTO t VALUES ('a' 'b')",
-    b"INSERT INTO t VALUES ('a)",
-    b"INSERT INTO t VALUES ('a'')",
-    b"INSERT INTO t VALUES ('''')'",
-    b"INSERT INTO t VALUES ('",
-    b"INSERT INTO t VALUES ('\x00')",
-    b"INSERT INTO t VALUES ('\x1F')",
-    b"INSERT INTO t VALUES ('\x7F')",
-    b"INSERT INTO t VALUES ('a\tb')",
-    b"INSERT INTO t VALUES ('a\rb')",
-    b"INSERT INTO t (a) VALUES (1)",
-    b"INSERT INTO t SELECT * FROM t",
-    b"INSERT INTO t VALUES (1) WHERE a = 1",
     b"INSERT INTO t@1 VALUES (1)",
     b"INSERT INTO ann.t VALUES (1)",
     b"DROP TABLE t",
     b"UPDATE t SET a = 1",
     b"DELETE FROM t",
-];
-
-// Statements that aren't built yet.
-const NOT_BUILT: [&[u8]; 17] = [
     b"CREATE INDEX i ON t (a)",
     b"DROP INDEX i ON t",
     b"CREATE SYNONYM s FOR t",
@@ -148,12 +169,6 @@ const NOT_BUILT: [&[u8]; 17] = [
     b"EXPLAIN SELECT * FROM t",
     b"SHOW SECTIONS",
     b"SHOW CACHE",
-    b"CREATE UNIQUE INDEX i ON t (a)",
-    b"OUTCOME 1 1",
-    b"GRANT SELECT ON t TO bob",
-    b"REVOKE SELECT ON t FROM bob",
-    b"CREATE SNAPSHOT s AS SELECT a FROM t",
-    b"REFRESH SNAPSHOT s",
 ];
 
 const RESERVED: [&[u8]; 53] = [
@@ -212,13 +227,13 @@ const RESERVED: [&[u8]; 53] = [
     b"REFRESH",
 ];
 
-// What stands before and behind a name.
-const PLACES: [(&[u8], &[u8]); 5] = [
-    (b"CREATE TABLE ", b" (a INT)"),
-    (b"CREATE TABLE u (", b" TEXT)"),
-    (b"CREATE TABLE u (a INT, ", b" INTEGER)"),
-    (b"INSERT INTO ", b" VALUES (1)"),
-    (b"SELECT * FROM ", b""),
+// The place of a name, and what stands before and behind it.
+const PLACES: [(u64, &[u8], &[u8]); 5] = [
+    (13, b"CREATE TABLE ", b" (a INT)"),
+    (16, b"CREATE TABLE u (", b" TEXT)"),
+    (23, b"CREATE TABLE u (a INT, ", b" INTEGER)"),
+    (12, b"INSERT INTO ", b" VALUES (1)"),
+    (14, b"SELECT * FROM ", b""),
 ];
 
 // In order. No statement has them as words of its own.
@@ -261,11 +276,13 @@ const FREE: [&[u8]; 36] = [
     b"view",
 ];
 
-/// The text behind a table's making is no request.
-fn is_no_request(alloc: Global, text: &[u8]) -> Result<bool, NoMemory> {
+/// The text behind a table's making is told to go wrong at this place.
+fn goes_wrong_at(alloc: Global, place: u64, text: &[u8]) -> Result<bool, NoMemory> {
+    let mut reply = Bytes::from_slice(alloc, b"syntax ")?;
+    print_number(alloc, place, &mut reply)?;
     let mut course = Course::new(alloc)?;
     course.execute(alloc, b"CREATE TABLE t (a INT)", b"done 1\nok")?;
-    course.ask(alloc, text, b"syntax 0")?;
+    course.ask(alloc, text, reply.as_slice())?;
     course.ends(alloc, b"table ann@1.t@1 made 1.1.1 rows 0\n")
 }
 
@@ -273,10 +290,10 @@ fn is_no_request(alloc: Global, text: &[u8]) -> Result<bool, NoMemory> {
 fn is_reserved(alloc: Global, word: &[u8]) -> Result<bool, NoMemory> {
     let mut refused = true;
     for place in &PLACES {
-        let mut text = Bytes::from_slice(alloc, place.0)?;
+        let mut text = Bytes::from_slice(alloc, place.1)?;
         text.extend(word)?;
-        text.extend(place.1)?;
-        refused = refused && is_no_request(alloc, text.as_slice())?;
+        text.extend(place.2)?;
+        refused = refused && goes_wrong_at(alloc, place.0, text.as_slice())?;
     }
     Ok(refused)
 }
@@ -320,11 +337,11 @@ fn free_words_are_names(alloc: Global) -> Result<bool, NoMemory> {
 #[test]
 fn texts_are_requests_or_not(rt: HostRuntime) -> Result<(), Fail> {
     let alloc = rt.alloc();
-    for text in &NO_REQUESTS {
-        assert!(rt; is_no_request(alloc, text)?, "{:?}", text);
+    for case in &NO_REQUESTS {
+        assert!(rt; goes_wrong_at(alloc, case.0, case.1)?, "{:?}", case.1);
     }
     for text in &NOT_BUILT {
-        assert!(rt; is_no_request(alloc, text)?, "{:?}", text);
+        assert!(rt; goes_wrong_at(alloc, 0, text)?, "{:?}", text);
     }
     for word in &RESERVED {
         assert!(rt; is_reserved(alloc, word)?, "{:?}", word);

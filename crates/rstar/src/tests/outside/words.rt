@@ -112,11 +112,11 @@ const WORDS: [(&str, &[u8], &[u8]); 9] = [
         ok\n\
         reply 1 ann 1 2 done 1\n\
         changed 1\n\
-        reply 1 ann 1 3 syntax 0\n\
+        reply 1 ann 1 3 syntax 16\n\
         reply 1 ann 1 4 syntax 0\n\
-        reply 1 ann 1 5 syntax 0\n\
+        reply 1 ann 1 5 syntax 17\n\
         reply 1 ann 1 6 syntax 0\n\
-        reply 1 ann 1 7 syntax 0\n\
+        reply 1 ann 1 7 syntax 17\n\
         reply 1 ann 1 8 done 1\n\
         rows 1\n\
         1\n\
@@ -145,10 +145,10 @@ const WORDS: [(&str, &[u8], &[u8]); 9] = [
         ask 1 ann 1 6 SELECT * FROM t\n\
         settle\n",
         b"reply 1 ann 1 1 syntax 0\n\
-        reply 1 ann 1 2 syntax 0\n\
-        reply 1 ann 1 3 syntax 0\n\
+        reply 1 ann 1 2 syntax 1\n\
+        reply 1 ann 1 3 syntax 3\n\
         reply 1 ann 1 4 syntax 0\n\
-        reply 1 ann 1 5 syntax 0\n\
+        reply 1 ann 1 5 syntax 2\n\
         reply 1 ann 1 6 denied 1 NoTable\n\
         history 1\n\
         1 1.1.1 1 ann 1 6 SELECT * FROM t\n\
@@ -212,10 +212,10 @@ const WORDS: [(&str, &[u8], &[u8]); 9] = [
         settle\n",
         b"reply 1 abcdefghijklmnopqrstuvwx 1 1 done 1\n\
         ok\n\
-        reply 1 abcdefghijklmnopqrstuvwx 1 2 syntax 0\n\
-        reply 1 abcdefghijklmnopqrstuvwx 1 3 syntax 0\n\
-        reply 1 abcdefghijklmnopqrstuvwx 1 4 syntax 0\n\
-        reply 1 abcdefghijklmnopqrstuvwx 1 5 syntax 0\n\
+        reply 1 abcdefghijklmnopqrstuvwx 1 2 syntax 13\n\
+        reply 1 abcdefghijklmnopqrstuvwx 1 3 syntax 16\n\
+        reply 1 abcdefghijklmnopqrstuvwx 1 4 syntax 14\n\
+        reply 1 abcdefghijklmnopqrstuvwx 1 5 syntax 12\n\
         reply 1 abcdefghijklmnopqrstuvwx 1 6 done 1\n\
         changed 1\n\
         reply 1 abcdefghijklmnopqrstuvwx 1 7 denied 1 NoTable\n\
@@ -245,11 +245,11 @@ const WORDS: [(&str, &[u8], &[u8]); 9] = [
         settle\n\
         ask 1 ann 1 7 SELECT * FROM t\n\
         settle\n",
-        b"reply 1 ann 1 1 syntax 0\n\
+        b"reply 1 ann 1 1 syntax 111\n\
         reply 1 ann 1 2 done 1\n\
         ok\n\
-        reply 1 ann 1 3 syntax 0\n\
-        reply 1 ann 1 4 syntax 0\n\
+        reply 1 ann 1 3 syntax 61\n\
+        reply 1 ann 1 4 syntax 103\n\
         reply 1 ann 1 5 denied 4 WrongType\n\
         reply 1 ann 1 6 done 1\n\
         changed 2\n\
@@ -301,19 +301,19 @@ const WORDS: [(&str, &[u8], &[u8]); 9] = [
         ok\n\
         reply 1 ann 1 2 done 1\n\
         changed 2\n\
-        reply 1 ann 1 3 syntax 0\n\
-        reply 1 ann 1 4 syntax 0\n\
-        reply 1 ann 1 5 syntax 0\n\
+        reply 1 ann 1 3 syntax 22\n\
+        reply 1 ann 1 4 syntax 23\n\
+        reply 1 ann 1 5 syntax 22\n\
         reply 1 ann 1 6 done 1\n\
         changed 1\n\
-        reply 1 ann 1 7 syntax 0\n\
-        reply 1 ann 1 8 syntax 0\n\
+        reply 1 ann 1 7 syntax 22\n\
+        reply 1 ann 1 8 syntax 22\n\
         reply 1 ann 1 9 done 1\n\
         changed 1\n\
         reply 1 ann 1 10 done 1\n\
         changed 2\n\
-        reply 1 ann 1 11 syntax 0\n\
-        reply 1 ann 1 12 syntax 0\n\
+        reply 1 ann 1 11 syntax 22\n\
+        reply 1 ann 1 12 syntax 22\n\
         reply 1 ann 1 13 done 1\n\
         rows 6\n\
         -9223372036854775807\n\
