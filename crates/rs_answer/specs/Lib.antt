@@ -1,0 +1,5 @@
+pub mod Answer
+pub mod Groups
+pub mod Items
+pub mod Laws
+pub mod Sorting

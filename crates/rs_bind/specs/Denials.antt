@@ -1,0 +1,251 @@
+-- The tests of a statement on rows, in their order: the first that fails denies it. Here are those that look at names and
+-- kinds; which tables there are is tested before, and what is found in their rows after.
+use Rattle.std.specs.Prelude.{ℕ, Bool, true, false, ◌&&◌, ◌||◌, not, ◌==◌, nat_lt, List, [], ◌∷◌, ◌++◌, map, flat_map, length, bytes_eq, Option, Some, None, if◌then◌else◌}
+use Rattle.std.specs.List.{list_any, list_all}
+use Rattle.std.specs.Cmp.Lexicographic.{pointwise}
+use Rattle.rs_base.specs.declared.reply.Denial.{Denial}
+use Rattle.rs_base.specs.declared.reply.Denial.TheVariants as denials
+use Rattle.rs_base.specs.declared.value.Kind.{Kind}
+use Rattle.rs_base.specs.declared.value.Kind.TheVariants as kinds
+use Rattle.rs_base.specs.Value.{kind_of}
+use Rattle.rs_ast.specs.declared.change.Arith.{Arith}
+use Rattle.rs_ast.specs.declared.change.Set.{Set}
+use Rattle.rs_ast.specs.declared.change.Term.{Term}
+use Rattle.rs_ast.specs.declared.change.Term.TheVariants as terms
+use Rattle.rs_ast.specs.declared.clause.Clause.{Clause}
+use Rattle.rs_ast.specs.declared.clause.Cmp.{Cmp}
+use Rattle.rs_ast.specs.declared.clause.Operand.{Operand}
+use Rattle.rs_ast.specs.declared.clause.Operand.TheVariants as operands
+use Rattle.rs_ast.specs.declared.column.ColRef.{ColRef}
+use Rattle.rs_ast.specs.declared.select.Item.{Item}
+use Rattle.rs_ast.specs.declared.select.Item.TheVariants as items
+use Rattle.rs_ast.specs.declared.select.KeyBy.{KeyBy}
+use Rattle.rs_ast.specs.declared.select.KeyBy.TheVariants as keys
+use Rattle.rs_ast.specs.declared.select.Select.{Select}
+use Rattle.rs_plan.specs.Kinds.{kinds_fit}
+use Rattle.rs_bind.specs.declared.heading.Heading.{Heading}
+use Rattle.rs_bind.specs.declared.scope.Param.{Param}
+use Rattle.rs_bind.specs.declared.scope.ScopeColumn.{ScopeColumn}
+use Rattle.rs_bind.specs.Scope.{named_count, place_of, unqualified, column_kind, is_declared, param_kind, aliases_of, query_scope}
+
+-- A test of a statement: whether it fails, and the cause for which it then denies it.
+pub record Test : Type 0 where
+  pub fails : Bool
+  pub cause : Denial
+
+abbrev pub test : Bool → Denial → Test
+test fails cause = record { fails = fails; cause = cause }
+
+-- the cause of the first test that fails, if one does
+abbrev pub first_denial : List Test → Option Denial
+first_denial [] = None
+first_denial (first ∷ tests) = if first.fails then Some first.cause else first_denial tests
+
+-- ---- columns and parameters
+
+-- the column isn't there; two columns have the name
+abbrev pub column_tests : List ScopeColumn → ColRef → List Test
+column_tests scope written =
+    test (named_count scope written == 0) denials.NoColumn ∷ test (nat_lt 1 (named_count scope written)) denials.TwoColumns ∷ []
+
+-- the parameter isn't declared
+abbrev pub param_test : List Param → List ℕ → Test
+param_test params name = test (not (is_declared params name)) denials.WrongParams
+
+-- ---- clauses
+
+abbrev pub operand_tests : List ScopeColumn → List Param → Operand → List Test
+operand_tests scope params (operands.Col written) = column_tests scope written
+operand_tests scope params (operands.Lit value) = []
+operand_tests scope params (operands.Param name) = param_test params name ∷ []
+
+abbrev pub operand_kind : List ScopeColumn → List Param → Operand → Option Kind
+operand_kind scope params (operands.Col written) = column_kind scope written
+operand_kind scope params (operands.Lit value) = Some (kind_of value)
+operand_kind scope params (operands.Param name) = param_kind params name
+
+-- its left column, its right side, and then whether the two sides have one kind
+abbrev pub cmp_tests : List ScopeColumn → List Param → Cmp → List Test
+cmp_tests scope params cmp =
+    column_tests scope cmp.left ++ operand_tests scope params cmp.right
+    ++ test (not (kinds_fit (column_kind scope cmp.left) (operand_kind scope params cmp.right))) denials.WrongType ∷ []
+
+abbrev pub clauses_tests : List ScopeColumn → List Param → List Clause → List Test
+clauses_tests scope params clauses = flat_map (λ clause. flat_map (cmp_tests scope params) clause.any) clauses
+
+-- ---- SELECT
+
+-- the column of an item; a sum is over integers
+abbrev pub item_tests : List ScopeColumn → Item → List Test
+item_tests scope (items.Col written) = column_tests scope written
+item_tests scope items.Count = []
+item_tests scope (items.Sum written) =
+    column_tests scope written ++ test (not (kinds_fit (Some kinds.Int) (column_kind scope written))) denials.WrongType ∷ []
+item_tests scope (items.Min written) = column_tests scope written
+item_tests scope (items.Max written) = column_tests scope written
+
+abbrev pub items_tests : List ScopeColumn → Option (List Item) → List Test
+items_tests scope None = []
+items_tests scope (Some shown) = flat_map (item_tests scope) shown
+
+abbrev pub key_tests : List ScopeColumn → KeyBy → List Test
+key_tests scope (keys.Col written) = column_tests scope written
+key_tests scope (keys.Place n) = []
+
+-- each column and each comparison, in the order of the text
+abbrev pub names_tests : List ScopeColumn → List Param → Select → List Test
+names_tests scope params select =
+    items_tests scope select.items ++ clauses_tests scope params select.clauses
+    ++ flat_map (column_tests scope) select.group ++ flat_map (λ key. key_tests scope key.by) select.order
+
+-- each differs from each behind it
+abbrev pub all_differ : List (List ℕ) → Bool
+all_differ [] = true
+all_differ (name ∷ names) = not (list_any (bytes_eq name) names) && all_differ names
+
+abbrev pub is_aggregate : Item → Bool
+is_aggregate (items.Col written) = false
+is_aggregate items.Count = true
+is_aggregate (items.Sum written) = true
+is_aggregate (items.Min written) = true
+is_aggregate (items.Max written) = true
+
+abbrev pub has_aggregate : Option (List Item) → Bool
+has_aggregate None = false
+has_aggregate (Some shown) = list_any is_aggregate shown
+
+abbrev pub is_filled : {A : Type 0} → List A → Bool
+is_filled [] = false
+is_filled (x ∷ xs) = true
+
+-- there is an aggregate, or GROUP BY
+abbrev pub is_grouped : Select → Bool
+is_grouped select = has_aggregate select.items || is_filled select.group
+
+abbrev pub is_place_in : List ScopeColumn → ColRef → ColRef → Bool
+is_place_in scope one other = place_of scope one == place_of scope other
+
+-- the item is an aggregate, or one of the columns by which is grouped
+abbrev pub is_of_group : List ScopeColumn → List ColRef → Item → Bool
+is_of_group scope group (items.Col written) = list_any (is_place_in scope written) group
+is_of_group scope group items.Count = true
+is_of_group scope group (items.Sum written) = true
+is_of_group scope group (items.Min written) = true
+is_of_group scope group (items.Max written) = true
+
+-- each item is so; `*` isn't
+abbrev pub are_of_group : List ScopeColumn → List ColRef → Option (List Item) → Bool
+are_of_group scope group None = false
+are_of_group scope group (Some shown) = list_all (is_of_group scope group) shown
+
+-- a query that is grouped shows only aggregates and columns by which it is grouped
+abbrev pub grouping_test : List ScopeColumn → Select → Test
+grouping_test scope select = test (is_grouped select && not (are_of_group scope select.group select.items)) denials.WrongType
+
+-- the item is this column
+abbrev pub is_item_of : List ScopeColumn → ColRef → Item → Bool
+is_item_of scope written (items.Col shown) = is_place_in scope written shown
+is_item_of scope written items.Count = false
+is_item_of scope written (items.Sum shown) = false
+is_item_of scope written (items.Min shown) = false
+is_item_of scope written (items.Max shown) = false
+
+-- the column is shown as it is; `*` shows each
+abbrev pub is_shown : List ScopeColumn → Option (List Item) → ColRef → Bool
+is_shown scope None written = true
+is_shown scope (Some shown) written = list_any (is_item_of scope written) shown
+
+abbrev pub item_count : List ScopeColumn → Option (List Item) → ℕ
+item_count scope None = length scope
+item_count scope (Some shown) = length shown
+
+-- the key names an item: a column that is shown as it is, or a number from 1 to that of items
+abbrev pub names_item : List ScopeColumn → Select → KeyBy → Bool
+names_item scope select (keys.Col written) = is_shown scope select.items written
+names_item scope select (keys.Place n) = not (n == 0) && not (nat_lt (item_count scope select.items) n)
+
+abbrev pub keys_tests : List ScopeColumn → Select → List Test
+keys_tests scope select = map (λ key. test (not (names_item scope select key.by)) denials.NoColumn) select.order
+
+-- two tables go by one name; the names in the order of the text; the grouping; the keys
+abbrev pub select_tests : Select → List Heading → List Param → List Test
+select_tests select headings params =
+    let scope = query_scope select.from headings in
+    test (not (all_differ (aliases_of select.from headings))) denials.TwoColumns
+    ∷ names_tests scope params select ++ grouping_test scope select ∷ keys_tests scope select
+
+-- ---- INSERT
+
+-- a term of a row that is put in has a kind; it is no column
+abbrev pub given_kind : List Param → Term → Option Kind
+given_kind params (terms.Col column) = None
+given_kind params (terms.Lit value) = Some (kind_of value)
+given_kind params (terms.Param name) = param_kind params name
+
+abbrev pub is_given : Term → Bool
+is_given (terms.Col column) = false
+is_given (terms.Lit value) = true
+is_given (terms.Param name) = true
+
+abbrev pub term_fits : List Param → Term → ScopeColumn → Bool
+term_fits params term column = is_given term && kinds_fit (Some column.kind) (given_kind params term)
+
+-- a term for each column, of its kind
+abbrev pub row_fits : List ScopeColumn → List Param → List Term → Bool
+row_fits scope params row = pointwise (term_fits params) row scope
+
+abbrev pub given_tests : List Param → Term → List Test
+given_tests params (terms.Col column) = []
+given_tests params (terms.Lit value) = []
+given_tests params (terms.Param name) = param_test params name ∷ []
+
+-- the number of its terms and their kinds, and then its parameters
+abbrev pub row_tests : List ScopeColumn → List Param → List Term → List Test
+row_tests scope params row = test (not (row_fits scope params row)) denials.WrongType ∷ flat_map (given_tests params) row
+
+abbrev pub insert_tests : List (List Term) → List ScopeColumn → List Param → List Test
+insert_tests rows scope params = flat_map (row_tests scope params) rows
+
+-- ---- UPDATE
+
+-- a term of an expression names a column of the table by its name alone
+abbrev pub term_tests : List ScopeColumn → List Param → Term → List Test
+term_tests scope params (terms.Col column) = test (named_count scope (unqualified column) == 0) denials.NoColumn ∷ []
+term_tests scope params (terms.Lit value) = []
+term_tests scope params (terms.Param name) = param_test params name ∷ []
+
+abbrev pub term_kind : List ScopeColumn → List Param → Term → Option Kind
+term_kind scope params (terms.Col column) = column_kind scope (unqualified column)
+term_kind scope params (terms.Lit value) = Some (kind_of value)
+term_kind scope params (terms.Param name) = param_kind params name
+
+abbrev pub more_tests : List ScopeColumn → List Param → Option (Arith × Term) → List Test
+more_tests scope params None = []
+more_tests scope params (Some more) = term_tests scope params more.1
+
+-- a term has the kind of the column; two that are combined are integers, and so is the column
+abbrev pub expr_fits : List ScopeColumn → List Param → Option Kind → Term → Option (Arith × Term) → Bool
+expr_fits scope params kind first None = kinds_fit kind (term_kind scope params first)
+expr_fits scope params kind first (Some more) =
+    kinds_fit kind (Some kinds.Int) && kinds_fit (Some kinds.Int) (term_kind scope params first) && kinds_fit (Some kinds.Int) (term_kind scope params more.1)
+
+-- its column isn't there, or is set by one of those before; its terms; and then their kinds
+abbrev pub set_tests : List ScopeColumn → List Param → List Set → Set → List Test
+set_tests scope params before set =
+    test (named_count scope (unqualified set.column) == 0) denials.NoColumn
+    ∷ test (list_any (λ other. bytes_eq other.column set.column) before) denials.TwoColumns
+    ∷ term_tests scope params set.expr.first ++ more_tests scope params set.expr.more
+    ++ test (not (expr_fits scope params (column_kind scope (unqualified set.column)) set.expr.first set.expr.more)) denials.WrongType ∷ []
+
+-- each set, behind those before it
+abbrev pub sets_tests : List ScopeColumn → List Param → List Set → List Set → List Test
+sets_tests scope params before [] = []
+sets_tests scope params before (set ∷ sets) = set_tests scope params before set ++ sets_tests scope params (before ++ set ∷ []) sets
+
+-- ---- statements
+
+abbrev pub update_tests : List Set → List Clause → List ScopeColumn → List Param → List Test
+update_tests sets clauses scope params = sets_tests scope params [] sets ++ clauses_tests scope params clauses
+
+abbrev pub delete_tests : List Clause → List ScopeColumn → List Param → List Test
+delete_tests clauses scope params = clauses_tests scope params clauses

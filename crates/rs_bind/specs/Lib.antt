@@ -1,0 +1,4 @@
+pub mod Binding
+pub mod Denials
+pub mod Entries
+pub mod Scope

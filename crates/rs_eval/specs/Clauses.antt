@@ -1,0 +1,44 @@
+-- Which rows meet clauses.
+use Rattle.std.specs.Prelude.{Bool, false, List, Option, Some, None, slice_get}
+use Rattle.std.specs.List.{list_any, list_all}
+use Rattle.std.specs.Ordering.{is_eq, is_ne, is_lt, is_le, is_gt, is_ge}
+use Rattle.std.specs.declared.cmp.Ordering.{Ordering}
+use Rattle.rs_base.specs.declared.value.Value.{Value}
+use Rattle.rs_base.specs.Value.{value_cmp}
+use Rattle.rs_ast.specs.declared.bound.BoundCmp.{BoundCmp}
+use Rattle.rs_ast.specs.declared.bound.BoundSide.{BoundSide}
+use Rattle.rs_ast.specs.declared.bound.BoundSide.TheVariants as sides
+use Rattle.rs_ast.specs.declared.clause.Op.{Op}
+use Rattle.rs_ast.specs.declared.clause.Op.TheVariants as ops
+
+-- two values that are so ordered stand in this comparison
+abbrev pub allows : Op → Ordering → Bool
+allows ops.Eq order = is_eq order
+allows ops.Ne order = is_ne order
+allows ops.Lt order = is_lt order
+allows ops.Le order = is_le order
+allows ops.Gt order = is_gt order
+allows ops.Ge order = is_ge order
+
+-- the value that stands on the right; a parameter has none before it is filled
+abbrev pub side_value : List Value → BoundSide → Option Value
+side_value row (sides.Place place) = slice_get row place
+side_value row (sides.Lit value) = Some value
+side_value row (sides.Param param) = None
+
+-- both values are there, and stand in the comparison
+abbrev pub stands : Op → Option Value → Option Value → Bool
+stands op (Some left) (Some right) = allows op (value_cmp left right)
+stands op (Some left) None = false
+stands op None right = false
+
+abbrev pub cmp_holds : List Value → BoundCmp → Bool
+cmp_holds row cmp = stands cmp.op (slice_get row cmp.left) (side_value row cmp.right)
+
+-- one of its comparisons holds
+abbrev pub clause_holds : List Value → List BoundCmp → Bool
+clause_holds row clause = list_any (cmp_holds row) clause
+
+-- the row meets each clause
+unfoldable pub holds : List (List BoundCmp) → List Value → Bool
+holds clauses row = list_all (clause_holds row) clauses

@@ -1,0 +1,5 @@
+pub mod Clauses
+pub mod Filling
+pub mod Integers
+pub mod Joined
+pub mod Setting

@@ -1,0 +1,2 @@
+//! What bound clauses, sets and tables give: which rows meet clauses, rows after sets, and joined rows.
+#![tactic(auto)]

@@ -1,0 +1,172 @@
+-- When a bound statement is over tables of which entries tell. A parameter fits any kind.
+use Rattle.std.specs.Prelude.{◌≡◌, ◌≤◌, ℕ, Bool, true, false, ◌&&◌, ◌||◌, not, ◌==◌, nat_lt, List, [], ◌∷◌, map, flat_map, length, Option, Some, None, slice_get, IsTrue, All}
+use Rattle.std.specs.List.{list_any, list_all}
+use Rattle.std.specs.Cmp.Lexicographic.{pointwise}
+use Rattle.rs_base.specs.declared.name.Swn.{Swn}
+use Rattle.rs_base.specs.declared.value.Kind.{Kind}
+use Rattle.rs_base.specs.declared.value.Kind.TheVariants as kinds
+use Rattle.rs_base.specs.Value.{kind_of}
+use Rattle.rs_ast.specs.declared.bound.BoundCmp.{BoundCmp}
+use Rattle.rs_ast.specs.declared.bound.BoundSet.{BoundSet}
+use Rattle.rs_ast.specs.declared.bound.BoundSide.{BoundSide}
+use Rattle.rs_ast.specs.declared.bound.BoundSide.TheVariants as sides
+use Rattle.rs_ast.specs.declared.bound.BoundTerm.{BoundTerm}
+use Rattle.rs_ast.specs.declared.bound.BoundTerm.TheVariants as terms
+use Rattle.rs_ast.specs.declared.change.Arith.{Arith}
+use Rattle.rs_ast.specs.declared.entry.Entry.{Entry}
+use Rattle.rs_ast.specs.declared.shape.Shape.{Shape}
+use Rattle.rs_ast.specs.declared.shape.ShapeItem.{ShapeItem}
+use Rattle.rs_ast.specs.declared.shape.ShapeItem.TheVariants as items
+use Rattle.rs_plan.specs.declared.bound.Bound.{Bound}
+use Rattle.rs_plan.specs.declared.bound.Bound.TheVariants as bounds
+use Rattle.rs_plan.specs.Kinds.{kinds_fit}
+
+-- ---- columns
+
+-- the kinds of the columns, place by place
+abbrev pub kinds_of : List Entry → List Kind
+kinds_of entries = flat_map (λ entry. map (λ column. column.kind) entry.columns) entries
+
+abbrev pub is_place : List Kind → ℕ → Bool
+is_place columns place = nat_lt place (length columns)
+
+-- there is such a column, and it has this kind
+abbrev pub has_kind : List Kind → Kind → ℕ → Bool
+has_kind columns kind place = is_place columns place && kinds_fit (Some kind) (slice_get columns place)
+
+-- ---- clauses
+
+abbrev pub side_kind : List Kind → BoundSide → Option Kind
+side_kind columns (sides.Place place) = slice_get columns place
+side_kind columns (sides.Lit value) = Some (kind_of value)
+side_kind columns (sides.Param param) = None
+
+abbrev pub side_is_place : List Kind → BoundSide → Bool
+side_is_place columns (sides.Place place) = is_place columns place
+side_is_place columns (sides.Lit value) = true
+side_is_place columns (sides.Param param) = true
+
+-- its columns are there, and its two sides have one kind
+abbrev pub cmp_fits : List Kind → BoundCmp → Bool
+cmp_fits columns cmp =
+    is_place columns cmp.left && side_is_place columns cmp.right && kinds_fit (slice_get columns cmp.left) (side_kind columns cmp.right)
+
+abbrev pub clauses_fit : List Kind → List (List BoundCmp) → Bool
+clauses_fit columns clauses = list_all (list_all (cmp_fits columns)) clauses
+
+-- ---- queries
+
+-- its column is there; a sum is over integers
+abbrev pub item_fits : List Kind → ShapeItem → Bool
+item_fits columns (items.Col place) = is_place columns place
+item_fits columns items.Count = true
+item_fits columns (items.Sum place) = has_kind columns kinds.Int place
+item_fits columns (items.Min place) = is_place columns place
+item_fits columns (items.Max place) = is_place columns place
+
+abbrev pub is_aggregate : ShapeItem → Bool
+is_aggregate (items.Col place) = false
+is_aggregate items.Count = true
+is_aggregate (items.Sum place) = true
+is_aggregate (items.Min place) = true
+is_aggregate (items.Max place) = true
+
+abbrev pub is_filled : {A : Type 0} → List A → Bool
+is_filled [] = false
+is_filled (item ∷ items) = true
+
+-- the item is no column but one of those of the group
+abbrev pub is_of_group : List ℕ → ShapeItem → Bool
+is_of_group group (items.Col place) = list_any (λ other. place == other) group
+is_of_group group items.Count = true
+is_of_group group (items.Sum place) = true
+is_of_group group (items.Min place) = true
+is_of_group group (items.Max place) = true
+
+-- The shape is over these columns: all its columns, items and keys are there; it is grouped exactly where an item is an
+-- aggregate or there are columns to group by; and then each item that is a column is one of these.
+pub record IsShapeOver (columns : List Kind) (shape : Shape) : Type 0 where
+  pub items : IsTrue (list_all (item_fits columns) shape.items)
+  pub group : IsTrue (list_all (is_place columns) shape.group)
+  pub keys : IsTrue (list_all (λ key. nat_lt key.item (length shape.items)) shape.keys)
+  pub grouped : shape.grouped ≡ (list_any is_aggregate shape.items || is_filled shape.group)
+  pub grouped_items : IsTrue (not shape.grouped || list_all (is_of_group shape.group) shape.items)
+
+-- ---- changes
+
+abbrev pub term_kind : List Kind → BoundTerm → Option Kind
+term_kind columns (terms.Place place) = slice_get columns place
+term_kind columns (terms.Lit value) = Some (kind_of value)
+term_kind columns (terms.Param param) = None
+
+abbrev pub term_is_place : List Kind → BoundTerm → Bool
+term_is_place columns (terms.Place place) = is_place columns place
+term_is_place columns (terms.Lit value) = true
+term_is_place columns (terms.Param param) = true
+
+-- its columns are there, and it fits the kind
+abbrev pub term_fits : List Kind → Kind → BoundTerm → Bool
+term_fits columns kind term = term_is_place columns term && kinds_fit (Some kind) (term_kind columns term)
+
+abbrev pub more_fits : List Kind → Option (Arith × BoundTerm) → Bool
+more_fits columns None = true
+more_fits columns (Some (op, second)) = term_fits columns kinds.Int second
+
+-- the kind of what a set computes: an integer where two terms are combined, and else that of its column
+abbrev pub set_kind : Kind → Option (Arith × BoundTerm) → Kind
+set_kind kind None = kind
+set_kind kind (Some more) = kinds.Int
+
+abbrev pub set_fits_kind : List Kind → BoundSet → Option Kind → Bool
+set_fits_kind columns set None = false
+set_fits_kind columns set (Some kind) =
+    kinds_fit (Some kind) (Some (set_kind kind set.more)) && term_fits columns kind set.first && more_fits columns set.more
+
+-- its columns are there, what it computes has the kind of its column, and only integers are computed with
+abbrev pub set_fits : List Kind → BoundSet → Bool
+set_fits columns set = set_fits_kind columns set (slice_get columns set.column)
+
+-- a value or a parameter, and no column
+abbrev pub is_given : BoundTerm → Bool
+is_given (terms.Place place) = false
+is_given (terms.Lit value) = true
+is_given (terms.Param param) = true
+
+-- the row has a term for each column, of its kind
+abbrev pub row_fits : List Kind → List BoundTerm → Bool
+row_fits columns row = list_all is_given row && pointwise (λ term kind. kinds_fit (Some kind) (term_kind columns term)) row columns
+
+-- ---- statements
+
+-- There is an entry for each table, in order, with its name: at most 6 entries, of at most 16 columns each.
+pub record AreEntriesOf (names : List Swn) (entries : List Entry) : Type 0 where
+  pub in_order : names ≡ map (λ entry. entry.name) entries
+  pub few : length entries ≤ 6
+  pub narrow : All (λ entry. length entry.columns ≤ 16) entries
+
+pub record IsSelectOver (names : List Swn) (aliases : List (List ℕ)) (widths : List ℕ) (clauses : List (List BoundCmp)) (shape : Shape) (entries : List Entry) : Type 0 where
+  pub tables : AreEntriesOf names entries
+  pub named : length aliases ≡ length entries
+  pub wide : widths ≡ map (λ entry. length entry.columns) entries
+  pub clauses_are : IsTrue (clauses_fit (kinds_of entries) clauses)
+  pub shape_is : IsShapeOver (kinds_of entries) shape
+
+pub record IsInsertOver (name : Swn) (rows : List (List BoundTerm)) (entries : List Entry) : Type 0 where
+  pub tables : AreEntriesOf (name ∷ []) entries
+  pub rows_are : IsTrue (list_all (row_fits (kinds_of entries)) rows)
+
+pub record IsUpdateOver (name : Swn) (sets : List BoundSet) (clauses : List (List BoundCmp)) (entries : List Entry) : Type 0 where
+  pub tables : AreEntriesOf (name ∷ []) entries
+  pub sets_are : IsTrue (list_all (set_fits (kinds_of entries)) sets)
+  pub clauses_are : IsTrue (clauses_fit (kinds_of entries) clauses)
+
+pub record IsDeleteOver (name : Swn) (clauses : List (List BoundCmp)) (entries : List Entry) : Type 0 where
+  pub tables : AreEntriesOf (name ∷ []) entries
+  pub clauses_are : IsTrue (clauses_fit (kinds_of entries) clauses)
+
+-- the statement is over the tables of which the entries tell
+abbrev pub IsOver : Bound → List Entry → Type 0
+IsOver (bounds.Select names aliases widths clauses shape) entries = IsSelectOver names aliases widths clauses shape entries
+IsOver (bounds.Insert name rows) entries = IsInsertOver name rows entries
+IsOver (bounds.Update name sets clauses) entries = IsUpdateOver name sets clauses entries
+IsOver (bounds.Delete name clauses) entries = IsDeleteOver name clauses entries
