@@ -1,7 +1,3 @@
-pub mod Arranged
 pub mod Entries
-pub mod Fitting
-pub mod Inserted
-pub mod Kept
-pub mod Lawful
 pub mod Orders
+mod Written

@@ -1,18 +1,28 @@
--- The database: finite maps that know no site's store, no message and no lock.
-use Rattle.std.specs.Prelude.{List, [], Option}
-use Rattle.std.specs.Map.{lookup, keys_of}
+-- The database, and the change of a table or a synonym in it.
+use Rattle.std.specs.Prelude.{ℕ, List, [], Option, Some, None}
 use Rattle.std.specs.BTreeMap.{insert_entry, is_at}
+use Rattle.std.specs.Map.{lookup, keys_of, remove_entry}
 use Rattle.std.specs.List.Sorted.{IsStrictlySortedBy}
+use Rattle.std.specs.Ordering.{nat_cmp, ordering_then}
+use Rattle.std.specs.Cmp.Lexicographic.{slice_cmp}
+use Rattle.std.specs.declared.cmp.Ordering.{Ordering}
 use Rattle.rs_base.specs.declared.name.Swn.{Swn}
 use Rattle.rs_base.specs.Name.{name_cmp}
+use Rattle.rs_mean.specs.declared.synonym.Synonym.{Synonym}
 use Rattle.rs_mean.specs.declared.table.Table.{Table}
 
--- the tables by their system-wide names, in order of names
+-- how many sites there are; the tables by their system-wide names, in order of names; and what users' synonyms stand for,
+-- in order of synonyms
 pub record Database : Type 0 where
+  pub sites : ℕ
   pub tables : List (Swn × Table)
+  pub synonyms : List (Synonym × Swn)
 
-abbrev pub empty : Database
-empty = record { tables = [] }
+-- the database of so many sites in which nothing was made yet
+abbrev pub empty : ℕ → Database
+empty sites = record { sites = sites; tables = []; synonyms = [] }
+
+-- ---- tables
 
 -- the table of this name, if there is one
 abbrev pub table_named : Swn → Database → Option Table
@@ -20,8 +30,40 @@ table_named name db = lookup (is_at (name_cmp name)) db.tables
 
 -- the database with this table under this name, and all others as they were
 abbrev pub with_table : Swn → Table → Database → Database
-with_table name table db = record { tables = insert_entry name_cmp db.tables name table }
+with_table name table db = record db { tables = insert_entry name_cmp db.tables name table }
+
+-- the database without a table of this name
+abbrev pub without_table : Swn → Database → Database
+without_table name db = record db { tables = remove_entry (is_at (name_cmp name)) db.tables }
+
+-- the table put under its name, where there was one
+abbrev pub with_changed : Swn → (Table → Table) → Option Table → Database → Database
+with_changed name change None db = db
+with_changed name change (Some table) db = with_table name (change table) db
+
+-- the database with the table of this name changed, if there is one
+abbrev pub changing : Swn → (Table → Table) → Database → Database
+changing name change db = with_changed name change (table_named name db) db
 
 -- each name stands once, and the names rise
 abbrev pub IsInOrder : Database → Type 0
 IsInOrder db = IsStrictlySortedBy name_cmp (keys_of db.tables)
+
+-- ---- synonyms
+
+-- synonyms by site, user and name
+abbrev pub synonym_cmp : Synonym → Synonym → Ordering
+synonym_cmp one other = ordering_then (nat_cmp one.site other.site)
+    (ordering_then (slice_cmp nat_cmp one.user other.user) (slice_cmp nat_cmp one.name other.name))
+
+-- the name that the synonym stands for, if there is such a synonym
+abbrev pub target_of : Synonym → Database → Option Swn
+target_of synonym db = lookup (is_at (synonym_cmp synonym)) db.synonyms
+
+-- the database with this synonym for this name
+abbrev pub with_synonym : Synonym → Swn → Database → Database
+with_synonym synonym name db = record db { synonyms = insert_entry synonym_cmp db.synonyms synonym name }
+
+-- the database without this synonym
+abbrev pub without_synonym : Synonym → Database → Database
+without_synonym synonym db = record db { synonyms = remove_entry (is_at (synonym_cmp synonym)) db.synonyms }

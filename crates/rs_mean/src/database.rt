@@ -2,18 +2,26 @@
 
 ghost use Rattle.std.specs.Prelude.{◌≡◌, OnOk, OnErr};
 ghost use Rattle.std.specs.Option.{option_copied};
-ghost use Rattle.rs_mean.specs.Database.{empty, table_named, with_table};
+ghost use Rattle.rs_mean.specs.Changes.{changed, with_rows};
+ghost use Rattle.rs_mean.specs.Database.{changing, empty, table_named, target_of, with_synonym, with_table, without_synonym, without_table};
 
+use crate::change::Change;
+use crate::stored_rows::StoredRows;
+use crate::synonym::Synonym;
 use crate::table::Table;
-use rs_base::{NoMemory, Swn};
+use rs_ast::IndexOfs;
+use rs_base::{NoMemory, SiteNo, Swn};
 use std::alloc::Global;
 use std::collections::BTreeMap;
 use std::marker::Model;
 
-/// The one database that all executions work on: tables by their system-wide names, in order of names.
+/// The one database that all executions work on: tables by their system-wide names, in order of names, and what users'
+/// synonyms stand for.
 #[derive(Drop)]
 pub struct Database {
-    pub(crate) tables: BTreeMap<Swn, Table>,
+    sites: SiteNo,
+    tables: BTreeMap<Swn, Table>,
+    synonyms: BTreeMap<Synonym, Swn>,
 }
 
 impl Model for Database {
@@ -21,16 +29,26 @@ impl Model for Database {
 
     ghost Value = { Database };
 
-    ghost view = { λ it. record { tables = it.tables.entries } };
+    ghost view = { λ it. record { sites = it.sites; tables = it.tables.entries; synonyms = it.synonyms.entries } };
 }
 
 impl Database {
-    pub fn new(alloc: Global) -> Database
-        ensures { result ≡ empty }
+    /// The database of so many sites, in which nothing was made yet.
+    pub fn new(alloc: Global, sites: SiteNo) -> Database
+        ensures { result ≡ empty sites }
     {
         Database {
+            sites,
             tables: BTreeMap::new(alloc),
+            synonyms: BTreeMap::new(alloc),
         }
+    }
+
+    /// How many sites there are.
+    pub fn sites(&self) -> SiteNo
+        ensures { result ≡ self.now.sites }
+    {
+        self.sites
     }
 
     /// The tables, in order of names.
@@ -47,12 +65,98 @@ impl Database {
         self.tables.get(name)
     }
 
+    /// The name that a synonym stands for, if there is such a synonym.
+    pub fn target(&self, synonym: &Synonym) -> Option<Swn>
+        ensures { result ≡ target_of synonym.now self.now }
+    {
+        self.synonyms.get(synonym).copied()
+    }
+
     /// Puts the table under this name, in place of the one that has it. Where memory is wanting, nothing changes.
-    pub(crate) fn put(&mut self, name: Swn, table: Table) -> Result<(), NoMemory>
+    fn put_table(&mut self, name: Swn, table: Table) -> Result<(), NoMemory>
         ensures ok { OnOk result (self.new ≡ with_table name table self.old) }
         ensures err { OnErr result (self.new ≡ self.old) }
     {
         self.tables.insert(name, table)?;
         Ok(())
+    }
+
+    fn drop_table(&mut self, name: &Swn)
+        ensures { self.new ≡ without_table name.now self.old }
+    {
+        self.tables.remove(name);
+    }
+
+    fn put_synonym(&mut self, synonym: Synonym, name: Swn) -> Result<(), NoMemory>
+        ensures ok { OnOk result (self.new ≡ with_synonym synonym name self.old) }
+        ensures err { OnErr result (self.new ≡ self.old) }
+    {
+        self.synonyms.insert(synonym, name)?;
+        Ok(())
+    }
+
+    fn drop_synonym(&mut self, synonym: &Synonym)
+        ensures { self.new ≡ without_synonym synonym.now self.old }
+    {
+        self.synonyms.remove(synonym);
+    }
+
+    fn set_indexes(&mut self, name: &Swn, indexes: IndexOfs)
+        ensures { self.new ≡ changing name.now (λ table. record table { indexes = indexes }) self.old }
+    {
+        let Some(table) = self.tables.get_mut(name) else {
+            return;
+        };
+        table.indexes = indexes;
+    }
+
+    /// Moves the rows to the end of the table, in time proportional to them and to a look-up. Where memory is wanting,
+    /// nothing changes.
+    fn append_rows(&mut self, name: &Swn, rows: StoredRows) -> Result<(), NoMemory>
+        ensures ok { OnOk result (self.new ≡ changing name.now (with_rows rows) self.old) }
+        ensures err { OnErr result (self.new ≡ self.old) }
+    {
+        let Some(table) = self.tables.get_mut(name) else {
+            return Ok(());
+        };
+        table.append(rows)
+    }
+
+    fn set_rows(&mut self, name: &Swn, rows: StoredRows)
+        ensures { self.new ≡ changing name.now (λ table. record table { rows = rows }) self.old }
+    {
+        let Some(table) = self.tables.get_mut(name) else {
+            return;
+        };
+        table.rows = rows;
+    }
+
+    /// Makes the change. Where memory is wanting, nothing changes.
+    pub fn apply(&mut self, change: Change) -> Result<(), NoMemory>
+        ensures ok { OnOk result (self.new ≡ changed change self.old) }
+        ensures err { OnErr result (self.new ≡ self.old) }
+    {
+        match change {
+            Change::Nothing => Ok(()),
+            Change::PutTable { name, table } => self.put_table(name, table),
+            Change::DropTable { name } => {
+                self.drop_table(&name);
+                Ok(())
+            }
+            Change::SetIndexes { name, indexes } => {
+                self.set_indexes(&name, indexes);
+                Ok(())
+            }
+            Change::AppendRows { name, rows } => self.append_rows(&name, rows),
+            Change::SetRows { name, rows } => {
+                self.set_rows(&name, rows);
+                Ok(())
+            }
+            Change::PutSynonym { synonym, name } => self.put_synonym(synonym, name),
+            Change::DropSynonym { synonym } => {
+                self.drop_synonym(&synonym);
+                Ok(())
+            }
+        }
     }
 }

@@ -1,11 +1,7 @@
 //! One execution of a statement.
 
-ghost use Rattle.std.specs.Prelude.{◌≡◌, IfOk};
-ghost use Rattle.rs_mean.specs.Meaning as spec;
-
 use crate::built::Stmt;
-use rs_base::{Answer, Answers, Denial, Ident, NoMemory, SiteNo, Txn, one_item};
-use std::alloc::Global;
+use rs_base::{Answers, Denial, Ident, SiteNo, Txn};
 
 /// A statement, the transaction that executes it, and the user who asked for it at a site.
 #[derive(Debug, Drop)]
@@ -18,10 +14,3 @@ pub struct Execution {
 
 /// An answer for each statement, or why the execution was denied.
 pub type Outcome = Result<Answers, Denial>;
-
-/// The outcome of one statement that was done.
-pub(crate) fn done(alloc: Global, answer: Answer) -> Result<Outcome, NoMemory>
-    ensures { IfOk result (λ outcome. outcome ≡ spec.done answer) }
-{
-    Ok(Ok(one_item(alloc, answer)?))
-}

@@ -1,10 +1,10 @@
 //! The rows of a table.
 
-ghost use Rattle.std.specs.Prelude.{◌≡◌, [], ◌++◌, length, OnOk, OnErr};
+ghost use Rattle.std.specs.Prelude.{◌≡◌, [], ◌∷◌, ◌++◌, length, OnOk, OnErr};
 ghost use Rattle.rs_mean.specs.Limits as spec;
 
 use crate::limits::{MAX_ROWS, MAX_TABLE_BYTES, rows_size};
-use rs_base::{NoMemory, Row};
+use rs_base::{NoMemory, Row, row_size};
 use std::alloc::Global;
 use std::marker::Model;
 
@@ -57,13 +57,24 @@ impl StoredRows {
             && self.bytes.saturating_add(rows_size(more)) <= MAX_TABLE_BYTES
     }
 
-    /// Moves `more` to the end, in time proportional to `more`. Where memory is wanting, nothing changes.
-    pub fn append(&mut self, mut more: Vec<Row>) -> Result<(), NoMemory>
-        ensures ok { OnOk result (self.new ≡ self.old ++ more.items) }
+    /// Puts a row at the end. Where memory is wanting, nothing changes.
+    pub fn push(&mut self, row: Row) -> Result<(), NoMemory>
+        ensures ok { OnOk result (self.new ≡ self.old ++ row ∷ []) }
         ensures err { OnErr result (self.new ≡ self.old) }
     {
-        let bytes = self.bytes.saturating_add(rows_size(more.as_slice()));
-        self.rows.append(&mut more)?;
+        let bytes = self.bytes.saturating_add(row_size(row.as_slice()));
+        self.rows.push(row)?;
+        self.bytes = bytes;
+        Ok(())
+    }
+
+    /// Moves `more` to the end, in time proportional to `more`. Where memory is wanting, nothing changes.
+    pub fn append(&mut self, mut more: StoredRows) -> Result<(), NoMemory>
+        ensures ok { OnOk result (self.new ≡ self.old ++ more) }
+        ensures err { OnErr result (self.new ≡ self.old) }
+    {
+        let bytes = self.bytes.saturating_add(more.bytes);
+        self.rows.append(&mut more.rows)?;
         self.bytes = bytes;
         Ok(())
     }

@@ -1,14 +1,29 @@
 //! Tables.
 
-use crate::stored_rows::StoredRows;
-use rs_ast::ColDefs;
-use rs_base::{SiteNo, Txn};
+ghost use Rattle.std.specs.Prelude.{◌≡◌, OnOk, OnErr};
+ghost use Rattle.rs_mean.specs.Changes.{with_rows};
 
-/// A table: the transaction that made it, the site that stores it, its columns, and its rows in order of insertion.
+use crate::stored_rows::StoredRows;
+use rs_ast::{ColDefs, IndexOfs};
+use rs_base::{NoMemory, SiteNo, Txn};
+
+/// A table: the transaction that made it, the site that stores it, its columns, its indexes in order of making, and its
+/// rows in order of insertion.
 #[derive(Debug, Drop)]
 pub struct Table {
     pub made: Txn,
     pub place: SiteNo,
     pub columns: ColDefs,
+    pub indexes: IndexOfs,
     pub rows: StoredRows,
+}
+
+impl Table {
+    /// Moves the rows to the end, in time proportional to them. Where memory is wanting, nothing changes.
+    pub(crate) fn append(&mut self, rows: StoredRows) -> Result<(), NoMemory>
+        ensures ok { OnOk result (self.new ≡ with_rows rows self.old) }
+        ensures err { OnErr result (self.new ≡ self.old) }
+    {
+        self.rows.append(rows)
+    }
 }

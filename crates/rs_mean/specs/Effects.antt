@@ -1,0 +1,22 @@
+-- What an execution changes and answers. One that is denied changes nothing.
+use Rattle.std.specs.Prelude.{List, [], ◌∷◌, Option, Some, None, Result, Ok, Err}
+use Rattle.rs_base.specs.declared.reply.Answer.{Answer}
+use Rattle.rs_base.specs.declared.reply.Denial.{Denial}
+use Rattle.rs_mean.specs.declared.change.Change.{Change}
+use Rattle.rs_mean.specs.declared.change.Change.TheVariants as changes
+use Rattle.rs_mean.specs.declared.change.Effect.{Effect}
+
+-- an answer for each statement, or why the execution was denied
+abbrev pub Outcome : Type 0
+Outcome = Result (List Answer) Denial
+
+abbrev pub done : Change → Answer → Effect
+done change answer = record { change = change; outcome = Ok (answer ∷ []) }
+
+abbrev pub denied : Denial → Effect
+denied cause = record { change = changes.Nothing; outcome = Err cause }
+
+-- the effect, or why there is none
+abbrev pub unless_denied : Option Denial → Effect → Effect
+unless_denied None effect = effect
+unless_denied (Some cause) effect = denied cause

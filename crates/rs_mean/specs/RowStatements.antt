@@ -1,0 +1,97 @@
+-- What statements on rows do.
+use Rattle.std.specs.Prelude.{ℕ, List, [], ◌∷◌, map, flat_map, length, Option, Some, None, Result, Ok, Err}
+use Rattle.rs_base.specs.declared.name.NameText.{NameText}
+use Rattle.rs_base.specs.declared.name.Swn.{Swn}
+use Rattle.rs_base.specs.declared.reply.Answer.TheVariants as answers
+use Rattle.rs_base.specs.declared.reply.Denial.{Denial}
+use Rattle.rs_base.specs.declared.value.Value.{Value}
+use Rattle.rs_ast.specs.declared.bound.BoundCmp.{BoundCmp}
+use Rattle.rs_ast.specs.declared.bound.BoundSet.{BoundSet}
+use Rattle.rs_ast.specs.declared.bound.BoundTerm.{BoundTerm}
+use Rattle.rs_ast.specs.declared.select.Select.{Select}
+use Rattle.rs_ast.specs.declared.shape.Shape.{Shape}
+use Rattle.rs_ast.specs.declared.stmt.Dml.{Dml}
+use Rattle.rs_ast.specs.declared.stmt.Dml.TheVariants as dmls
+use Rattle.rs_plan.specs.declared.bound.Bound.{Bound}
+use Rattle.rs_plan.specs.declared.bound.Bound.TheVariants as bounds
+use Rattle.rs_bind.specs.Binding.{select_bound, insert_bound, update_bound, delete_bound}
+use Rattle.rs_bind.specs.Denials.{first_denial}
+use Rattle.rs_bind.specs.declared.heading.Heading.{Heading}
+use Rattle.rs_eval.specs.Joined.{joined_within}
+use Rattle.rs_answer.specs.Answer.{answer_of}
+use Rattle.rs_mean.specs.declared.change.Change.TheVariants as changes
+use Rattle.rs_mean.specs.declared.change.Effect.{Effect}
+use Rattle.rs_mean.specs.declared.execution.Execution.{Execution}
+use Rattle.rs_mean.specs.declared.table.Table.{Table}
+use Rattle.rs_mean.specs.Database.{Database, table_named}
+use Rattle.rs_mean.specs.Effects.{done, denied, unless_denied}
+use Rattle.rs_mean.specs.Names.{name_of, table_tests}
+use Rattle.rs_mean.specs.RowChanges.{inserted, updated, kept, met}
+use Rattle.rs_mean.specs.TableStatements.{columns_of}
+
+-- ---- tables as a statement sees them
+
+abbrev pub rows_of : Option Table → List (List Value)
+rows_of None = []
+rows_of (Some table) = table.rows
+
+abbrev pub rows_in : Database → Swn → List (List Value)
+rows_in db name = rows_of (table_named name db)
+
+abbrev pub heading_in : Database → Swn → Heading
+heading_in db name = record { name = name; columns = columns_of (table_named name db) }
+
+-- ---- bound statements
+
+-- the joined rows, and the answer from them
+abbrev pub answer_from : Shape → Result (List (List Value)) Denial → Result (List (List Value)) Denial
+answer_from shape (Ok joined) = answer_of shape joined
+answer_from shape (Err cause) = Err cause
+
+-- the rows that a query answers, TooManyRows or Overflow
+abbrev pub selected : List (List BoundCmp) → Shape → List (List (List Value)) → Result (List (List Value)) Denial
+selected clauses shape tables = answer_from shape (joined_within clauses tables)
+
+abbrev pub answering : Result (List (List Value)) Denial → Effect
+answering (Ok rows) = done changes.Nothing (answers.Rows rows)
+answering (Err cause) = denied cause
+
+abbrev pub inserting : Swn → Result (List (List Value)) Denial → Effect
+inserting name (Ok rows) = done (changes.AppendRows name rows) (answers.Changed (length rows))
+inserting name (Err cause) = denied cause
+
+abbrev pub updating : Swn → ℕ → Result (List (List Value)) Denial → Effect
+updating name count (Ok rows) = done (changes.SetRows name rows) (answers.Changed count)
+updating name count (Err cause) = denied cause
+
+-- the rows of the one table of a change
+abbrev pub only : List (List (List Value)) → List (List Value)
+only [] = []
+only (rows ∷ tables) = rows
+
+-- what a bound statement does, over the rows of its tables in order
+abbrev pub effect_of_bound : List (List (List Value)) → Bound → Effect
+effect_of_bound tables (bounds.Select names aliases widths clauses shape) = answering (selected clauses shape tables)
+effect_of_bound tables (bounds.Insert name rows) = inserting name (inserted rows (only tables))
+effect_of_bound tables (bounds.Update name sets clauses) = updating name (met clauses (only tables)) (updated sets clauses (only tables))
+effect_of_bound tables (bounds.Delete name clauses) = done (changes.SetRows name (kept clauses (only tables))) (answers.Changed (met clauses (only tables)))
+
+abbrev pub once_bound : List (List (List Value)) → Result Bound Denial → Effect
+once_bound tables (Ok bound) = effect_of_bound tables bound
+once_bound tables (Err cause) = denied cause
+
+-- ---- statements: which tables there are; the names and kinds; and what is found in the rows
+
+abbrev pub select : Database → List Swn → Select → Effect
+select db names query =
+    unless_denied (first_denial (flat_map (table_tests db) names)) (once_bound (map (rows_in db) names) (select_bound query (map (heading_in db) names) []))
+
+-- a change of the table of this name
+abbrev pub change : Database → Swn → (Heading → Result Bound Denial) → Effect
+change db name bind = unless_denied (first_denial (table_tests db name)) (once_bound (rows_in db name ∷ []) (bind (heading_in db name)))
+
+unfoldable pub effect_of_dml : Database → Execution → Dml → Effect
+effect_of_dml db execution (dmls.Select query) = select db (map (λ table. name_of db execution table.name) query.from) query
+effect_of_dml db execution (dmls.Insert written rows) = change db (name_of db execution written) (λ heading. insert_bound rows heading [])
+effect_of_dml db execution (dmls.Update written sets clauses) = change db (name_of db execution written) (λ heading. update_bound sets clauses heading [])
+effect_of_dml db execution (dmls.Delete written clauses) = change db (name_of db execution written) (λ heading. delete_bound clauses heading [])

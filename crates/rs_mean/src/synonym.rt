@@ -1,0 +1,11 @@
+//! Synonyms.
+
+use rs_base::{Ident, SiteNo};
+
+/// A user's synonym at a site. Synonyms are ordered by these fields.
+#[derive(Clone, Copy, Debug, PartialEq, Eq, PartialOrd, Ord)]
+pub struct Synonym {
+    pub site: SiteNo,
+    pub user: Ident,
+    pub name: Ident,
+}
