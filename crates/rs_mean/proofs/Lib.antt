@@ -1,3 +1,4 @@
 pub mod Entries
 pub mod Orders
+mod Positions
 mod Written

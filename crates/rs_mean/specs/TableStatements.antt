@@ -84,11 +84,18 @@ create_index db txn name index column =
 abbrev pub drop_index_tests : Database → Swn → List ℕ → List Test
 drop_index_tests db name index = table_tests db name ++ test (not (has_index (indexes_of (table_named name db)) index)) denials.NoIndex ∷ []
 
+abbrev pub is_other_index : List ℕ → IndexOf → Bool
+is_other_index name index = not (bytes_eq index.name name)
+
+-- the indexes of other names
+abbrev pub without_index : List ℕ → List IndexOf → List IndexOf
+without_index name indexes = filter (is_other_index name) indexes
+
 -- the table keeps its other indexes
 abbrev pub drop_index : Database → Swn → List ℕ → Effect
 drop_index db name index =
     unless_denied (first_denial (drop_index_tests db name index))
-    (done (changes.SetIndexes name (filter (λ other. not (bytes_eq other.name index)) (indexes_of (table_named name db)))) answers.Ok)
+    (done (changes.SetIndexes name (without_index index (indexes_of (table_named name db)))) answers.Ok)
 
 -- ---- CREATE SYNONYM, DROP SYNONYM
 

@@ -1,11 +1,15 @@
 //! What an execution changes.
 
+ghost use Rattle.std.specs.Prelude.{◌≡◌, IfOk};
+ghost use Rattle.rs_mean.specs.Effects as spec;
+
 use crate::execution::Outcome;
 use crate::stored_rows::StoredRows;
 use crate::synonym::Synonym;
 use crate::table::Table;
 use rs_ast::IndexOfs;
-use rs_base::Swn;
+use rs_base::{Answer, Denial, NoMemory, Swn, one_item};
+use std::alloc::Global;
 
 /// A change of the database. That of a table which isn't there changes nothing.
 #[derive(Debug, Drop)]
@@ -25,4 +29,27 @@ pub enum Change {
 pub struct Effect {
     pub change: Change,
     pub outcome: Outcome,
+}
+
+impl Effect {
+    /// That of one statement that is done.
+    pub(crate) fn done(alloc: Global, change: Change, answer: Answer) -> Result<Effect, NoMemory>
+        ensures { IfOk result (λ effect. effect ≡ spec.done change answer) }
+    {
+        let answers = one_item(alloc, answer)?;
+        Ok(Effect {
+            change,
+            outcome: Ok(answers),
+        })
+    }
+
+    /// That of an execution that is denied: none.
+    pub(crate) fn denied(cause: Denial) -> Effect
+        ensures { result ≡ spec.denied cause }
+    {
+        Effect {
+            change: Change::Nothing,
+            outcome: Err(cause),
+        }
+    }
 }

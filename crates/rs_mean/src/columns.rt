@@ -6,7 +6,8 @@ ghost use Rattle.rs_mean.specs.Columns as spec;
 use rs_ast::ColDef;
 use rs_base::Ident;
 
-fn has_name(columns: &[ColDef], name: Ident) -> bool
+/// Whether one of the columns has this name.
+pub(crate) fn has_name(columns: &[ColDef], name: Ident) -> bool
     ensures { result ≡ spec.has_name columns.now name }
 {
     columns.iter().any(|column| column.name == name)

@@ -81,7 +81,7 @@ impl Database {
         Ok(())
     }
 
-    fn drop_table(&mut self, name: &Swn)
+    fn remove_table(&mut self, name: &Swn)
         ensures { self.new ≡ without_table name.now self.old }
     {
         self.tables.remove(name);
@@ -95,7 +95,7 @@ impl Database {
         Ok(())
     }
 
-    fn drop_synonym(&mut self, synonym: &Synonym)
+    fn remove_synonym(&mut self, synonym: &Synonym)
         ensures { self.new ≡ without_synonym synonym.now self.old }
     {
         self.synonyms.remove(synonym);
@@ -140,7 +140,7 @@ impl Database {
             Change::Nothing => Ok(()),
             Change::PutTable { name, table } => self.put_table(name, table),
             Change::DropTable { name } => {
-                self.drop_table(&name);
+                self.remove_table(&name);
                 Ok(())
             }
             Change::SetIndexes { name, indexes } => {
@@ -154,7 +154,7 @@ impl Database {
             }
             Change::PutSynonym { synonym, name } => self.put_synonym(synonym, name),
             Change::DropSynonym { synonym } => {
-                self.drop_synonym(&synonym);
+                self.remove_synonym(&synonym);
                 Ok(())
             }
         }

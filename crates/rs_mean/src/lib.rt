@@ -6,11 +6,14 @@ mod change;
 mod columns;
 mod database;
 mod execution;
+mod indexes;
 mod limits;
 mod naming;
 mod stored_rows;
 mod synonym;
+mod synonyms;
 mod table;
+mod tables;
 
 pub use built::Stmt;
 pub use change::{Change, Effect};

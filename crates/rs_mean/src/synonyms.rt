@@ -1,0 +1,58 @@
+//! CREATE SYNONYM and DROP SYNONYM.
+
+ghost use Rattle.std.specs.Prelude.{◌≡◌, IfOk};
+ghost use Rattle.rs_bind.specs.Denials.{first_denial};
+ghost use Rattle.rs_mean.specs.TableStatements as spec;
+
+use crate::change::{Change, Effect};
+use crate::database::Database;
+use crate::execution::Execution;
+use rs_base::{Answer, Denial, Ident, NoMemory, Swn};
+use std::alloc::Global;
+
+impl Database {
+    fn create_synonym_denial(&self, execution: &Execution, synonym: Ident, name: &Swn) -> Option<Denial>
+        ensures { result ≡ first_denial (spec.create_synonym_tests self.now execution.now synonym name.now) }
+    {
+        if let Some(cause) = self.site_denial(name) {
+            Some(cause)
+        } else if self.target(&execution.own_synonym(synonym)).is_some() {
+            Some(Denial::SynonymExists)
+        } else {
+            None
+        }
+    }
+
+    /// Makes the user's synonym for the name, which needs not be that of a table.
+    pub(crate) fn create_synonym(
+        &self,
+        alloc: Global,
+        execution: &Execution,
+        synonym: Ident,
+        name: Swn,
+    ) -> Result<Effect, NoMemory>
+        ensures { IfOk result (λ effect. effect ≡ spec.create_synonym self.now execution.now synonym name) }
+    {
+        if let Some(cause) = self.create_synonym_denial(execution, synonym, &name) {
+            return Ok(Effect::denied(cause));
+        }
+        let synonym = execution.own_synonym(synonym);
+        Effect::done(alloc, Change::PutSynonym { synonym, name }, Answer::Ok)
+    }
+
+    /// Takes the user's synonym away.
+    pub(crate) fn drop_synonym(
+        &self,
+        alloc: Global,
+        execution: &Execution,
+        synonym: Ident,
+    ) -> Result<Effect, NoMemory>
+        ensures { IfOk result (λ effect. effect ≡ spec.drop_synonym self.now execution.now synonym) }
+    {
+        let synonym = execution.own_synonym(synonym);
+        if self.target(&synonym).is_none() {
+            return Ok(Effect::denied(Denial::NoSynonym));
+        }
+        Effect::done(alloc, Change::DropSynonym { synonym }, Answer::Ok)
+    }
+}

@@ -1,0 +1,67 @@
+//! CREATE TABLE and DROP TABLE.
+
+ghost use Rattle.std.specs.Prelude.{◌≡◌, IfOk};
+ghost use Rattle.rs_bind.specs.Denials.{first_denial};
+ghost use Rattle.rs_mean.specs.TableStatements as spec;
+
+use crate::change::{Change, Effect};
+use crate::columns::names_differ;
+use crate::database::Database;
+use crate::stored_rows::StoredRows;
+use crate::table::Table;
+use rs_ast::{ColDef, ColDefs, IndexOfs};
+use rs_base::{Answer, Denial, NoMemory, Swn, Txn};
+use std::alloc::Global;
+
+fn new_table(alloc: Global, txn: Txn, name: &Swn, columns: ColDefs) -> Table
+    ensures { result ≡ spec.new_table txn name.now columns }
+{
+    Table {
+        made: txn,
+        place: name.birth,
+        columns,
+        indexes: IndexOfs::new(alloc),
+        rows: StoredRows::new(alloc),
+    }
+}
+
+impl Database {
+    fn create_denial(&self, name: &Swn, columns: &[ColDef]) -> Option<Denial>
+        ensures { result ≡ first_denial (spec.create_tests self.now name.now columns.now) }
+    {
+        if let Some(cause) = self.site_denial(name) {
+            Some(cause)
+        } else if !names_differ(columns) {
+            Some(Denial::TwoColumns)
+        } else if self.table(name).is_some() {
+            Some(Denial::TableExists)
+        } else {
+            None
+        }
+    }
+
+    pub(crate) fn create_table(
+        &self,
+        alloc: Global,
+        txn: Txn,
+        name: Swn,
+        columns: ColDefs,
+    ) -> Result<Effect, NoMemory>
+        ensures { IfOk result (λ effect. effect ≡ spec.create_table self.now txn name columns) }
+    {
+        if let Some(cause) = self.create_denial(&name, columns.as_slice()) {
+            return Ok(Effect::denied(cause));
+        }
+        let table = new_table(alloc, txn, &name, columns);
+        Effect::done(alloc, Change::PutTable { name, table }, Answer::Ok)
+    }
+
+    pub(crate) fn drop_table(&self, alloc: Global, name: Swn) -> Result<Effect, NoMemory>
+        ensures { IfOk result (λ effect. effect ≡ spec.drop_table self.now name) }
+    {
+        match self.table_denial(&name) {
+            Some(cause) => Ok(Effect::denied(cause)),
+            None => Effect::done(alloc, Change::DropTable { name }, Answer::Ok),
+        }
+    }
+}
