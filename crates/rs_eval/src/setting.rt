@@ -11,7 +11,7 @@ use std::alloc::Global;
 
 /// A copy of the value, or 0 where there is none.
 fn copy_or_zero(alloc: Global, value: Option<&Value>) -> Result<Value, NoMemory>
-    ensures { IfOk result (λ copy. copy ≡ unwrap_or (option_copied value) (Value.Int (pos 0))) }
+    ensures { IfOk result (λ copy. copy ≡ unwrap_or (option_copied value.entry) (Value.Int (pos 0))) }
 {
     match value {
         Some(value) => value.copy(alloc),
@@ -45,7 +45,7 @@ fn integer_of(value: &Value) -> i64
 }
 
 fn integer_or_zero(value: Option<&Value>) -> i64
-    ensures { result ≡ spec.integer_of (unwrap_or (option_copied value) (Value.Int (pos 0))) }
+    ensures { result ≡ spec.integer_of (unwrap_or (option_copied value.entry) (Value.Int (pos 0))) }
 {
     match value {
         Some(value) => integer_of(value),
