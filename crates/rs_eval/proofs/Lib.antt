@@ -1,1 +1,4 @@
+pub mod Extensions
 pub mod IntegerLaws
+pub mod Refuted
+pub mod Sets

@@ -64,6 +64,17 @@ fn operand(values: &[Value], row: &[Value], term: &BoundTerm) -> i64
     }
 }
 
+/// The value. That it is a text or an integer of 64 bits is seen in each of its cases.
+fn stored(value: Value) -> Value
+    ensures same { result ≡ value }
+    ensures stored { IsTrue (spec.is_stored value) }
+{
+    match value {
+        Value::Int(integer) => Value::Int(integer),
+        Value::Text(text) => Value::Text(text),
+    }
+}
+
 /// What the column is set to, or `None` where that isn't an integer of 64 bits.
 fn set_value(
     alloc: Global,
@@ -74,7 +85,7 @@ fn set_value(
     ensures { IfOk result (λ found. SomeIff found (IsTrue (spec.is_stored (spec.set_value values.now row.now set.now))) (spec.set_value values.now row.now set.now)) }
 {
     match &set.more {
-        None => Ok(Some(term_value(alloc, values, row, &set.first)?)),
+        None => Ok(Some(stored(term_value(alloc, values, row, &set.first)?))),
         Some((op, second)) => {
             let first = operand(values, row, &set.first);
             let second = operand(values, row, second);
