@@ -1,5 +1,5 @@
 -- Integers of 64 bits, by the test and as the machine has them.
-use Rattle.std.proofs.Common.{◌≡◌, ◌<◌, ◌≤◌, ◌^◌, ℕ, ℤ, pos, negsuc, Option, Some, None, IsTrue, SomeIff, FitsSigned, w64, ◌&&◌, true, leb, sym, ap, ◌∙◌, arith, leb-true}
+use Rattle.std.proofs.Common.{◌<◌, ◌≤◌, ◌^◌, ℤ, pos, negsuc, Option, Some, None, IsTrue, SomeIff, FitsSigned, w64, leb, sym, ◌∙◌, arith, leb-true}
 use Rattle.std.proofs.lemmas.Bool.{le-leb}
 use Rattle.std.proofs.Math.Bool.{and-true}
 use Rattle.rs_eval.specs.Integers.{is_i64}
