@@ -1,2 +1,18 @@
 //! What bound clauses, sets and tables give: which rows meet clauses, rows after sets, and joined rows.
 #![tactic(auto)]
+
+mod clauses;
+mod filling;
+mod integers;
+mod joined;
+mod refuting;
+mod setting;
+
+pub use clauses::{allows, holds};
+pub use filling::fill;
+pub use integers::compute;
+pub use joined::{MAX_JOINED, joined_rows};
+pub use setting::set_row;
+
+#[cfg(test)]
+mod tests;
