@@ -20,7 +20,7 @@ fn copy_or_zero(alloc: Global, value: Option<&Value>) -> Result<Value, NoMemory>
 }
 
 /// The value of a term, or 0 where it has none.
-fn term_value(
+pub fn term_value(
     alloc: Global,
     values: &[Value],
     row: &[Value],

@@ -1,4 +1,5 @@
 pub mod Entries
 pub mod Orders
 mod Positions
+mod UpdatedRows
 mod Written

@@ -8,6 +8,9 @@ use Rattle.rs_base.specs.declared.value.Value.{Value}
 use Rattle.rs_ast.specs.declared.bound.BoundCmp.{BoundCmp}
 use Rattle.rs_ast.specs.declared.bound.BoundSet.{BoundSet}
 use Rattle.rs_ast.specs.declared.bound.BoundTerm.{BoundTerm}
+use Rattle.rs_ast.specs.declared.change.Set.{Set}
+use Rattle.rs_ast.specs.declared.change.Term.{Term}
+use Rattle.rs_ast.specs.declared.clause.Clause.{Clause}
 use Rattle.rs_ast.specs.declared.select.Select.{Select}
 use Rattle.rs_ast.specs.declared.shape.Shape.{Shape}
 use Rattle.rs_ast.specs.declared.stmt.Dml.{Dml}
@@ -90,8 +93,17 @@ select db names query =
 abbrev pub change : Database → Swn → (Heading → Result Bound Denial) → Effect
 change db name bind = unless_denied (first_denial (table_tests db name)) (once_bound (rows_in db name ∷ []) (bind (heading_in db name)))
 
+abbrev pub insert : Database → Swn → List (List Term) → Effect
+insert db name rows = change db name (λ heading. insert_bound rows heading [])
+
+abbrev pub update : Database → Swn → List Set → List Clause → Effect
+update db name sets clauses = change db name (λ heading. update_bound sets clauses heading [])
+
+abbrev pub delete : Database → Swn → List Clause → Effect
+delete db name clauses = change db name (λ heading. delete_bound clauses heading [])
+
 unfoldable pub effect_of_dml : Database → Execution → Dml → Effect
 effect_of_dml db execution (dmls.Select query) = select db (map (λ table. name_of db execution table.name) query.from) query
-effect_of_dml db execution (dmls.Insert written rows) = change db (name_of db execution written) (λ heading. insert_bound rows heading [])
-effect_of_dml db execution (dmls.Update written sets clauses) = change db (name_of db execution written) (λ heading. update_bound sets clauses heading [])
-effect_of_dml db execution (dmls.Delete written clauses) = change db (name_of db execution written) (λ heading. delete_bound clauses heading [])
+effect_of_dml db execution (dmls.Insert written rows) = insert db (name_of db execution written) rows
+effect_of_dml db execution (dmls.Update written sets clauses) = update db (name_of db execution written) sets clauses
+effect_of_dml db execution (dmls.Delete written clauses) = delete db (name_of db execution written) clauses

@@ -1,10 +1,11 @@
 //! The names of a table's columns.
 
-ghost use Rattle.std.specs.Prelude.{◌≡◌};
+ghost use Rattle.std.specs.Prelude.{◌≡◌, IfOk};
 ghost use Rattle.rs_mean.specs.Columns as spec;
 
-use rs_ast::ColDef;
-use rs_base::Ident;
+use rs_ast::{ColDef, ColDefs};
+use rs_base::{Ident, NoMemory, with_room};
+use std::alloc::Global;
 
 /// Whether one of the columns has this name.
 pub(crate) fn has_name(columns: &[ColDef], name: Ident) -> bool
@@ -24,4 +25,15 @@ pub(crate) fn names_differ(columns: &[ColDef]) -> bool
         return false;
     }
     names_differ(others)
+}
+
+/// A copy of the columns.
+pub(crate) fn copy_columns(alloc: Global, columns: &[ColDef]) -> Result<ColDefs, NoMemory>
+    ensures { IfOk result (λ copy. copy ≡ columns.now) }
+{
+    let mut copy = with_room(alloc, columns.len())?;
+    for column in columns {
+        copy.push(*column)?;
+    }
+    Ok(copy)
 }

@@ -76,7 +76,7 @@ fn without_index(alloc: Global, indexes: &[IndexOf], name: Ident) -> Result<Inde
 }
 
 impl Database {
-    fn columns_of(&self, name: &Swn) -> &[ColDef]
+    pub(crate) fn columns_of(&self, name: &Swn) -> &[ColDef]
         ensures { result.now ≡ spec.columns_of (table_named name.now self.now) }
     {
         match self.table(name) {

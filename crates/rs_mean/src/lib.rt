@@ -1,14 +1,18 @@
 //! What statements mean over one database.
 #![tactic(auto)]
 
+mod bound_effect;
 mod built;
 mod change;
 mod columns;
 mod database;
+mod execute;
 mod execution;
 mod indexes;
 mod limits;
 mod naming;
+mod row_changes;
+mod row_statements;
 mod stored_rows;
 mod synonym;
 mod synonyms;

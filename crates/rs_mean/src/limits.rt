@@ -1,6 +1,6 @@
 //! How large rows and tables may be.
 
-ghost use Rattle.std.specs.Prelude.{◌≡◌, ◌-◌, ◌^◌, min};
+ghost use Rattle.std.specs.Prelude.{◌≡◌};
 ghost use Rattle.std.specs.List.{list_all};
 ghost use Rattle.rs_mean.specs.Limits as spec;
 
@@ -14,17 +14,6 @@ pub const MAX_ROWS: usize = 65_536;
 
 /// The most bytes of a table.
 pub const MAX_TABLE_BYTES: u64 = 8_388_608;
-
-/// The bytes of all the rows, or `u64::MAX` where they are more.
-pub(crate) fn rows_size(rows: &[Row]) -> u64
-    ensures { result ≡ min (spec.rows_size rows.now) (2 ^ 64 - 1) }
-{
-    let mut bytes: u64 = 0;
-    for row in rows {
-        bytes = bytes.saturating_add(row_size(row.as_slice()));
-    }
-    bytes
-}
 
 fn fits_row(row: &[Value]) -> bool
     ensures { result ≡ spec.fits_row row.now }

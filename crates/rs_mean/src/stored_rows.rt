@@ -3,7 +3,7 @@
 ghost use Rattle.std.specs.Prelude.{◌≡◌, [], ◌∷◌, ◌++◌, length, OnOk, OnErr};
 ghost use Rattle.rs_mean.specs.Limits as spec;
 
-use crate::limits::{MAX_ROWS, MAX_TABLE_BYTES, rows_size};
+use crate::limits::{MAX_ROWS, MAX_TABLE_BYTES};
 use rs_base::{NoMemory, Row, row_size};
 use std::alloc::Global;
 use std::marker::Model;
@@ -49,12 +49,19 @@ impl StoredRows {
         self.rows.len()
     }
 
-    /// Whether a table may hold these rows and `more`, in time proportional to `more`.
-    pub fn has_room(&self, more: &[Row]) -> bool
+    /// Whether a table may hold these rows.
+    pub fn fits(&self) -> bool
+        ensures { result ≡ spec.fits_rows self.now }
+    {
+        self.rows.len() <= MAX_ROWS && self.bytes <= MAX_TABLE_BYTES
+    }
+
+    /// Whether a table may hold these rows and `more`.
+    pub fn has_room(&self, more: &StoredRows) -> bool
         ensures { result ≡ spec.fits_rows (self.now ++ more.now) }
     {
-        self.rows.len().saturating_add(more.len()) <= MAX_ROWS
-            && self.bytes.saturating_add(rows_size(more)) <= MAX_TABLE_BYTES
+        self.rows.len().saturating_add(more.rows.len()) <= MAX_ROWS
+            && self.bytes.saturating_add(more.bytes) <= MAX_TABLE_BYTES
     }
 
     /// Puts a row at the end. Where memory is wanting, nothing changes.

@@ -5,7 +5,7 @@ ghost use Rattle.rs_bind.specs.Denials.{first_denial};
 ghost use Rattle.rs_mean.specs.TableStatements as spec;
 
 use crate::change::{Change, Effect};
-use crate::columns::names_differ;
+use crate::columns::{copy_columns, names_differ};
 use crate::database::Database;
 use crate::stored_rows::StoredRows;
 use crate::table::Table;
@@ -45,14 +45,14 @@ impl Database {
         alloc: Global,
         txn: Txn,
         name: Swn,
-        columns: ColDefs,
+        columns: &[ColDef],
     ) -> Result<Effect, NoMemory>
-        ensures { IfOk result (λ effect. effect ≡ spec.create_table self.now txn name columns) }
+        ensures { IfOk result (λ effect. effect ≡ spec.create_table self.now txn name columns.now) }
     {
-        if let Some(cause) = self.create_denial(&name, columns.as_slice()) {
+        if let Some(cause) = self.create_denial(&name, columns) {
             return Ok(Effect::denied(cause));
         }
-        let table = new_table(alloc, txn, &name, columns);
+        let table = new_table(alloc, txn, &name, copy_columns(alloc, columns)?);
         Effect::done(alloc, Change::PutTable { name, table }, Answer::Ok)
     }
 

@@ -16,7 +16,7 @@ pub record SiteState : Type 0 where
 
 -- a site as it is opened
 abbrev pub opened : ℕ → ℕ → SiteState
-opened me sites = record { me = me; sites = sites; epoch = 1; begun = 0; sessions = all_fresh; database = empty }
+opened me sites = record { me = me; sites = sites; epoch = 1; begun = 0; sessions = all_fresh; database = empty sites }
 
 -- the next transaction of the site
 abbrev pub next_txn : SiteState → Txn

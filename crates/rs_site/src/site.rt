@@ -40,7 +40,7 @@ impl Site {
             epoch: 1,
             begun: 0,
             sessions: Sessions::new(alloc),
-            database: Database::new(alloc),
+            database: Database::new(alloc, sites),
         })
     }
 

@@ -1,7 +1,7 @@
 //! An ask that is taken.
 
 ghost use Rattle.std.specs.Prelude.{◌≡◌, ◌+◌, ◌<◌, IfOk, IfErr, OnOk, OnErr, Some, None, min};
-ghost use Rattle.rs_mean.specs.Meaning.{meaning};
+ghost use Rattle.rs_mean.specs.Changes.{changed};
 ghost use Rattle.rs_site.specs.Asking as spec;
 ghost use Rattle.rs_site.specs.State.{next_txn};
 ghost use Rattle.rs_site.specs.Statement.{statement_of, place_told};
@@ -10,7 +10,7 @@ use crate::outs::{Decided, Outs, commits, nothing, tells};
 use crate::session::Session;
 use crate::site::Site;
 use rs_base::{Bytes, NoMemory, Origin, Peer, Reply, Txn};
-use rs_mean::{Execution, Outcome, Stmt};
+use rs_mean::{Change, Effect, Execution, Outcome, Stmt};
 use rs_parse::{ParseFault, parse};
 use std::alloc::Global;
 
@@ -39,7 +39,7 @@ fn statement(alloc: Global, text: &[u8]) -> Result<Result<Stmt, u32>, NoMemory>
     ensures place { IfOk result (λ said. IfErr said (λ place. place ≡ place_told text.now)) }
 {
     match parse(alloc, text) {
-        Ok(stmt) => match Stmt::built(alloc, stmt)? {
+        Ok(stmt) => match Stmt::built(stmt) {
             Some(stmt) => Ok(Ok(stmt)),
             None => Ok(Err(0)),
         },
@@ -61,13 +61,6 @@ impl Site {
         }
     }
 
-    /// What an execution would be replied.
-    fn reply_to(&self, alloc: Global, execution: &Execution) -> Result<Reply, NoMemory>
-        ensures { IfOk result (λ reply. reply ≡ spec.reply_of (meaning self.now.database execution.now).1) }
-    {
-        Ok(reply_of(self.database.outcome_of(alloc, execution)?))
-    }
-
     /// Remembers that the request was taken, and its reply.
     fn remember(&mut self, origin: &Origin, reply: Reply) -> Result<(), NoMemory>
         ensures ok { OnOk result (self.new ≡ spec.remembering self.old origin.now reply) }
@@ -81,16 +74,15 @@ impl Site {
         Ok(())
     }
 
-    /// Executes as the next transaction, and remembers that the request was taken, and its reply.
+    /// Makes the change as the next transaction, and remembers that the request was taken, and its reply.
     fn commit(
         &mut self,
-        alloc: Global,
-        execution: Execution,
+        change: Change,
         origin: &Origin,
         reply: Reply,
     ) -> Result<(), NoMemory>
         requires { self.old.begun < spec.last_number }
-        ensures ok { OnOk result (self.new ≡ record (spec.remembering self.old origin.now reply) { begun = self.old.begun + 1; database = (meaning self.old.database execution).0 }) }
+        ensures ok { OnOk result (self.new ≡ record (spec.remembering self.old origin.now reply) { begun = self.old.begun + 1; database = changed change self.old.database }) }
         ensures err { OnErr result (self.new ≡ self.old) }
     {
         let session = Session {
@@ -98,7 +90,7 @@ impl Site {
             reply: Some(reply),
         };
         let before = self.sessions.put(&origin.user, session)?;
-        if let Err(fault) = self.database.apply(alloc, execution) {
+        if let Err(fault) = self.database.apply(change) {
             self.sessions.put_back(&origin.user, before);
             return Err(fault);
         }
@@ -125,7 +117,8 @@ impl Site {
             site: origin.site,
             stmt,
         };
-        let reply = self.reply_to(alloc, &execution)?;
+        let Effect { change, outcome } = self.database.effect_of(alloc, &execution)?;
+        let reply = reply_of(outcome);
         let kept = reply.copy(alloc)?;
         let decided = Decided {
             txn: self.next_txn(),
@@ -133,7 +126,7 @@ impl Site {
             text,
         };
         let outs = commits(alloc, from, origin, reply, decided)?;
-        self.commit(alloc, execution, origin, kept)?;
+        self.commit(change, origin, kept)?;
         Ok(outs)
     }
 

@@ -30,7 +30,7 @@ use Rattle.rs_mean.proofs.Lawful.{names_stay_in_order}
 -- ---- histories that grow
 
 pub database_of-push : (history : List Decided) (entry : Decided) → database_of (history ++ entry ∷ []) ≡ (effect (database_of history) entry).0
-database_of-push history entry = fold_push (λ db e. (effect db e).0) empty history entry
+database_of-push history entry = fold_push (λ db e. (effect db e).0) (empty 1) history entry
 
 pub take_front : {X : Type 0} (xs ys : List X) → take (length xs) (xs ++ ys) ≡ xs
 take_front xs ys = take-append-le (length xs) xs ys (omega arith) ∙ take_all (length xs) xs (omega arith)

@@ -15,9 +15,9 @@ effect_of db entry (Some stmt) = let m = meaning db (execution_of entry.txn entr
 abbrev pub effect : Database → Decided → Database × Option Outcome
 effect db entry = effect_of db entry (statement_of entry.text)
 
--- the database that a history builds from the empty one
+-- the database of one site that a history builds from the empty one
 abbrev pub database_of : List Decided → Database
-database_of history = fold (λ db entry. (effect db entry).0) empty history
+database_of history = fold (λ db entry. (effect db entry).0) (empty 1) history
 
 -- the outcome of an entry behind this history
 abbrev pub outcome_behind : List Decided → Decided → Option Outcome

@@ -1,0 +1,169 @@
+-- What holds of every execution, whatever the database.
+use Rattle.std.specs.Prelude.{◌≡◌, ◌≢◌, ◌≤◌, ℕ, ◌+◌, All, AllPairs, List, [], ◌∷◌, map, length, Option, Some, None, Ok, Err, IsSome, option_map}
+use Rattle.std.specs.Map.{values_of}
+use Rattle.rs_base.specs.declared.name.NameText.{NameText}
+use Rattle.rs_base.specs.declared.name.Swn.{Swn}
+use Rattle.rs_base.specs.declared.reply.Answer.{Answer}
+use Rattle.rs_base.specs.declared.reply.Answer.TheVariants as answers
+use Rattle.rs_base.specs.declared.reply.Denial.{Denial}
+use Rattle.rs_base.specs.declared.value.Value.{Value}
+use Rattle.rs_base.specs.Sizes.{row_size}
+use Rattle.rs_ast.specs.declared.change.Set.{Set}
+use Rattle.rs_ast.specs.declared.change.Term.TheVariants as terms
+use Rattle.rs_ast.specs.declared.clause.Clause.{Clause}
+use Rattle.rs_ast.specs.declared.column.ColDef.{ColDef}
+use Rattle.rs_ast.specs.declared.select.Select.{Select}
+use Rattle.rs_ast.specs.declared.stmt.Dml.{Dml}
+use Rattle.rs_ast.specs.declared.stmt.Dml.TheVariants as dmls
+use Rattle.rs_mean.specs.declared.built.Stmt.{Stmt}
+use Rattle.rs_mean.specs.declared.built.Stmt.TheVariants as stmts
+use Rattle.rs_mean.specs.declared.execution.Execution.{Execution}
+use Rattle.rs_mean.specs.declared.table.Table.{Table}
+use Rattle.rs_mean.specs.Changes.{with_rows}
+use Rattle.rs_mean.specs.Database.{Database, empty, table_named, IsInOrder}
+use Rattle.rs_mean.specs.Limits.{max_row_bytes, max_rows, max_table_bytes, rows_size}
+use Rattle.rs_mean.specs.Meaning.{meaning}
+use Rattle.rs_mean.specs.Names.{name_of}
+
+-- the database after the execution
+abbrev pub after : Database → Execution → Database
+after db execution = (meaning db execution).0
+
+-- a denied execution changes nothing
+abbrev pub DeniedChangesNothing : Type 0
+DeniedChangesNothing = (db : Database) (execution : Execution) (cause : Denial) → (meaning db execution).1 ≡ Err cause → after db execution ≡ db
+
+-- a SELECT changes nothing
+abbrev pub SelectChangesNothing : Type 0
+SelectChangesNothing = (db : Database) (execution : Execution) (query : Select) → execution.stmt ≡ stmts.Dml (dmls.Select query) → after db execution ≡ db
+
+-- no execution changes how many sites there are
+abbrev pub SitesStay : Type 0
+SitesStay = (db : Database) (execution : Execution) → (after db execution).sites ≡ db.sites
+
+-- each name stands once, and the names rise, at first and after each execution
+abbrev pub NamesStayInOrder : Type 0
+NamesStayInOrder = ((sites : ℕ) → IsInOrder (empty sites)) × ((db : Database) (execution : Execution) → IsInOrder db → IsInOrder (after db execution))
+
+-- ---- what a statement may change
+
+-- the name, as it is written, of the table that a statement may change
+abbrev pub written_of_dml : Dml → Option NameText
+written_of_dml (dmls.Select query) = None
+written_of_dml (dmls.Insert written rows) = Some written
+written_of_dml (dmls.Update written sets clauses) = Some written
+written_of_dml (dmls.Delete written clauses) = Some written
+
+abbrev pub written_of : Stmt → Option NameText
+written_of (stmts.CreateTable written columns) = Some written
+written_of (stmts.DropTable written) = Some written
+written_of (stmts.CreateIndex index written column) = Some written
+written_of (stmts.DropIndex index written) = Some written
+written_of (stmts.CreateSynonym synonym written) = None
+written_of (stmts.DropSynonym synonym) = None
+written_of (stmts.Dml dml) = written_of_dml dml
+
+-- the name of the table that an execution may change
+abbrev pub target_table : Database → Execution → Option Swn
+target_table db execution = option_map (name_of db execution) (written_of execution.stmt)
+
+-- an execution touches no table but its own
+abbrev pub OthersStay : Type 0
+OthersStay = (db : Database) (execution : Execution) (name : Swn) → target_table db execution ≢ Some name → table_named name (after db execution) ≡ table_named name db
+
+-- the statement is one on tables or on rows
+abbrev pub LeavesSynonyms : Stmt → Type 0
+LeavesSynonyms (stmts.CreateTable written columns) = Unit {0}
+LeavesSynonyms (stmts.DropTable written) = Unit {0}
+LeavesSynonyms (stmts.CreateIndex index written column) = Unit {0}
+LeavesSynonyms (stmts.DropIndex index written) = Unit {0}
+LeavesSynonyms (stmts.CreateSynonym synonym written) = ⊥
+LeavesSynonyms (stmts.DropSynonym synonym) = ⊥
+LeavesSynonyms (stmts.Dml dml) = Unit {0}
+
+-- only statements on synonyms change what synonyms stand for
+abbrev pub SynonymsStay : Type 0
+SynonymsStay = (db : Database) (execution : Execution) → LeavesSynonyms execution.stmt → (after db execution).synonyms ≡ db.synonyms
+
+-- ---- what is there after a statement that was done
+
+-- after a CREATE TABLE that was done its name has the table made, in which there is no row
+abbrev pub TableIsMade : Type 0
+TableIsMade = (db : Database) (execution : Execution) (written : NameText) (columns : List ColDef) (given : List Answer)
+    → execution.stmt ≡ stmts.CreateTable written columns → (meaning db execution).1 ≡ Ok given
+    → (given ≡ answers.Ok ∷ [])
+    × (table_named (name_of db execution written) db ≡ None)
+    × (table_named (name_of db execution written) (after db execution) ≡ Some (record { made = execution.txn; place = (name_of db execution written).birth; columns = columns; indexes = []; rows = [] }))
+
+-- after a DROP TABLE that was done no table has its name, which one had before
+abbrev pub TableIsDropped : Type 0
+TableIsDropped = (db : Database) (execution : Execution) (written : NameText) (given : List Answer)
+    → IsInOrder db → execution.stmt ≡ stmts.DropTable written → (meaning db execution).1 ≡ Ok given
+    → (given ≡ answers.Ok ∷ [])
+    × IsSome (table_named (name_of db execution written) db)
+    × (table_named (name_of db execution written) (after db execution) ≡ None)
+
+-- after an INSERT of values that was done its name has the table that it had, with the rows of these values at its end
+abbrev pub RowsAreAppended : Type 0
+RowsAreAppended = (db : Database) (execution : Execution) (written : NameText) (rows : List (List Value)) (given : List Answer)
+    → execution.stmt ≡ stmts.Dml (dmls.Insert written (map (map terms.Lit) rows)) → (meaning db execution).1 ≡ Ok given
+    → (given ≡ answers.Changed (length rows) ∷ [])
+    × IsSome (table_named (name_of db execution written) db)
+    × (table_named (name_of db execution written) (after db execution) ≡ option_map (with_rows rows) (table_named (name_of db execution written) db))
+
+-- A table has so many rows less.
+pub record HasLost (count : ℕ) (old new : Table) : Type 0 where
+  pub made : new.made ≡ old.made
+  pub columns : new.columns ≡ old.columns
+  pub indexes : new.indexes ≡ old.indexes
+  pub rows : length new.rows + count ≡ length old.rows
+
+-- after a DELETE that was done its table has as many rows less as it tells
+abbrev pub RowsAreTakenOut : Type 0
+RowsAreTakenOut = (db : Database) (execution : Execution) (written : NameText) (clauses : List Clause) (given : List Answer)
+    → execution.stmt ≡ stmts.Dml (dmls.Delete written clauses) → (meaning db execution).1 ≡ Ok given
+    → (count : ℕ) × (old : Table) × (new : Table) × (given ≡ answers.Changed count ∷ [])
+    × (table_named (name_of db execution written) db ≡ Some old) × (table_named (name_of db execution written) (after db execution) ≡ Some new) × HasLost count old new
+
+-- after an UPDATE that was done its table has as many rows as before, and it tells at most so many
+abbrev pub RowsAreChanged : Type 0
+RowsAreChanged = (db : Database) (execution : Execution) (written : NameText) (sets : List Set) (clauses : List Clause) (given : List Answer)
+    → execution.stmt ≡ stmts.Dml (dmls.Update written sets clauses) → (meaning db execution).1 ≡ Ok given
+    → (count : ℕ) × (old : Table) × (new : Table) × (given ≡ answers.Changed count ∷ []) × (count ≤ length old.rows)
+    × (table_named (name_of db execution written) db ≡ Some old) × (table_named (name_of db execution written) (after db execution) ≡ Some new) × HasLost 0 old new
+
+-- ---- what every table keeps
+
+-- each table of the database is so
+abbrev pub EachTable : (Table → Type 0) → Database → Type 0
+EachTable P db = All P (values_of db.tables)
+
+-- each table is so at first, and stays so after each execution
+abbrev pub StaysInEachTable : (Table → Type 0) → Type 0
+StaysInEachTable P = ((sites : ℕ) → EachTable P (empty sites)) × ((db : Database) (execution : Execution) → EachTable P db → EachTable P (after db execution))
+
+-- The table has at most 65,536 rows and at most 8,388,608 bytes, and each row has at most 1,024 bytes.
+pub record IsWithin (table : Table) : Type 0 where
+  pub rows : length table.rows ≤ max_rows
+  pub bytes : rows_size table.rows ≤ max_table_bytes
+  pub row_bytes : All (λ row. row_size row ≤ max_row_bytes) table.rows
+
+-- a table never has more rows or bytes than it may, nor a row more bytes than that
+abbrev pub TablesStayWithin : Type 0
+TablesStayWithin = StaysInEachTable IsWithin
+
+-- no two columns have one name
+abbrev pub HasDistinctColumns : Table → Type 0
+HasDistinctColumns table = AllPairs (λ one other. one.name ≢ other.name) table.columns
+
+-- no table has two columns of one name
+abbrev pub ColumnsStayDistinct : Type 0
+ColumnsStayDistinct = StaysInEachTable HasDistinctColumns
+
+-- no two indexes have one name, or are on one column
+abbrev pub HasDistinctIndexes : Table → Type 0
+HasDistinctIndexes table = AllPairs (λ one other. (one.name ≢ other.name) × (one.column ≢ other.column)) table.indexes
+
+-- no table has two indexes of one name, or on one column
+abbrev pub IndexesStayDistinct : Type 0
+IndexesStayDistinct = StaysInEachTable HasDistinctIndexes

@@ -1,0 +1,195 @@
+//! Statements on rows.
+
+ghost use Rattle.std.specs.Prelude.{◌≡◌, [], ◌∷◌, flat_map, map, drop, take, IfOk};
+ghost use Rattle.rs_bind.specs.Denials.{first_denial};
+ghost use Rattle.rs_mean.specs.Names.{name_of, table_tests};
+ghost use Rattle.rs_mean.specs.RowStatements as spec;
+
+use crate::bound_effect::effect_of_bound;
+use crate::change::Effect;
+use crate::columns::copy_columns;
+use crate::database::Database;
+use crate::execution::Execution;
+use crate::stored_rows::StoredRows;
+use rs_ast::{Clause, Dml, Select, Set, TableRef, TermRow};
+use rs_base::{Denial, NameText, NoMemory, Swn, with_room};
+use rs_bind::{Heading, Headings, bind_delete, bind_insert, bind_select, bind_update};
+use rs_plan::{Bound, Swns};
+use std::alloc::Global;
+
+/// The effect of a statement, once it is bound.
+fn once_bound(
+    alloc: Global,
+    outcome: Result<Bound, Denial>,
+    tables: &[&StoredRows],
+) -> Result<Effect, NoMemory>
+    ensures { IfOk result (λ effect. effect ≡ spec.once_bound (map (λ rows. rows.now) tables.now) outcome) }
+{
+    match outcome {
+        Ok(bound) => effect_of_bound(alloc, bound, tables),
+        Err(cause) => Ok(Effect::denied(cause)),
+    }
+}
+
+impl Database {
+    fn heading_in(&self, alloc: Global, name: &Swn) -> Result<Heading, NoMemory>
+        ensures { IfOk result (λ heading. heading ≡ spec.heading_in self.now name.now) }
+    {
+        Ok(Heading {
+            name: *name,
+            columns: copy_columns(alloc, self.columns_of(name))?,
+        })
+    }
+
+    fn headings_in(&self, alloc: Global, names: &[Swn]) -> Result<Headings, NoMemory>
+        ensures { IfOk result (λ headings. headings ≡ map (spec.heading_in self.now) names.now) }
+    {
+        let mut headings = with_room(alloc, names.len())?;
+        for name in names {
+            headings.push(self.heading_in(alloc, name)?)?;
+        }
+        Ok(headings)
+    }
+
+    /// The rows of the table of this name, or `none` where there is no such table.
+    fn rows_in<'a>(&'a self, name: &Swn, none: &'a StoredRows) -> &'a StoredRows
+        requires { none.now ≡ [] }
+        ensures { result.now ≡ spec.rows_in self.now name.now }
+    {
+        match self.table(name) {
+            Some(table) => &table.rows,
+            None => none,
+        }
+    }
+
+    fn all_rows_in<'a>(
+        &'a self,
+        alloc: Global,
+        names: &[Swn],
+        none: &'a StoredRows,
+    ) -> Result<Vec<&'a StoredRows>, NoMemory>
+        requires { none.now ≡ [] }
+        ensures { IfOk result (λ tables. map (λ rows. rows.now) tables.items ≡ map (spec.rows_in self.now) names.now) }
+    {
+        let mut tables = Vec::with_capacity(alloc, names.len())?;
+        for name in names {
+            tables.push(self.rows_in(name, none))?;
+        }
+        Ok(tables)
+    }
+
+    fn tables_denial(&self, names: &[Swn]) -> Option<Denial>
+        ensures { result ≡ first_denial (flat_map (table_tests self.now) names.now) }
+    {
+        for name in names {
+            if let Some(cause) = self.table_denial(name) {
+                return Some(cause);
+            }
+        }
+        None
+    }
+
+    fn names_of(
+        &self,
+        alloc: Global,
+        execution: &Execution,
+        tables: &[TableRef],
+    ) -> Result<Swns, NoMemory>
+        ensures { IfOk result (λ names. names ≡ map (λ table. name_of self.now execution.now table.name) tables.now) }
+    {
+        let mut names = with_room(alloc, tables.len())?;
+        for table in tables {
+            names.push(self.name_of(execution, &table.name))?;
+        }
+        Ok(names)
+    }
+
+    fn select(&self, alloc: Global, names: &[Swn], query: &Select) -> Result<Effect, NoMemory>
+        ensures { IfOk result (λ effect. effect ≡ spec.select self.now names.now query.now) }
+    {
+        if let Some(cause) = self.tables_denial(names) {
+            return Ok(Effect::denied(cause));
+        }
+        let none = StoredRows::new(alloc);
+        let tables = self.all_rows_in(alloc, names, &none)?;
+        let headings = self.headings_in(alloc, names)?;
+        let outcome = bind_select(alloc, query, headings.as_slice(), &[])?;
+        once_bound(alloc, outcome, tables.as_slice())
+    }
+
+    fn insert(&self, alloc: Global, name: &Swn, rows: &[TermRow]) -> Result<Effect, NoMemory>
+        ensures { IfOk result (λ effect. effect ≡ spec.insert self.now name.now rows.now) }
+    {
+        if let Some(cause) = self.table_denial(name) {
+            return Ok(Effect::denied(cause));
+        }
+        let none = StoredRows::new(alloc);
+        let heading = self.heading_in(alloc, name)?;
+        let outcome = bind_insert(alloc, rows, &heading, &[])?;
+        once_bound(alloc, outcome, &[self.rows_in(name, &none)])
+    }
+
+    fn update(
+        &self,
+        alloc: Global,
+        name: &Swn,
+        sets: &[Set],
+        clauses: &[Clause],
+    ) -> Result<Effect, NoMemory>
+        ensures { IfOk result (λ effect. effect ≡ spec.update self.now name.now sets.now clauses.now) }
+    {
+        if let Some(cause) = self.table_denial(name) {
+            return Ok(Effect::denied(cause));
+        }
+        let none = StoredRows::new(alloc);
+        let heading = self.heading_in(alloc, name)?;
+        let outcome = bind_update(alloc, sets, clauses, &heading, &[])?;
+        once_bound(alloc, outcome, &[self.rows_in(name, &none)])
+    }
+
+    fn delete(&self, alloc: Global, name: &Swn, clauses: &[Clause]) -> Result<Effect, NoMemory>
+        ensures { IfOk result (λ effect. effect ≡ spec.delete self.now name.now clauses.now) }
+    {
+        if let Some(cause) = self.table_denial(name) {
+            return Ok(Effect::denied(cause));
+        }
+        let none = StoredRows::new(alloc);
+        let heading = self.heading_in(alloc, name)?;
+        let outcome = bind_delete(alloc, clauses, &heading, &[])?;
+        once_bound(alloc, outcome, &[self.rows_in(name, &none)])
+    }
+
+    /// What a statement on rows changes and answers.
+    #[tactic(auto, unfolding(crate::specs::RowStatements::effect_of_dml))]
+    pub(crate) fn effect_of_dml(
+        &self,
+        alloc: Global,
+        execution: &Execution,
+        dml: &Dml,
+    ) -> Result<Effect, NoMemory>
+        ensures { IfOk result (λ effect. effect ≡ spec.effect_of_dml self.now execution.now dml.now) }
+    {
+        match dml {
+            Dml::Select(query) => {
+                let names = self.names_of(alloc, execution, query.from.as_slice())?;
+                self.select(alloc, names.as_slice(), query)
+            }
+            Dml::Insert { name, rows } => {
+                self.insert(alloc, &self.name_of(execution, name), rows.as_slice())
+            }
+            Dml::Update {
+                name,
+                sets,
+                clauses,
+            } => self.update(
+                alloc,
+                &self.name_of(execution, name),
+                sets.as_slice(),
+                clauses.as_slice(),
+            ),
+            Dml::Delete { name, clauses } => {
+                self.delete(alloc, &self.name_of(execution, name), clauses.as_slice())
+            }
+        }
+    }
+}
