@@ -1,8 +1,30 @@
 //! Binding: names in a statement become places of columns, or the statement is denied.
 #![tactic(auto)]
 
+mod change_denials;
+mod changes;
+mod clause_denials;
+mod clauses;
+mod columns;
+mod grouping;
 mod heading;
+mod item_keys;
+mod kinds;
+mod numbers;
+mod params;
+mod queries;
 mod scope;
+mod scopes;
+mod select_denials;
+mod shape;
+mod statements;
+mod terms;
+mod tested;
+#[cfg(test)]
+mod tests;
 
+pub use changes::{bind_delete, bind_insert, bind_update};
 pub use heading::{Heading, Headings};
+pub use queries::bind_select;
 pub use scope::{Param, Params, Scope, ScopeColumn};
+pub use statements::bind;
