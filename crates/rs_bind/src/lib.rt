@@ -2,7 +2,9 @@
 #![tactic(auto)]
 
 mod heading;
+mod laws;
 mod scope;
 
 pub use heading::{Heading, Headings};
+pub use laws::bound_is_over;
 pub use scope::{Param, Params, Scope, ScopeColumn};
