@@ -8,9 +8,9 @@ ghost use Rattle.rs_bind.specs.Scope as named;
 use crate::clause_denials::clauses_denial;
 use crate::columns::{column_kind, named_count, unqualified};
 use crate::kinds::kinds_fit;
+use crate::name_denials::{denial_if, param_denial};
 use crate::params::param_kind;
 use crate::scope::{Param, ScopeColumn};
-use crate::tested::{denial_if, param_denial};
 use rs_ast::{Clause, Expr, Set, Term, TermRow};
 use rs_base::{Denial, Ident, Kind};
 
@@ -80,8 +80,9 @@ fn givens_denial(params: &[Param], row: &[Term]) -> Option<Denial>
 fn terms_denial(scope: &[ScopeColumn], params: &[Param], row: &[Term]) -> Option<Denial>
     ensures { result ≡ spec.first_denial (spec.row_tests scope.now params.now row.now) }
 {
-    denial_if(!row_fits(scope, params, row), Denial::WrongType)
-        .or_else(|| givens_denial(params, row))
+    denial_if(!row_fits(scope, params, row), Denial::WrongType).or_else(|| givens_denial(
+        params, row,
+    ))
 }
 
 fn row_denial(scope: &[ScopeColumn], params: &[Param], row: &TermRow) -> Option<Denial>
@@ -190,12 +191,7 @@ fn set_kind_denial(scope: &[ScopeColumn], params: &[Param], set: &Set) -> Option
 }
 
 /// Why one of the sets denies an UPDATE, if it does: its column isn't there, or is set before; its terms; their kinds.
-fn set_denial(
-    scope: &[ScopeColumn],
-    params: &[Param],
-    before: &[Set],
-    set: &Set,
-) -> Option<Denial>
+fn set_denial(scope: &[ScopeColumn], params: &[Param], before: &[Set], set: &Set) -> Option<Denial>
     ensures { result ≡ spec.first_denial (spec.set_tests scope.now params.now before.now set.now) }
 {
     set_column_denial(scope, before, set)

@@ -7,9 +7,9 @@ ghost use Rattle.rs_plan.specs.Kinds as kinds;
 
 use crate::columns::column_kind;
 use crate::kinds::kinds_fit;
+use crate::name_denials::{column_denial, denial_if, param_denial};
 use crate::params::param_kind;
 use crate::scope::{Param, ScopeColumn};
-use crate::tested::{column_denial, denial_if, param_denial};
 use rs_ast::{Clause, Cmp, Operand};
 use rs_base::{Denial, Kind};
 

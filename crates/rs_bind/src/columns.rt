@@ -28,9 +28,7 @@ pub(crate) fn named_count(scope: &[ScopeColumn], written: &ColRef) -> usize
 fn position_of(scope: &[ScopeColumn], written: &ColRef) -> Option<usize>
     ensures { result ≡ position (spec.is_named written.now) scope.now }
 {
-    scope
-        .iter()
-        .position(|column| is_named(written, column))
+    scope.iter().position(|column| is_named(written, column))
 }
 
 /// The place of the first column of that name. Where there is none it is behind the last column.

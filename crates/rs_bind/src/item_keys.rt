@@ -51,9 +51,7 @@ fn names_item(scope: &[ScopeColumn], select: &Select, by: &KeyBy) -> bool
 {
     match by {
         KeyBy::Col(written) => is_shown(scope, select, written),
-        KeyBy::Place(number) => {
-            *number != 0 && !(item_count(scope, select) < *number as usize)
-        }
+        KeyBy::Place(number) => { *number != 0 && !(item_count(scope, select) < *number as usize) }
     }
 }
 

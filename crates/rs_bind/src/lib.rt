@@ -10,6 +10,8 @@ mod grouping;
 mod heading;
 mod item_keys;
 mod kinds;
+mod laws;
+mod name_denials;
 mod numbers;
 mod params;
 mod queries;
@@ -19,12 +21,12 @@ mod select_denials;
 mod shape;
 mod statements;
 mod terms;
-mod tested;
 #[cfg(test)]
 mod tests;
 
 pub use changes::{bind_delete, bind_insert, bind_update};
 pub use heading::{Heading, Headings};
+pub use laws::bound_is_over;
 pub use queries::bind_select;
 pub use scope::{Param, Params, Scope, ScopeColumn};
 pub use statements::bind;

@@ -71,13 +71,6 @@ pub fn bind_select(
     let scope = query_scope(alloc, select.from.as_slice(), headings)?;
     match select_denial(scope.as_slice(), aliases.as_slice(), params, select) {
         Some(cause) => Ok(Err(cause)),
-        None => Ok(Ok(bound_select(
-            alloc,
-            scope.as_slice(),
-            aliases,
-            select,
-            headings,
-            params,
-        )?)),
+        None => Ok(Ok(bound_select(alloc, scope.as_slice(), aliases, select, headings, params)?)),
     }
 }

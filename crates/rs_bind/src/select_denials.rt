@@ -11,8 +11,8 @@ use crate::columns::column_kind;
 use crate::grouping::{is_grouped, shows_group};
 use crate::item_keys::names_items;
 use crate::kinds::kinds_fit;
+use crate::name_denials::{column_denial, denial_if};
 use crate::scope::{Param, ScopeColumn};
-use crate::tested::{column_denial, denial_if};
 use rs_ast::{ColRef, Item, Key, KeyBy, Select};
 use rs_base::{Denial, Ident, Kind};
 
@@ -25,8 +25,10 @@ fn sums_integers(scope: &[ScopeColumn], written: &ColRef) -> bool
 fn sum_denial(scope: &[ScopeColumn], written: &ColRef) -> Option<Denial>
     ensures { result ≡ spec.first_denial (spec.item_tests scope.now (Item.Sum written.now)) }
 {
-    column_denial(scope, written)
-        .or_else(|| denial_if(!sums_integers(scope, written), Denial::WrongType))
+    column_denial(scope, written).or_else(|| denial_if(
+        !sums_integers(scope, written),
+        Denial::WrongType,
+    ))
 }
 
 fn item_denial(scope: &[ScopeColumn], item: &Item) -> Option<Denial>

@@ -27,11 +27,7 @@ fn shape_item(scope: &[ScopeColumn], item: &Item) -> ShapeItem
     }
 }
 
-fn shape_items(
-    alloc: Global,
-    scope: &[ScopeColumn],
-    shown: &[Item],
-) -> Result<ShapeItems, NoMemory>
+fn shape_items(alloc: Global, scope: &[ScopeColumn], shown: &[Item]) -> Result<ShapeItems, NoMemory>
     ensures { IfOk result (λ bound. bound ≡ map (spec.shape_item scope.now) shown.now) }
 {
     let mut items = with_room(alloc, shown.len())?;

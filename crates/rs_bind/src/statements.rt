@@ -2,7 +2,7 @@
 
 ghost use Rattle.std.specs.Prelude.{◌≡◌, [], ◌∷◌, map, zip, length, IfOk, Some};
 ghost use Rattle.std.specs.Option.{option_copied};
-ghost use Rattle.rs_plan.specs.Over.{AreEntriesOf};
+ghost use Rattle.rs_plan.specs.Over.{AreEntriesOf, IsOver};
 ghost use Rattle.rs_bind.specs.Binding.{bound_of};
 ghost use Rattle.rs_bind.specs.Entries as spec;
 
@@ -90,11 +90,7 @@ fn valued_params(alloc: Global, names: &[Ident], values: &[Value]) -> Result<Par
 }
 
 /// The parameters of these names, each with the kind of its value where there are values.
-fn params_of(
-    alloc: Global,
-    names: &[Ident],
-    values: Option<&[Value]>,
-) -> Result<Params, NoMemory>
+fn params_of(alloc: Global, names: &[Ident], values: Option<&[Value]>) -> Result<Params, NoMemory>
     ensures { IfOk result (λ params. params ≡ spec.params_of names.now (option_copied values.entry)) }
 {
     match values {
@@ -111,8 +107,38 @@ fn only(headings: &[Heading]) -> &Heading
     &headings[0]
 }
 
-/// Binds a statement over the tables of which these entries tell, or tells why it is denied. The parameters have these
-/// names; where there are values, each has the kind of its value.
+fn outcome_over(
+    alloc: Global,
+    stmt: &Dml,
+    entries: &[Entry],
+    params: &[Ident],
+    values: Option<&[Value]>,
+) -> Result<Result<Bound, Denial>, NoMemory>
+    requires { length entries.now ≡ spec.table_count stmt.now }
+    ensures { IfOk result (λ outcome. bound_of stmt.now (spec.headings_of entries.now) (spec.params_of params.now (option_copied values.entry)) ≡ Some outcome) }
+{
+    let headings = headings_of(alloc, entries)?;
+    let headings = headings.as_slice();
+    let params = params_of(alloc, params, values)?;
+    let params = params.as_slice();
+    match stmt {
+        Dml::Select(select) => bind_select(alloc, select, headings, params),
+        Dml::Insert { rows, .. } => { bind_insert(alloc, rows.as_slice(), only(headings), params) }
+        Dml::Update { sets, clauses, .. } => bind_update(
+            alloc,
+            sets.as_slice(),
+            clauses.as_slice(),
+            only(headings),
+            params,
+        ),
+        Dml::Delete { clauses, .. } => {
+            bind_delete(alloc, clauses.as_slice(), only(headings), params)
+        }
+    }
+}
+
+/// Binds a statement over the tables of these names, of which these entries tell, or tells why it is denied. The
+/// parameters have these names; where there are values, each has the kind of its value. What is bound is over the entries.
 pub fn bind(
     alloc: Global,
     stmt: &Dml,
@@ -125,25 +151,7 @@ pub fn bind(
     requires entries { AreEntriesOf names.now entries.now }
     requires values { spec.AreValuesOf params.now (option_copied values) }
     ensures outcome { IfOk result (λ outcome. bound_of stmt.now (spec.headings_of entries.now) (spec.params_of params.now (option_copied values.entry)) ≡ Some outcome) }
+    ensures over { IfOk result (λ outcome. IfOk outcome (λ bound. IsOver bound entries.now)) }
 {
-    let headings = headings_of(alloc, entries)?;
-    let headings = headings.as_slice();
-    let params = params_of(alloc, params, values)?;
-    let params = params.as_slice();
-    match stmt {
-        Dml::Select(select) => bind_select(alloc, select, headings, params),
-        Dml::Insert { rows, .. } => {
-            bind_insert(alloc, rows.as_slice(), only(headings), params)
-        }
-        Dml::Update { sets, clauses, .. } => bind_update(
-            alloc,
-            sets.as_slice(),
-            clauses.as_slice(),
-            only(headings),
-            params,
-        ),
-        Dml::Delete { clauses, .. } => {
-            bind_delete(alloc, clauses.as_slice(), only(headings), params)
-        }
-    }
+    outcome_over(alloc, stmt, entries, params, values)
 }

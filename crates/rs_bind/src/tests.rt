@@ -133,13 +133,15 @@ fn query(alloc: Global) -> Result<Select, Fail> {
 fn a_query_is_bound(rt: HostRuntime) -> Result<(), Fail> {
     let alloc = rt.alloc();
     let headings = [heading(alloc, b"t")?, heading(alloc, b"u")?];
-    let Ok(Bound::Select {
-        names,
-        aliases,
-        widths,
-        clauses,
-        shape,
-    }) = bind_select(alloc, &query(alloc)?, &headings, &params()?)?
+    let Ok(
+        Bound::Select {
+            names,
+            aliases,
+            widths,
+            clauses,
+            shape,
+        },
+    ) = bind_select(alloc, &query(alloc)?, &headings, &params()?)?
     else {
         return Err("the query is denied".into());
     };
@@ -184,7 +186,10 @@ fn an_insert_is_bound(rt: HostRuntime) -> Result<(), Fail> {
         return Err("there is one row".into());
     };
     assert!(rt;
-        matches!(row.as_slice(), [BoundTerm::Lit(Value::Int(7)), BoundTerm::Param(1)])
+        matches!(
+            row.as_slice(),
+            [BoundTerm::Lit(Value::Int(7)), BoundTerm::Param(1)]
+        )
     );
     Ok(())
 }
@@ -202,11 +207,19 @@ fn an_update_is_bound(rt: HostRuntime) -> Result<(), Fail> {
     let sets = one_item(alloc, set)?;
     let clauses = where_it_is_p(alloc, alone(b"s")?)?;
     let table = heading(alloc, b"t")?;
-    let Ok(Bound::Update {
-        name,
-        sets,
-        clauses,
-    }) = bind_update(alloc, sets.as_slice(), clauses.as_slice(), &table, &params()?)?
+    let Ok(
+        Bound::Update {
+            name,
+            sets,
+            clauses,
+        },
+    ) = bind_update(
+        alloc,
+        sets.as_slice(),
+        clauses.as_slice(),
+        &table,
+        &params()?,
+    )?
     else {
         return Err("the UPDATE is denied".into());
     };
@@ -225,8 +238,12 @@ fn a_delete_is_bound(rt: HostRuntime) -> Result<(), Fail> {
     let alloc = rt.alloc();
     let clauses = where_it_is_p(alloc, alone(b"s")?)?;
     let table = heading(alloc, b"t")?;
-    let Ok(Bound::Delete { name, clauses }) =
-        bind_delete(alloc, clauses.as_slice(), &table, &params()?)?
+    let Ok(Bound::Delete { name, clauses }) = bind_delete(
+        alloc,
+        clauses.as_slice(),
+        &table,
+        &params()?,
+    )?
     else {
         return Err("the DELETE is denied".into());
     };

@@ -1,4 +1,4 @@
-//! Tests that deny a statement.
+//! Why a name in a statement denies it.
 
 ghost use Rattle.std.specs.Prelude.{◌≡◌, [], ◌∷◌};
 ghost use Rattle.rs_bind.specs.Denials as spec;
