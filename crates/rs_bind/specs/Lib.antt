@@ -1,4 +1,5 @@
 pub mod Binding
 pub mod Denials
 pub mod Entries
+pub mod Laws
 pub mod Scope

@@ -1,8 +1,32 @@
 //! Binding: names in a statement become places of columns, or the statement is denied.
 #![tactic(auto)]
 
+mod change_denials;
+mod changes;
+mod clause_denials;
+mod clauses;
+mod columns;
+mod grouping;
 mod heading;
+mod item_keys;
+mod kinds;
+mod laws;
+mod name_denials;
+mod numbers;
+mod params;
+mod queries;
 mod scope;
+mod scopes;
+mod select_denials;
+mod shape;
+mod statements;
+mod terms;
+#[cfg(test)]
+mod tests;
 
+pub use changes::{bind_delete, bind_insert, bind_update};
 pub use heading::{Heading, Headings};
+pub use laws::bound_is_over;
+pub use queries::bind_select;
 pub use scope::{Param, Params, Scope, ScopeColumn};
+pub use statements::bind;

@@ -1,0 +1,14 @@
+pub mod FirstDenials
+pub mod OneCause
+pub mod Outcomes
+pub mod Over
+pub mod OverChanges
+pub mod OverClauses
+pub mod OverScope
+pub mod OverShape
+pub mod OverTests
+pub mod Pairs
+pub mod Pieces
+pub mod Positions
+pub mod SetDenials
+pub mod Zipped

@@ -1,0 +1,9 @@
+use Rattle.std.proofs.Common.{[], rules}
+use Rattle.rs_bind.specs.Denials.{sets_tests, clauses_tests}
+use Rattle.rs_bind.proofs.FirstDenials.{first_or_other}
+use Rattle.rs_bind.proofs.change_denials.update_denial.Goals as goal
+
+pub returns : goal.returns
+returns c =
+    first_or_other (sets_tests c.args.scope.now c.args.params.now [] c.args.sets.now) (clauses_tests c.args.scope.now c.args.params.now c.args.clauses.now)
+    c.sets_denial.result c.or_else.result c.sets_denial.ensures (search rules)

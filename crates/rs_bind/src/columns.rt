@@ -1,0 +1,60 @@
+//! Columns by their names.
+
+ghost use Rattle.std.specs.Prelude.{◌≡◌, position};
+ghost use Rattle.rs_bind.specs.Scope as spec;
+
+use crate::numbers::as_place;
+use crate::scope::ScopeColumn;
+use rs_ast::ColRef;
+use rs_base::{Ident, Kind};
+
+/// Whether the name as it is written is this column's.
+fn is_named(written: &ColRef, column: &ScopeColumn) -> bool
+    ensures { result ≡ spec.is_named written.now column.now }
+{
+    column.name == written.column && written.table.map_or(true, |alias| column.table == alias)
+}
+
+/// How many columns have the name.
+pub(crate) fn named_count(scope: &[ScopeColumn], written: &ColRef) -> usize
+    ensures { result ≡ spec.named_count scope.now written.now }
+{
+    scope
+        .iter()
+        .filter(|column| is_named(written, column))
+        .count()
+}
+
+fn position_of(scope: &[ScopeColumn], written: &ColRef) -> Option<usize>
+    ensures { result ≡ position (spec.is_named written.now) scope.now }
+{
+    scope.iter().position(|column| is_named(written, column))
+}
+
+/// The place of the first column of that name. Where there is none it is behind the last column.
+#[tactic(auto, using(crate::proofs::Positions::position_or_end))]
+pub(crate) fn place_of(scope: &[ScopeColumn], written: &ColRef) -> u16
+    ensures { result ≡ spec.place_of scope.now written.now }
+{
+    as_place(position_of(scope, written).unwrap_or(scope.len()))
+}
+
+/// A column by its name alone.
+pub(crate) fn unqualified(column: Ident) -> ColRef
+    ensures { result ≡ spec.unqualified column }
+{
+    ColRef {
+        table: None,
+        column,
+    }
+}
+
+/// The kind of the column that a name stands for.
+pub(crate) fn column_kind(scope: &[ScopeColumn], written: &ColRef) -> Option<Kind>
+    ensures { result ≡ spec.column_kind scope.now written.now }
+{
+    scope
+        .iter()
+        .find(|column| is_named(written, column))
+        .map(|column| column.kind)
+}

@@ -1,0 +1,9 @@
+//! What holds of every statement that is bound. The function here is a law: its contract says it, and its body does
+//! nothing.
+
+ghost use Rattle.rs_bind.specs.Laws.{BoundIsOver};
+
+/// A statement that is bound over the entries of its tables, and not denied, is over them.
+pub fn bound_is_over()
+    ensures { BoundIsOver }
+{}

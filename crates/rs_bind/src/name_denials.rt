@@ -1,0 +1,35 @@
+//! Why a name in a statement denies it.
+
+ghost use Rattle.std.specs.Prelude.{◌≡◌, [], ◌∷◌};
+ghost use Rattle.rs_bind.specs.Denials as spec;
+
+use crate::columns::named_count;
+use crate::params::is_declared;
+use crate::scope::{Param, ScopeColumn};
+use rs_ast::ColRef;
+use rs_base::{Denial, Ident};
+
+/// The cause, where the test fails.
+pub(crate) fn denial_if(fails: bool, cause: Denial) -> Option<Denial>
+    ensures { result ≡ spec.first_denial (spec.test fails cause ∷ []) }
+{
+    fails.then_some(cause)
+}
+
+/// Why a name of a column denies a statement, if it does: there is no such column, or more than one.
+pub(crate) fn column_denial(scope: &[ScopeColumn], written: &ColRef) -> Option<Denial>
+    ensures { result ≡ spec.first_denial (spec.column_tests scope.now written.now) }
+{
+    match named_count(scope, written) {
+        0 => Some(Denial::NoColumn),
+        1 => None,
+        _ => Some(Denial::TwoColumns),
+    }
+}
+
+/// Why a name of a parameter denies a statement, if it does: it isn't declared.
+pub(crate) fn param_denial(params: &[Param], name: Ident) -> Option<Denial>
+    ensures { result ≡ spec.first_denial (spec.param_test params.now name ∷ []) }
+{
+    denial_if(!is_declared(params, name), Denial::WrongParams)
+}

@@ -1,0 +1,18 @@
+//! Places and positions as they are kept.
+
+ghost use Rattle.std.specs.Prelude.{◌≡◌};
+ghost use Rattle.rs_bind.specs.Scope as spec;
+
+/// A place in 16 bits. One that is larger becomes the largest.
+pub(crate) fn as_place(place: usize) -> u16
+    ensures { result ≡ spec.as_place place }
+{
+    u16::try_from(place).unwrap_or(u16::MAX)
+}
+
+/// A position in 8 bits. One that is larger becomes the largest.
+pub(crate) fn as_position(position: usize) -> u8
+    ensures { result ≡ spec.as_position position }
+{
+    u8::try_from(position).unwrap_or(u8::MAX)
+}

@@ -1,0 +1,157 @@
+//! Binding of statements over entries.
+
+ghost use Rattle.std.specs.Prelude.{◌≡◌, [], ◌∷◌, map, zip, length, IfOk, Some};
+ghost use Rattle.std.specs.Option.{option_copied};
+ghost use Rattle.rs_plan.specs.Over.{AreEntriesOf, IsOver};
+ghost use Rattle.rs_bind.specs.Binding.{bound_of};
+ghost use Rattle.rs_bind.specs.Entries as spec;
+
+use crate::changes::{bind_delete, bind_insert, bind_update};
+use crate::heading::{Heading, Headings};
+use crate::queries::bind_select;
+use crate::scope::{Param, Params};
+use rs_ast::{ColDef, ColDefs, Column, Dml, Entry};
+use rs_base::{Denial, Ident, NoMemory, Swn, Value, with_room};
+use rs_plan::Bound;
+use std::alloc::Global;
+
+fn defined(column: &Column) -> ColDef
+    ensures { result ≡ spec.defined column.now }
+{
+    ColDef {
+        name: column.name,
+        kind: column.kind,
+    }
+}
+
+fn columns_of(alloc: Global, columns: &[Column]) -> Result<ColDefs, NoMemory>
+    ensures { IfOk result (λ found. found ≡ map spec.defined columns.now) }
+{
+    let mut found = with_room(alloc, columns.len())?;
+    for column in columns {
+        found.push(defined(column))?;
+    }
+    Ok(found)
+}
+
+/// The columns of an entry, as a statement sees them.
+fn heading_of(alloc: Global, entry: &Entry) -> Result<Heading, NoMemory>
+    ensures { IfOk result (λ heading. heading ≡ spec.heading_of entry.now) }
+{
+    Ok(Heading {
+        name: entry.name,
+        columns: columns_of(alloc, entry.columns.as_slice())?,
+    })
+}
+
+fn headings_of(alloc: Global, entries: &[Entry]) -> Result<Headings, NoMemory>
+    ensures { IfOk result (λ headings. headings ≡ spec.headings_of entries.now) }
+{
+    let mut headings = with_room(alloc, entries.len())?;
+    for entry in entries {
+        headings.push(heading_of(alloc, entry)?)?;
+    }
+    Ok(headings)
+}
+
+fn unvalued(name: Ident) -> Param
+    ensures { result ≡ spec.unvalued name }
+{
+    Param { name, kind: None }
+}
+
+fn valued(name: Ident, value: &Value) -> Param
+    ensures { result ≡ spec.valued name value.now }
+{
+    Param {
+        name,
+        kind: Some(value.kind()),
+    }
+}
+
+fn unvalued_params(alloc: Global, names: &[Ident]) -> Result<Params, NoMemory>
+    ensures { IfOk result (λ params. params ≡ map spec.unvalued names.now) }
+{
+    let mut params = with_room(alloc, names.len())?;
+    for name in names {
+        params.push(unvalued(*name))?;
+    }
+    Ok(params)
+}
+
+fn valued_params(alloc: Global, names: &[Ident], values: &[Value]) -> Result<Params, NoMemory>
+    ensures { IfOk result (λ params. params ≡ map (λ both. spec.valued both.0 both.1) (zip names.now values.now)) }
+{
+    let mut params = with_room(alloc, names.len())?;
+    for (name, value) in names.iter().zip(values) {
+        params.push(valued(*name, value))?;
+    }
+    Ok(params)
+}
+
+/// The parameters of these names, each with the kind of its value where there are values.
+fn params_of(alloc: Global, names: &[Ident], values: Option<&[Value]>) -> Result<Params, NoMemory>
+    ensures { IfOk result (λ params. params ≡ spec.params_of names.now (option_copied values.entry)) }
+{
+    match values {
+        None => unvalued_params(alloc, names),
+        Some(values) => valued_params(alloc, names, values),
+    }
+}
+
+/// The table of a change.
+fn only(headings: &[Heading]) -> &Heading
+    requires { length headings.now ≡ 1 }
+    ensures { headings.now ≡ result.now ∷ [] }
+{
+    &headings[0]
+}
+
+fn outcome_over(
+    alloc: Global,
+    stmt: &Dml,
+    entries: &[Entry],
+    params: &[Ident],
+    values: Option<&[Value]>,
+) -> Result<Result<Bound, Denial>, NoMemory>
+    requires { length entries.now ≡ spec.table_count stmt.now }
+    ensures { IfOk result (λ outcome. bound_of stmt.now (spec.headings_of entries.now) (spec.params_of params.now (option_copied values.entry)) ≡ Some outcome) }
+{
+    let headings = headings_of(alloc, entries)?;
+    let headings = headings.as_slice();
+    let params = params_of(alloc, params, values)?;
+    let params = params.as_slice();
+    match stmt {
+        Dml::Select(select) => bind_select(alloc, select, headings, params),
+        Dml::Insert { rows, .. } => { bind_insert(alloc, rows.as_slice(), only(headings), params) }
+        Dml::Update { sets, clauses, .. } => bind_update(
+            alloc,
+            sets.as_slice(),
+            clauses.as_slice(),
+            only(headings),
+            params,
+        ),
+        Dml::Delete { clauses, .. } => {
+            bind_delete(alloc, clauses.as_slice(), only(headings), params)
+        }
+    }
+}
+
+/// Binds a statement over the tables of these names, of which these entries tell, or tells why it is denied. The
+/// parameters have these names; where there are values, each has the kind of its value. What is bound is over the entries.
+pub fn bind(
+    alloc: Global,
+    stmt: &Dml,
+    names: &[Swn],
+    entries: &[Entry],
+    params: &[Ident],
+    values: Option<&[Value]>,
+) -> Result<Result<Bound, Denial>, NoMemory>
+    requires count { length entries.now ≡ spec.table_count stmt.now }
+    requires entries { AreEntriesOf names.now entries.now }
+    requires values { spec.AreValuesOf params.now (option_copied values) }
+    ensures outcome { IfOk result (λ outcome. bound_of stmt.now (spec.headings_of entries.now) (spec.params_of params.now (option_copied values.entry)) ≡ Some outcome) }
+    ensures over { IfOk result (λ outcome. IfOk outcome (λ bound. IsOver bound entries.now)) }
+{
+    outcome_over(alloc, stmt, entries, params, values)
+}
