@@ -1,0 +1,3 @@
+pub mod Arranged
+pub mod Counted
+pub mod Orders
