@@ -1,4 +1,5 @@
 pub mod Answer
+pub mod Best
 pub mod Given
 pub mod Groups
 pub mod Items

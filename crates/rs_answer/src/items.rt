@@ -2,6 +2,7 @@
 
 ghost use Rattle.std.specs.Prelude.{◌≡◌, [], ◌∷◌, ◌++◌, ◌&&◌, pos, length, IfOk, slice_get, cond};
 ghost use Rattle.std.specs.Option.{option_copied, option_to_list};
+ghost use Rattle.rs_answer.specs.Best.{better_of};
 ghost use Rattle.rs_answer.specs.Given.{Gives, group_overflows};
 ghost use Rattle.rs_answer.specs.Items as spec;
 
@@ -47,16 +48,26 @@ fn sum_at(place: u16, members: &[Row]) -> i128
     sum
 }
 
-fn lesser<'a>(least: &'a Value, value: &'a Value) -> &'a Value
-    ensures { result.now ≡ spec.lesser least.now value.now }
+/// The lesser of two values that may be there; of equal ones the first.
+fn lesser<'a>(one: Option<&'a Value>, other: Option<&'a Value>) -> Option<&'a Value>
+    ensures { option_copied result ≡ better_of spec.lesser (option_copied one.entry) (option_copied other.entry) }
 {
-    if value.cmp(least).is_lt() { value } else { least }
+    match (one, other) {
+        (Some(least), Some(value)) if value.cmp(least).is_lt() => Some(value),
+        (Some(least), _) => Some(least),
+        (None, found) => found,
+    }
 }
 
-fn greater<'a>(greatest: &'a Value, value: &'a Value) -> &'a Value
-    ensures { result.now ≡ spec.greater greatest.now value.now }
+/// The greater of two values that may be there; of equal ones the first.
+fn greater<'a>(one: Option<&'a Value>, other: Option<&'a Value>) -> Option<&'a Value>
+    ensures { option_copied result ≡ better_of spec.greater (option_copied one.entry) (option_copied other.entry) }
 {
-    if value.cmp(greatest).is_gt() { value } else { greatest }
+    match (one, other) {
+        (Some(greatest), Some(value)) if value.cmp(greatest).is_gt() => Some(value),
+        (Some(greatest), _) => Some(greatest),
+        (None, found) => found,
+    }
 }
 
 fn least_at(place: u16, members: &[Row]) -> Option<&Value>
@@ -64,10 +75,7 @@ fn least_at(place: u16, members: &[Row]) -> Option<&Value>
 {
     let mut least: Option<&Value> = None;
     for row in members {
-        least = match (least, value_at(place, row)) {
-            (Some(least), Some(value)) => Some(lesser(least, value)),
-            (found, None) | (None, found) => found,
-        };
+        least = lesser(least, value_at(place, row));
     }
     least
 }
@@ -77,10 +85,7 @@ fn greatest_at(place: u16, members: &[Row]) -> Option<&Value>
 {
     let mut greatest: Option<&Value> = None;
     for row in members {
-        greatest = match (greatest, value_at(place, row)) {
-            (Some(greatest), Some(value)) => Some(greater(greatest, value)),
-            (found, None) | (None, found) => found,
-        };
+        greatest = greater(greatest, value_at(place, row));
     }
     greatest
 }
