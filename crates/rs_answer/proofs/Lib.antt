@@ -1,6 +1,10 @@
+pub mod Answered
 pub mod Arranged
 pub mod Chosen
 pub mod Counted
 pub mod Fitting
 pub mod Orders
+pub mod Progress
+pub mod Regrouped
 pub mod Rows
+pub mod Runs

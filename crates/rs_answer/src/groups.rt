@@ -2,7 +2,7 @@
 
 ghost use Rattle.std.specs.Prelude.{◌≡◌, [], ◌∷◌, map, IfOk};
 ghost use Rattle.std.specs.List.{prefix_len};
-ghost use Rattle.std.specs.List.Sorted.{IsPermutation};
+ghost use Rattle.std.specs.List.Sorted.{IsPermutation, IsSortedByKey, IsStableByKey};
 ghost use Rattle.rs_answer.specs.Answer.{overflows, shown};
 ghost use Rattle.rs_answer.specs.Given.{Gives, any_overflows, rows_of};
 ghost use Rattle.rs_answer.specs.Groups.{group_cmp, group_values, grouped_by, same_group};
