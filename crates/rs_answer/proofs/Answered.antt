@@ -2,10 +2,12 @@
 use Rattle.std.proofs.Common.{◌≡◌, List, Bool, true, false, Result, Ok, Err, cond, sym, ap, ◌∙◌}
 use Rattle.std.specs.List.Sorted.{IsPermutation}
 use Rattle.std.specs.Prelude.{if◌then◌else◌}
+use Rattle.std.proofs.lemmas.Bool.{cond-true, cond-false}
+use Rattle.rs_base.specs.declared.reply.Denial.TheVariants as denials
 use Rattle.rs_base.specs.declared.value.Value.{Value}
 use Rattle.rs_ast.specs.declared.shape.Shape.{Shape}
 use Rattle.rs_ast.specs.declared.shape.ShapeKey.{ShapeKey}
-use Rattle.rs_answer.specs.Answer.{same_row, shown, query_rows}
+use Rattle.rs_answer.specs.Answer.{same_row, shown, query_rows, overflows, answer_of}
 use Rattle.rs_answer.specs.Groups.{once}
 use Rattle.rs_answer.specs.Sorting.{answer_cmp, sorted_by}
 use Rattle.rs_answer.proofs.Counted.{times_permuted, sorted_by_same, once_permutes}
@@ -25,3 +27,11 @@ module _ (keys : List ShapeKey) where
 pub same_answer : (shape : Shape) (joined rows : List (List Value)) → IsPermutation (shown shape joined) rows
     → sorted_by (answer_cmp shape.keys) (if shape.distinct then once same_row rows else rows) ≡ sorted_by (answer_cmp shape.keys) (query_rows shape joined)
 same_answer shape joined rows same = chosen_rows shape.keys shape.distinct (shown shape joined) rows same
+
+pub answer_given : (shape : Shape) (joined rows : List (List Value)) → overflows shape joined ≡ false → rows ≡ sorted_by (answer_cmp shape.keys) (query_rows shape joined) → Ok rows ≡ answer_of shape joined
+unfolding answer_of
+answer_given shape joined rows fits is = ap Ok is ∙ sym (cond-false (overflows shape joined) (Err denials.Overflow) (Ok (sorted_by (answer_cmp shape.keys) (query_rows shape joined))) fits)
+
+pub answer_denied : (shape : Shape) (joined : List (List Value)) → overflows shape joined ≡ true → Err denials.Overflow ≡ answer_of shape joined
+unfolding answer_of
+answer_denied shape joined over = sym (cond-true (overflows shape joined) (Err denials.Overflow) (Ok (sorted_by (answer_cmp shape.keys) (query_rows shape joined))) over)

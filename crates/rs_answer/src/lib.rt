@@ -4,6 +4,8 @@
 pub use answer::answer_rows;
 pub use sorting::compare_answers;
 
+pub mod laws;
+
 mod answer;
 mod fault;
 mod groups;
