@@ -27,7 +27,7 @@ tie_test Less = refl
 tie_test Equal = refl
 tie_test Greater = refl
 
-all_from_every : {X : Type 0} (P : X → Type 0) → ((x : X) → P x) → (xs : List X) → AllByRecursion P xs
+pub all_from_every : {X : Type 0} (P : X → Type 0) → ((x : X) → P x) → (xs : List X) → AllByRecursion P xs
 all_from_every P every [] = tt
 all_from_every P every (x ∷ xs) = (every x, all_from_every P every xs)
 
@@ -114,7 +114,7 @@ one_group shape joined rows e none same =
     permutes_to_itself _ _
     (cond-true shape.grouped (groups_by shape.group joined) (map (λ row. row ∷ []) joined) e ∙ ap (λ places. groups_by places joined) none ∙ ap (λ rows. rows ∷ []) (sym same))
 
-by_places : (places : List ℕ) (rows : List (List Value)) → places ≢ [] → groups_by places rows ≡ grouped_by places rows
+pub by_places : (places : List ℕ) (rows : List (List Value)) → places ≢ [] → groups_by places rows ≡ grouped_by places rows
 by_places [] rows some = absurd (some refl)
 by_places (place ∷ places) rows some = refl
 
