@@ -1,12 +1,11 @@
 -- The values at a place of rows, one row more: their sum, the least and the greatest.
-use Rattle.std.proofs.Common.{◌≡◌, ℕ, ◌+◌, ◌<◌, List, [], ◌∷◌, ◌++◌, length, append-nil, take, get_or, Option, Some, None, refl, sym, ap, ◌∙◌, fold, slice_get, arith, ℤ, pos, ◌+ℤ◌}
-use Rattle.std.specs.List.{cons_option, filter_map}
+use Rattle.std.proofs.Common.{◌≡◌, ℕ, ◌+◌, ◌<◌, List, [], ◌∷◌, ◌++◌, length, append-nil, take, get_or, Option, Some, None, refl, sym, ap, ◌∙◌, fold, slice_get, arith, ◌+ℤ◌}
+use Rattle.std.specs.List.{cons_option}
 use Rattle.std.proofs.lemmas.List.{take_more}
 use Rattle.std.proofs.lemmas.List.Elements.{filter_map-append}
 use Rattle.std.proofs.lemmas.List.Sums.{fold_push}
 use Rattle.std.proofs.lemmas.Int.{ints}
 use Rattle.rs_base.specs.declared.value.Value.{Value}
-use Rattle.rs_eval.specs.Setting.{integer_of}
 use Rattle.rs_answer.specs.Best.{better_of}
 use Rattle.rs_answer.specs.Items.{values_at, sum_of, least_of, greatest_of, lesser, greater}
 

@@ -1,5 +1,5 @@
 -- How often an element is in a list, by a test of equality: after a filter, after `once`, and in lists in order.
-use Rattle.std.proofs.Common.{◌≡◌, ℕ, ◌+◌, ◌<◌, ◌≤◌, min, List, [], ◌∷◌, ◌++◌, Bool, true, false, not, cond, Ordering, Less, Equal, Greater, refl, sym, ap, ◌∙◌, subst, arith, ⊎_elim, inl, inr}
+use Rattle.std.proofs.Common.{◌≡◌, ℕ, ◌+◌, ◌<◌, min, List, [], ◌∷◌, ◌++◌, Bool, true, false, not, cond, Ordering, Less, Equal, Greater, refl, sym, ap, ◌∙◌, subst, arith, ⊎_elim}
 use Rattle.std.specs.Cmp.{IsTotalOrder}
 use Rattle.std.specs.List.{sum_by, filter, dedup, dedup_from, AllByRecursion}
 use Rattle.std.specs.List.Sorted.{IsPermutation}
@@ -11,7 +11,7 @@ use Rattle.std.proofs.lemmas.List.Sums.{sum_by-cons}
 use Rattle.std.proofs.lemmas.Map.Lookups.{CmpEqualImpliesEq}
 use Rattle.rs_answer.specs.Groups.{once}
 use Rattle.rs_answer.specs.Sorting.{sorted_by}
-use Rattle.rs_answer.proofs.Arranged.{NoneBelow, Rising, none_below_before, same_first, sorted_by_rises, sorted_by_permutes}
+use Rattle.rs_answer.proofs.Arranged.{NoneBelow, Rising, same_first, sorted_by_rises, sorted_by_permutes}
 
 -- a test that is true just of equal elements
 pub record Decides {X : Type 0} (same : X → X → Bool) : Type 0 where

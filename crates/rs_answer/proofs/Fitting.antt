@@ -1,5 +1,5 @@
 -- Which integers are of 64 bits.
-use Rattle.std.proofs.Common.{◌≡◌, ℤ, pos, negsuc, true, false, not, arith, w64, ap, refl, sym, ◌∙◌}
+use Rattle.std.proofs.Common.{◌≡◌, ℤ, pos, negsuc, true, false, arith, w64}
 use Rattle.std.specs.Int.RustNames.{FitsSigned}
 use Rattle.std.proofs.lemmas.Bool.Decides.{nat_tests}
 use Rattle.std.proofs.lemmas.Bool.{false_from_ne_true}

@@ -1,6 +1,6 @@
 -- Rows that a stable sort has put in order of their groups' values are in the same groups, and these give the same rows.
-use Rattle.std.proofs.Common.{◌≡◌, ◌≢◌, ℕ, ◌+◌, List, [], ◌∷◌, ◌++◌, Bool, true, false, not, ◌&&◌, cond, map, Option, Some, None, Ordering, Less, Equal, Greater, Result, Ok, Err, refl, sym, ap, ◌∙◌, subst, arith, is_lt}
-use Rattle.std.specs.List.{filter, filter_map, cons_option, sum_by, AllByRecursion}
+use Rattle.std.proofs.Common.{◌≡◌, ◌≢◌, ℕ, ◌+◌, List, [], ◌∷◌, Bool, true, false, not, ◌&&◌, map, Option, Some, None, Ordering, Less, Equal, Greater, Result, Ok, Err, refl, sym, ap, ◌∙◌, subst, arith, is_lt}
+use Rattle.std.specs.List.{filter_map, cons_option, sum_by, AllByRecursion}
 use Rattle.std.specs.List.Sorted.{IsPermutation, IsStableByKey, ties}
 use Rattle.std.specs.Ordering.{is_eq, ordering_reverse}
 use Rattle.std.proofs.lemmas.Bool.{cond-true, cond-false}

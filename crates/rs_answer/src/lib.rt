@@ -11,3 +11,6 @@ mod fault;
 mod groups;
 mod items;
 mod sorting;
+
+#[cfg(test)]
+mod tests;

@@ -1,4 +1,4 @@
-use Rattle.std.proofs.Common.{◌≡◌, ◌∙◌, ◌+◌, ◌∷◌, [], ap, take, arith, ◌+ℤ◌}
+use Rattle.std.proofs.Common.{◌∙◌, ◌∷◌, [], ap, take, arith}
 use Rattle.std.proofs.lemmas.Int.{ints}
 use Rattle.rs_answer.specs.Items.{sum_of, values_at}
 use Rattle.rs_answer.proofs.Chosen.{values_more, sum_append}

@@ -1,4 +1,4 @@
-use Rattle.std.proofs.Common.{◌∙◌, rules}
+use Rattle.std.proofs.Common.{rules}
 use Rattle.std.proofs.lemmas.Fn.{dedup_same}
 use Rattle.rs_answer.specs.Answer.{same_row}
 use Rattle.rs_answer.proofs.sorting.without_repeats.Goals as goal
