@@ -1,4 +1,6 @@
 pub mod Answer
+pub mod Best
+pub mod Given
 pub mod Groups
 pub mod Items
 pub mod Laws

@@ -1,0 +1,12 @@
+pub mod Answered
+pub mod Apart
+pub mod Arranged
+pub mod Chosen
+pub mod Counted
+pub mod Fitting
+pub mod Lawful
+pub mod Orders
+pub mod Progress
+pub mod Regrouped
+pub mod Rows
+pub mod Runs

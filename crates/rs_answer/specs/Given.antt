@@ -1,0 +1,26 @@
+-- What groups give, where each of their sums is an integer of 64 bits.
+use Rattle.std.specs.Prelude.{◌≡◌, true, false, Bool, List, filter_map, Result, Ok, Err}
+use Rattle.std.specs.List.{list_any}
+use Rattle.rs_base.specs.declared.value.Value.{Value}
+use Rattle.rs_ast.specs.declared.shape.ShapeItem.{ShapeItem}
+use Rattle.rs_answer.specs.declared.fault.AnswerFault.{AnswerFault}
+use Rattle.rs_answer.specs.declared.fault.AnswerFault.TheVariants as faults
+use Rattle.rs_answer.specs.Items.{row_of, item_overflows}
+
+-- a sum over the members isn't an integer of 64 bits
+abbrev pub group_overflows : List ShapeItem → List (List Value) → Bool
+group_overflows items members = list_any (item_overflows members) items
+
+-- the same over one of the groups
+abbrev pub any_overflows : List ShapeItem → List (List (List Value)) → Bool
+any_overflows items groups = list_any (group_overflows items) groups
+
+-- a row for each group that gives one
+abbrev pub rows_of : List ShapeItem → List (List (List Value)) → List (List Value)
+rows_of items groups = filter_map (row_of items) groups
+
+-- A result has the fact where no sum overflows, and is Overflow only where one does; memory may want at any time.
+abbrev pub Gives : {T : Type 0} → Bool → (T → Type 0) → Result T AnswerFault → Type 0
+Gives overflows fact (Ok given) = (overflows ≡ false) × fact given
+Gives overflows fact (Err faults.Overflow) = overflows ≡ true
+Gives overflows fact (Err faults.NoMemory) = Unit {0}

@@ -1,0 +1,147 @@
+//! What a group of rows answers in each column.
+
+ghost use Rattle.std.specs.Prelude.{◌≡◌, [], ◌∷◌, ◌++◌, ◌&&◌, pos, length, IfOk, slice_get, cond};
+ghost use Rattle.std.specs.Option.{option_copied, option_to_list};
+ghost use Rattle.rs_answer.specs.Best.{better_of};
+ghost use Rattle.rs_answer.specs.Given.{Gives, group_overflows};
+ghost use Rattle.rs_answer.specs.Items as spec;
+
+use crate::fault::AnswerFault;
+use rs_ast::ShapeItem;
+use rs_base::{NoMemory, Row, Value, with_room};
+use std::alloc::Global;
+
+/// The value at a place of a row, if it is there.
+fn value_at(place: u16, row: &Row) -> Option<&Value>
+    ensures { option_copied result ≡ slice_get row.now place }
+{
+    row.get(usize::from(place))
+}
+
+fn first_at(place: u16, members: &[Row]) -> Option<&Value>
+    ensures { option_copied result ≡ spec.first_at place members.now }
+{
+    match members {
+        [] => None,
+        [row, ..] => value_at(place, row),
+    }
+}
+
+/// What a row adds to the sum of the integers at a place.
+fn addend(place: u16, row: &Row) -> i64
+    ensures { result ≡ spec.sum_of (spec.values_at place (row.now ∷ [])) }
+{
+    match value_at(place, row) {
+        Some(Value::Int(n)) => *n,
+        Some(Value::Text(_)) | None => 0,
+    }
+}
+
+/// The sum of the integers at a place, as large as it is: rows in memory can't take it out of 128 bits.
+fn sum_at(place: u16, members: &[Row]) -> i128
+    ensures { result ≡ spec.sum_of (spec.values_at place members.now) }
+{
+    let mut sum: i128 = 0;
+    for row in members {
+        sum += i128::from(addend(place, row));
+    }
+    sum
+}
+
+/// The lesser of two values that may be there; of equal ones the first.
+fn lesser<'a>(one: Option<&'a Value>, other: Option<&'a Value>) -> Option<&'a Value>
+    ensures { option_copied result ≡ better_of spec.lesser (option_copied one.entry) (option_copied other.entry) }
+{
+    match (one, other) {
+        (Some(least), Some(value)) if value.cmp(least).is_lt() => Some(value),
+        (Some(least), _) => Some(least),
+        (None, found) => found,
+    }
+}
+
+/// The greater of two values that may be there; of equal ones the first.
+fn greater<'a>(one: Option<&'a Value>, other: Option<&'a Value>) -> Option<&'a Value>
+    ensures { option_copied result ≡ better_of spec.greater (option_copied one.entry) (option_copied other.entry) }
+{
+    match (one, other) {
+        (Some(greatest), Some(value)) if value.cmp(greatest).is_gt() => Some(value),
+        (Some(greatest), _) => Some(greatest),
+        (None, found) => found,
+    }
+}
+
+fn least_at(place: u16, members: &[Row]) -> Option<&Value>
+    ensures { option_copied result ≡ spec.least_of (spec.values_at place members.now) }
+{
+    let mut least: Option<&Value> = None;
+    for row in members {
+        least = lesser(least, value_at(place, row));
+    }
+    least
+}
+
+fn greatest_at(place: u16, members: &[Row]) -> Option<&Value>
+    ensures { option_copied result ≡ spec.greatest_of (spec.values_at place members.now) }
+{
+    let mut greatest: Option<&Value> = None;
+    for row in members {
+        greatest = greater(greatest, value_at(place, row));
+    }
+    greatest
+}
+
+fn copied(alloc: Global, found: Option<&Value>) -> Result<Option<Value>, NoMemory>
+    ensures { IfOk result (λ copy. copy ≡ option_copied found.entry) }
+{
+    match found {
+        Some(value) => Ok(Some(value.copy(alloc)?)),
+        None => Ok(None),
+    }
+}
+
+fn sum_value(place: u16, members: &[Row]) -> Result<Value, AnswerFault>
+    ensures { Gives (spec.item_overflows members.now (ShapeItem.Sum place)) (λ value. Some value ≡ spec.item_value members.now (ShapeItem.Sum place)) result }
+{
+    match i64::try_from(sum_at(place, members)) {
+        Ok(sum) => Ok(Value::Int(sum)),
+        Err(_) => Err(AnswerFault::Overflow),
+    }
+}
+
+/// What an item is for a group, if it is anything.
+fn item_value(alloc: Global, item: ShapeItem, members: &[Row]) -> Result<Option<Value>, AnswerFault>
+    ensures { Gives (spec.item_overflows members.now item) (λ value. value ≡ spec.item_value members.now item) result }
+{
+    match item {
+        ShapeItem::Col(place) => Ok(copied(alloc, first_at(place, members))?),
+        ShapeItem::Count => Ok(Some(Value::Int(members.len() as i64))),
+        ShapeItem::Sum(place) => Ok(Some(sum_value(place, members)?)),
+        ShapeItem::Min(place) => Ok(copied(alloc, least_at(place, members))?),
+        ShapeItem::Max(place) => Ok(copied(alloc, greatest_at(place, members))?),
+    }
+}
+
+/// The row that a group gives, if it gives one: each item's value. Where one has none the later sums count for Overflow still.
+fn group_row(alloc: Global, items: &[ShapeItem], members: &[Row]) -> Result<Option<Row>, AnswerFault>
+    ensures { Gives (group_overflows items.now members.now) (λ row. row ≡ spec.row_of items.now members.now) result }
+{
+    let mut row = with_room(alloc, items.len())?;
+    let mut whole = true;
+    for item in items {
+        match item_value(alloc, *item, members)? {
+            Some(value) => row.push(value)?,
+            None => whole = false,
+        }
+    }
+    Ok(whole.then_some(row))
+}
+
+/// Puts the row that a group gives, if it gives one, at the end of the rows.
+pub(crate) fn push_group(alloc: Global, items: &[ShapeItem], members: &[Row], rows: &mut Vec<Row>) -> Result<(), AnswerFault>
+    ensures { Gives (group_overflows items.now members.now) (λ _. rows.new.items ≡ rows.old.items ++ option_to_list (spec.row_of items.now members.now)) result }
+{
+    if let Some(row) = group_row(alloc, items, members)? {
+        rows.push(row)?;
+    }
+    Ok(())
+}

@@ -1,0 +1,65 @@
+//! Rows in the order of an answer: by its keys, and then by all columns.
+
+ghost use Rattle.std.specs.Prelude.{◌≡◌, IfOk, if◌then◌else◌, slice_get};
+ghost use Rattle.std.specs.Option.{option_cmp};
+ghost use Rattle.std.specs.List.{dedup};
+ghost use Rattle.rs_base.specs.Value.{value_cmp};
+ghost use Rattle.rs_answer.specs.Answer.{same_row};
+ghost use Rattle.rs_answer.specs.Groups.{once};
+ghost use Rattle.rs_answer.specs.Sorting.{answer_cmp, key_cmp, sorted_by};
+
+use rs_ast::ShapeKey;
+use rs_base::{NoMemory, Row, Rows, Value};
+use sqlite_items::Items;
+use std::cmp::Ordering;
+
+/// Two rows by the values that they have at a place; a row without one is below.
+pub(crate) fn compare_at(place: u16, one: &[Value], other: &[Value]) -> Ordering
+    ensures { result ≡ option_cmp value_cmp (slice_get one.now place) (slice_get other.now place) }
+{
+    let place = usize::from(place);
+    one.get(place).cmp(&other.get(place))
+}
+
+fn compare_by_key(key: &ShapeKey, one: &[Value], other: &[Value]) -> Ordering
+    ensures { result ≡ key_cmp key.now one.now other.now }
+{
+    let order = compare_at(key.item, one, other);
+    if key.desc { order.reverse() } else { order }
+}
+
+/// Two rows of an answer by its keys, and then by all columns, rising.
+pub fn compare_answers(keys: &[ShapeKey], one: &[Value], other: &[Value]) -> Ordering
+    ensures { result ≡ answer_cmp keys.now one.now other.now }
+{
+    for key in keys {
+        let order = compare_by_key(key, one, other);
+        if order.is_ne() {
+            return order;
+        }
+    }
+    one.cmp(other)
+}
+
+fn sorted(keys: &[ShapeKey], mut rows: Vec<Row>) -> Result<Vec<Row>, NoMemory>
+    ensures { IfOk result (λ sorted. sorted.items ≡ sorted_by (answer_cmp keys.now) rows.items) }
+{
+    rows.sort_by(|one: &Row, other: &Row| compare_answers(keys, one.as_slice(), other.as_slice()))?;
+    Ok(rows)
+}
+
+/// Of equal neighbours the first.
+fn without_repeats(mut rows: Vec<Row>) -> Vec<Row>
+    ensures { result.items ≡ dedup same_row rows.items }
+{
+    rows.dedup_by(|row: &mut Row, kept: &mut Row| row.as_slice().cmp(kept.as_slice()).is_eq());
+    rows
+}
+
+/// The rows in the order of an answer; where they are to be distinct, each once.
+pub(crate) fn rows_in_order(keys: &[ShapeKey], distinct: bool, rows: Vec<Row>) -> Result<Rows, NoMemory>
+    ensures { IfOk result (λ ordered. ordered ≡ sorted_by (answer_cmp keys.now) (if distinct then once same_row rows.items else rows.items)) }
+{
+    let rows = sorted(keys, rows)?;
+    Ok(Items::from_vec(if distinct { without_repeats(rows) } else { rows }))
+}
