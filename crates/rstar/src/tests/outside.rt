@@ -1,16 +1,41 @@
 //! Schedules and what is written for them, worked out by hand from the rules of docs/FORMATS.md: a check from outside the code.
 
+mod change_denials;
+mod column_denials;
 mod course;
 mod denials;
 mod edges;
+mod expressions;
+mod filters;
 mod full;
+mod full_updates;
+mod group_denials;
+mod groups;
+mod indexes;
+mod joins;
 mod later;
+mod name_denials;
 mod noise;
+mod object_denials;
 mod order;
+mod products;
+mod projections;
+mod remade;
+mod row_changes;
+mod row_sizes;
 mod rows;
+mod script;
+mod select_denials;
 mod sessions;
 mod shown;
+mod sortings;
+mod sums;
+mod synonym_targets;
+mod synonyms;
 mod texts;
+mod update_denials;
+mod update_order;
+mod wide_tables;
 mod words;
 mod wrong;
 
