@@ -67,6 +67,9 @@ abbrev pub updating : Swn → ℕ → Result (List (List Value)) Denial → Effe
 updating name count (Ok rows) = done (changes.SetRows name rows) (answers.Changed count)
 updating name count (Err cause) = denied cause
 
+abbrev pub deleting : Swn → List (List BoundCmp) → List (List Value) → Effect
+deleting name clauses rows = done (changes.SetRows name (kept clauses rows)) (answers.Changed (met clauses rows))
+
 -- the rows of the one table of a change
 abbrev pub only : List (List (List Value)) → List (List Value)
 only [] = []
@@ -77,7 +80,7 @@ abbrev pub effect_of_bound : List (List (List Value)) → Bound → Effect
 effect_of_bound tables (bounds.Select names aliases widths clauses shape) = answering (selected clauses shape tables)
 effect_of_bound tables (bounds.Insert name rows) = inserting name (inserted rows (only tables))
 effect_of_bound tables (bounds.Update name sets clauses) = updating name (met clauses (only tables)) (updated sets clauses (only tables))
-effect_of_bound tables (bounds.Delete name clauses) = done (changes.SetRows name (kept clauses (only tables))) (answers.Changed (met clauses (only tables)))
+effect_of_bound tables (bounds.Delete name clauses) = deleting name clauses (only tables)
 
 abbrev pub once_bound : List (List (List Value)) → Result Bound Denial → Effect
 once_bound tables (Ok bound) = effect_of_bound tables bound
@@ -88,6 +91,9 @@ once_bound tables (Err cause) = denied cause
 abbrev pub select : Database → List Swn → Select → Effect
 select db names query =
     unless_denied (first_denial (flat_map (table_tests db) names)) (once_bound (map (rows_in db) names) (select_bound query (map (heading_in db) names) []))
+
+abbrev pub query : Database → Execution → Select → Effect
+query db execution given = select db (map (λ table. name_of db execution table.name) given.from) given
 
 -- a change of the table of this name
 abbrev pub change : Database → Swn → (Heading → Result Bound Denial) → Effect
@@ -103,7 +109,7 @@ abbrev pub delete : Database → Swn → List Clause → Effect
 delete db name clauses = change db name (λ heading. delete_bound clauses heading [])
 
 unfoldable pub effect_of_dml : Database → Execution → Dml → Effect
-effect_of_dml db execution (dmls.Select query) = select db (map (λ table. name_of db execution table.name) query.from) query
+effect_of_dml db execution (dmls.Select given) = query db execution given
 effect_of_dml db execution (dmls.Insert written rows) = insert db (name_of db execution written) rows
 effect_of_dml db execution (dmls.Update written sets clauses) = update db (name_of db execution written) sets clauses
 effect_of_dml db execution (dmls.Delete written clauses) = delete db (name_of db execution written) clauses

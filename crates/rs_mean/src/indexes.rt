@@ -146,7 +146,12 @@ impl Database {
     }
 
     /// Takes the index of this name from the table.
-    pub(crate) fn drop_index(&self, alloc: Global, name: Swn, index: Ident) -> Result<Effect, NoMemory>
+    pub(crate) fn drop_index(
+        &self,
+        alloc: Global,
+        name: Swn,
+        index: Ident,
+    ) -> Result<Effect, NoMemory>
         ensures { IfOk result (λ effect. effect ≡ spec.drop_index self.now name index) }
     {
         if let Some(cause) = self.drop_index_denial(&name, index) {

@@ -1,35 +1,21 @@
 //! Statements on rows.
 
-ghost use Rattle.std.specs.Prelude.{◌≡◌, [], ◌∷◌, flat_map, map, drop, take, IfOk};
+ghost use Rattle.std.specs.Prelude.{◌≡◌, [], ◌∷◌, flat_map, map, IfOk};
 ghost use Rattle.rs_bind.specs.Denials.{first_denial};
 ghost use Rattle.rs_mean.specs.Names.{name_of, table_tests};
 ghost use Rattle.rs_mean.specs.RowStatements as spec;
 
-use crate::bound_effect::effect_of_bound;
+use crate::bound_effect::{effect_of_bound, effect_over};
 use crate::change::Effect;
 use crate::columns::copy_columns;
 use crate::database::Database;
 use crate::execution::Execution;
 use crate::stored_rows::StoredRows;
 use rs_ast::{Clause, Dml, Select, Set, TableRef, TermRow};
-use rs_base::{Denial, NameText, NoMemory, Swn, with_room};
+use rs_base::{Denial, NameText, NoMemory, Row, Swn, with_room};
 use rs_bind::{Heading, Headings, bind_delete, bind_insert, bind_select, bind_update};
 use rs_plan::{Bound, Swns};
 use std::alloc::Global;
-
-/// The effect of a statement, once it is bound.
-fn once_bound(
-    alloc: Global,
-    outcome: Result<Bound, Denial>,
-    tables: &[&StoredRows],
-) -> Result<Effect, NoMemory>
-    ensures { IfOk result (λ effect. effect ≡ spec.once_bound (map (λ rows. rows.now) tables.now) outcome) }
-{
-    match outcome {
-        Ok(bound) => effect_of_bound(alloc, bound, tables),
-        Err(cause) => Ok(Effect::denied(cause)),
-    }
-}
 
 impl Database {
     fn heading_in(&self, alloc: Global, name: &Swn) -> Result<Heading, NoMemory>
@@ -51,29 +37,21 @@ impl Database {
         Ok(headings)
     }
 
-    /// The rows of the table of this name, or `none` where there is no such table.
-    fn rows_in<'a>(&'a self, name: &Swn, none: &'a StoredRows) -> &'a StoredRows
-        requires { none.now ≡ [] }
+    fn rows_in(&self, name: &Swn) -> &[Row]
         ensures { result.now ≡ spec.rows_in self.now name.now }
     {
         match self.table(name) {
-            Some(table) => &table.rows,
-            None => none,
+            Some(table) => table.rows.as_slice(),
+            None => &[],
         }
     }
 
-    fn all_rows_in<'a>(
-        &'a self,
-        alloc: Global,
-        names: &[Swn],
-        none: &'a StoredRows,
-    ) -> Result<Vec<&'a StoredRows>, NoMemory>
-        requires { none.now ≡ [] }
+    fn all_rows_in(&self, alloc: Global, names: &[Swn]) -> Result<Vec<&[Row]>, NoMemory>
         ensures { IfOk result (λ tables. map (λ rows. rows.now) tables.items ≡ map (spec.rows_in self.now) names.now) }
     {
         let mut tables = Vec::with_capacity(alloc, names.len())?;
         for name in names {
-            tables.push(self.rows_in(name, none))?;
+            tables.push(self.rows_in(name))?;
         }
         Ok(tables)
     }
@@ -110,11 +88,48 @@ impl Database {
         if let Some(cause) = self.tables_denial(names) {
             return Ok(Effect::denied(cause));
         }
-        let none = StoredRows::new(alloc);
-        let tables = self.all_rows_in(alloc, names, &none)?;
+        let tables = self.all_rows_in(alloc, names)?;
         let headings = self.headings_in(alloc, names)?;
-        let outcome = bind_select(alloc, query, headings.as_slice(), &[])?;
-        once_bound(alloc, outcome, tables.as_slice())
+        match bind_select(alloc, query, headings.as_slice(), &[])? {
+            Ok(bound) => effect_of_bound(alloc, bound, tables.as_slice()),
+            Err(cause) => Ok(Effect::denied(cause)),
+        }
+    }
+
+    fn query(
+        &self,
+        alloc: Global,
+        execution: &Execution,
+        query: &Select,
+    ) -> Result<Effect, NoMemory>
+        ensures { IfOk result (λ effect. effect ≡ spec.query self.now execution.now query.now) }
+    {
+        let names = self.names_of(alloc, execution, query.from.as_slice())?;
+        self.select(alloc, names.as_slice(), query)
+    }
+
+    /// The effect of a change of this table, once it is bound.
+    fn once_bound(
+        &self,
+        alloc: Global,
+        name: &Swn,
+        outcome: Result<Bound, Denial>,
+    ) -> Result<Effect, NoMemory>
+        ensures { IfOk result (λ effect. effect ≡ spec.once_bound (spec.rows_in self.now name.now ∷ []) outcome) }
+    {
+        match outcome {
+            Ok(bound) => self.effect_over(alloc, name, bound),
+            Err(cause) => Ok(Effect::denied(cause)),
+        }
+    }
+
+    fn effect_over(&self, alloc: Global, name: &Swn, bound: Bound) -> Result<Effect, NoMemory>
+        ensures { IfOk result (λ effect. effect ≡ spec.effect_of_bound (spec.rows_in self.now name.now ∷ []) bound) }
+    {
+        match self.table(name) {
+            Some(table) => effect_over(alloc, bound, &table.rows),
+            None => effect_over(alloc, bound, &StoredRows::new(alloc)),
+        }
     }
 
     fn insert(&self, alloc: Global, name: &Swn, rows: &[TermRow]) -> Result<Effect, NoMemory>
@@ -123,10 +138,9 @@ impl Database {
         if let Some(cause) = self.table_denial(name) {
             return Ok(Effect::denied(cause));
         }
-        let none = StoredRows::new(alloc);
         let heading = self.heading_in(alloc, name)?;
         let outcome = bind_insert(alloc, rows, &heading, &[])?;
-        once_bound(alloc, outcome, &[self.rows_in(name, &none)])
+        self.once_bound(alloc, name, outcome)
     }
 
     fn update(
@@ -141,10 +155,9 @@ impl Database {
         if let Some(cause) = self.table_denial(name) {
             return Ok(Effect::denied(cause));
         }
-        let none = StoredRows::new(alloc);
         let heading = self.heading_in(alloc, name)?;
         let outcome = bind_update(alloc, sets, clauses, &heading, &[])?;
-        once_bound(alloc, outcome, &[self.rows_in(name, &none)])
+        self.once_bound(alloc, name, outcome)
     }
 
     fn delete(&self, alloc: Global, name: &Swn, clauses: &[Clause]) -> Result<Effect, NoMemory>
@@ -153,10 +166,9 @@ impl Database {
         if let Some(cause) = self.table_denial(name) {
             return Ok(Effect::denied(cause));
         }
-        let none = StoredRows::new(alloc);
         let heading = self.heading_in(alloc, name)?;
         let outcome = bind_delete(alloc, clauses, &heading, &[])?;
-        once_bound(alloc, outcome, &[self.rows_in(name, &none)])
+        self.once_bound(alloc, name, outcome)
     }
 
     /// What a statement on rows changes and answers.
@@ -170,10 +182,7 @@ impl Database {
         ensures { IfOk result (λ effect. effect ≡ spec.effect_of_dml self.now execution.now dml.now) }
     {
         match dml {
-            Dml::Select(query) => {
-                let names = self.names_of(alloc, execution, query.from.as_slice())?;
-                self.select(alloc, names.as_slice(), query)
-            }
+            Dml::Select(query) => self.query(alloc, execution, query),
             Dml::Insert { name, rows } => {
                 self.insert(alloc, &self.name_of(execution, name), rows.as_slice())
             }

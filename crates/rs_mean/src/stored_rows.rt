@@ -1,10 +1,10 @@
 //! The rows of a table.
 
-ghost use Rattle.std.specs.Prelude.{◌≡◌, [], ◌∷◌, ◌++◌, length, OnOk, OnErr};
+ghost use Rattle.std.specs.Prelude.{◌≡◌, [], ◌∷◌, ◌++◌, length, take, IfOk, OnOk, OnErr};
 ghost use Rattle.rs_mean.specs.Limits as spec;
 
 use crate::limits::{MAX_ROWS, MAX_TABLE_BYTES};
-use rs_base::{NoMemory, Row, row_size};
+use rs_base::{NoMemory, Row, copy_row, row_size};
 use std::alloc::Global;
 use std::marker::Model;
 
@@ -35,6 +35,17 @@ impl StoredRows {
             rows: Vec::new(alloc),
             bytes: 0,
         }
+    }
+
+    /// A copy of the rows.
+    pub fn copied(alloc: Global, rows: &[Row]) -> Result<StoredRows, NoMemory>
+        ensures { IfOk result (λ stored. stored ≡ rows.now) }
+    {
+        let mut stored = StoredRows::new(alloc);
+        for row in rows {
+            stored.push(copy_row(alloc, row.as_slice())?)?;
+        }
+        Ok(stored)
     }
 
     pub fn as_slice(&self) -> &[Row]

@@ -11,7 +11,12 @@ use rs_base::{Answer, Denial, Ident, NoMemory, Swn};
 use std::alloc::Global;
 
 impl Database {
-    fn create_synonym_denial(&self, execution: &Execution, synonym: Ident, name: &Swn) -> Option<Denial>
+    fn create_synonym_denial(
+        &self,
+        execution: &Execution,
+        synonym: Ident,
+        name: &Swn,
+    ) -> Option<Denial>
         ensures { result ≡ first_denial (spec.create_synonym_tests self.now execution.now synonym name.now) }
     {
         if let Some(cause) = self.site_denial(name) {
