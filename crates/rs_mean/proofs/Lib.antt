@@ -1,4 +1,6 @@
 pub mod Entries
+mod LawEffects
+pub mod Lawful
 pub mod Orders
 mod Positions
 mod UpdatedRows
