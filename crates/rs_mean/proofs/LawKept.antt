@@ -1,5 +1,5 @@
 -- What each table keeps: how large it is, and that its columns and its indexes have names of their own.
-use Rattle.std.proofs.Common.{◌≡◌, ◌≢◌, ℕ, ◌≤◌, Bool, true, false, ◌&&◌, ◌||◌, ◌==◌, not, List, [], ◌∷◌, ◌++◌, length, nat_le, All, AllPairs, Option, Some, None, IfSome, refl, sym, ◌∙◌, arith, leb-true}
+use Rattle.std.proofs.Common.{◌≡◌, ◌≢◌, ℕ, ◌≤◌, true, false, ◌==◌, not, List, [], ◌∷◌, ◌++◌, length, nat_le, All, AllPairs, Option, Some, None, IfSome, refl, sym, ◌∙◌, arith, leb-true}
 use Rattle.std.specs.Prelude.{bytes_eq}
 use Rattle.std.specs.BTreeMap.{is_at}
 use Rattle.std.specs.List.{list_all}
@@ -33,6 +33,7 @@ use Rattle.rs_mean.specs.Limits.{max_row_bytes, max_rows, max_table_bytes, rows_
 use Rattle.rs_mean.specs.RowChanges.{has_room, may_be_rows, kept}
 use Rattle.rs_mean.specs.RowStatements.{rows_of}
 use Rattle.rs_mean.specs.TableStatements.{indexes_of, has_index, is_indexed, without_index, is_other_index, new_table}
+use Rattle.rs_mean.proofs.LawTests.{not_false, neither, both}
 use Rattle.rs_mean.proofs.LawRows.{kept_and_met}
 
 -- ---- each table of the database
@@ -73,10 +74,6 @@ module _ (P : Table → Type 0) (db : Database) (each : EachTable P db) where
   each_named name = IfSome-lookup_from_All P (is_at (name_cmp name)) db.tables each
 
 -- ---- limits
-
-both : (a b : Bool) → (a && b) ≡ true → (a ≡ true) × (b ≡ true)
-both true b e = (refl, e)
-both false b e = absurd cc
 
 pub empty_within : (txn : Txn) (name : Swn) (columns : List ColDef) → IsWithin (new_table txn name columns)
 empty_within txn name columns = record { rows = omega arith; bytes = omega arith; row_bytes = All-nil (λ row. row_size row ≤ max_row_bytes) }
@@ -121,14 +118,6 @@ kept_within (Some table) clauses within = record {
 }
 
 -- ---- names
-
-not_false : (b : Bool) → not b ≡ true → b ≡ false
-not_false true e = absurd cc
-not_false false e = refl
-
-neither : (a b : Bool) → (a || b) ≡ false → (a ≡ false) × (b ≡ false)
-neither true b e = absurd cc
-neither false b e = (refl, e)
 
 apart_from : (name other : List ℕ) → bytes_eq other name ≡ false → other ≢ name
 apart_from name other e same = true≢false (sym ((bytes_eq-Decides other name).1 same) ∙ e)

@@ -37,22 +37,8 @@ use Rattle.rs_mean.specs.Names.{name_of, own_synonym, site_test, table_tests}
 use Rattle.rs_mean.specs.RowChanges.{given_rows, has_room, inserted, updated_rows, may_be_rows, within_limits, updated, kept, met}
 use Rattle.rs_mean.specs.RowStatements.{rows_in, heading_in, answering, inserting, updating, once_bound, select, insert, update, delete, effect_of_dml}
 use Rattle.rs_mean.specs.TableStatements.{create_tests, new_table, create_table, drop_table, columns_of, indexes_of, column_place, has_index, is_indexed, create_index_tests, new_index, create_index, drop_index_tests, without_index, drop_index, create_synonym_tests, create_synonym, drop_synonym_tests, drop_synonym}
+use Rattle.rs_mean.proofs.LawTests.{passed, holds_if, absent_if, neither}
 use Rattle.rs_mean.proofs.LawEffects.{IsSo, so_denied, so_done, so_unless}
-
--- ---- tests that don't fail
-
-passed : (first : Test) (tests : List Test) → first_denial (first ∷ tests) ≡ None → (first.fails ≡ false) × (first_denial tests ≡ None)
-passed first tests =
-    elim first.fails as (λ b. cond {A = Option Denial} b (Some first.cause) (first_denial tests) ≡ None → (b ≡ false) × (first_denial tests ≡ None))
-    [ true ↦ λ e. absurd cc | false ↦ λ e. (refl, e) ]
-
-holds_if : (b : Bool) → not b ≡ false → b ≡ true
-holds_if true e = refl
-holds_if false e = absurd cc
-
-absent_if : {A : Type 0} (found : Option A) → is_some found ≡ false → found ≡ None
-absent_if None e = refl
-absent_if (Some x) e = absurd cc
 
 -- ---- CREATE TABLE, DROP TABLE
 
@@ -66,12 +52,12 @@ create_so : (db : Database) (txn : Txn) (name : Swn) (columns : List ColDef) →
 create_so db txn name columns =
     so_unless (Creates db txn name columns) (first_denial (create_tests db name columns)) (done (changes.PutTable name (new_table txn name columns)) answers.Ok)
     (λ e.
-      let no_table : Test = test (is_some (table_named name db)) denials.TableExists in
-      let one_name : Test = test (not (names_differ columns)) denials.TwoColumns in
-      let names = passed one_name (no_table ∷ []) (passed (site_test db name) (one_name ∷ no_table ∷ []) e).1 in
-      let found = passed no_table [] names.1 in
-      so_done (Creates db txn name columns) (changes.PutTable name (new_table txn name columns)) answers.Ok
-      (record { is = refl; answers = refl; differ = holds_if (names_differ columns) names.0; absent = absent_if (table_named name db) found.0 }))
+    let no_table : Test = test (is_some (table_named name db)) denials.TableExists in
+    let one_name : Test = test (not (names_differ columns)) denials.TwoColumns in
+    let names = passed one_name (no_table ∷ []) (passed (site_test db name) (one_name ∷ no_table ∷ []) e).1 in
+    let found = passed no_table [] names.1 in
+    so_done (Creates db txn name columns) (changes.PutTable name (new_table txn name columns)) answers.Ok
+    (record { is = refl; answers = refl; differ = holds_if (names_differ columns) names.0; absent = absent_if (table_named name db) found.0 }))
 
 -- the table is there
 abbrev pub IsThere : Database → Swn → Type 0
@@ -104,21 +90,17 @@ pub record AddsIndex (db : Database) (txn : Txn) (name : Swn) (index column : Li
   pub new_name : has_index (indexes_in db name) index ≡ false
   pub new_column : is_indexed (indexes_in db name) (place_in db name column) ≡ false
 
-neither : (a b : Bool) → (a || b) ≡ false → (a ≡ false) × (b ≡ false)
-neither true b e = absurd cc
-neither false b e = (refl, e)
-
 create_index_so : (db : Database) (txn : Txn) (name : Swn) (index column : List ℕ) → IsSo (AddsIndex db txn name index column) (create_index db txn name index column)
 create_index_so db txn name index column =
     let change : Change = changes.SetIndexes name (indexes_in db name ++ new_index txn index (place_in db name column) ∷ []) in
     so_unless (AddsIndex db txn name index column) (first_denial (create_index_tests db name index column)) (done change answers.Ok)
     (λ e.
-      let clash : Bool = has_index (indexes_in db name) index || is_indexed (indexes_in db name) (place_in db name column) in
-      let tests : List Test = test clash denials.IndexExists ∷ [] in
-      let table = there db name (test (not (has_name (columns_of (table_named name db)) column)) denials.NoColumn ∷ tests) e in
-      let named = passed (test (not (has_name (columns_of (table_named name db)) column)) denials.NoColumn) tests table.1 in
-      let new = neither (has_index (indexes_in db name) index) (is_indexed (indexes_in db name) (place_in db name column)) (passed (test clash denials.IndexExists) [] named.1).0 in
-      so_done (AddsIndex db txn name index column) change answers.Ok (record { is = refl; new_name = new.0; new_column = new.1 }))
+    let clash : Bool = has_index (indexes_in db name) index || is_indexed (indexes_in db name) (place_in db name column) in
+    let tests : List Test = test clash denials.IndexExists ∷ [] in
+    let table = there db name (test (not (has_name (columns_of (table_named name db)) column)) denials.NoColumn ∷ tests) e in
+    let named = passed (test (not (has_name (columns_of (table_named name db)) column)) denials.NoColumn) tests table.1 in
+    let new = neither (has_index (indexes_in db name) index) (is_indexed (indexes_in db name) (place_in db name column)) (passed (test clash denials.IndexExists) [] named.1).0 in
+    so_done (AddsIndex db txn name index column) change answers.Ok (record { is = refl; new_name = new.0; new_column = new.1 }))
 
 pub record DropsIndex (db : Database) (name : Swn) (index : List ℕ) (change : Change) (given : List Answer) : Type 0 where
   pub is : change ≡ changes.SetIndexes name (without_index index (indexes_in db name))
@@ -223,7 +205,7 @@ module _ (db : Database) (name : Swn) (sets : List BoundSet) (clauses : List (Li
       → IsSo (Updates db name) (updating name (met clauses (rows_in db name)) (cond {A = Result (List (List Value)) Denial} within (Ok new) (Err denials.TableFull))) in
       let at : (within : Bool) → Claim within = λ within. elim within as Claim [
         | true ↦ λ e. so_done (Updates db name) (changes.SetRows name new) (answers.Changed (met clauses (rows_in db name)))
-        (record { sets = sets; clauses = clauses; new = new; is = refl; answers = refl; there = is_there; made = made; within = e })
+            (record { sets = sets; clauses = clauses; new = new; is = refl; answers = refl; there = is_there; made = made; within = e })
         | false ↦ λ e. so_denied (Updates db name) denials.TableFull
       ] in
       at (may_be_rows new) refl
@@ -262,7 +244,7 @@ delete_so db name clauses =
     let Claim : Option Denial → Type 0 = λ denial. IsSo (Deletes db name) (once_bound tables (binding.unless_denied denial (bounds.Delete name bound))) in
     let at : IsThere db name → (denial : Option Denial) → Claim denial = λ is_there denial. elim denial as Claim [
       | None ↦ so_done (Deletes db name) (changes.SetRows name (kept bound (rows_in db name))) (answers.Changed (met bound (rows_in db name)))
-      (record { clauses = bound; is = refl; answers = refl; there = is_there })
+          (record { clauses = bound; is = refl; answers = refl; there = is_there })
       | Some cause ↦ so_denied (Deletes db name) cause
     ] in
     so_unless (Deletes db name) (first_denial (table_tests db name)) (once_bound tables (delete_bound clauses (heading_in db name) []))

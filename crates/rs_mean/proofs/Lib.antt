@@ -3,7 +3,10 @@ mod LawEffects
 mod LawKept
 mod LawRows
 mod LawStatements
+mod LawStays
 mod LawTables
+mod LawTests
+mod LawTouches
 pub mod Lawful
 pub mod Orders
 mod Positions
