@@ -1,4 +1,13 @@
 pub mod Entries
+mod LawEffects
+mod LawKept
+mod LawRows
+mod LawStatements
+mod LawStays
+mod LawTables
+mod LawTests
+mod LawTouches
+pub mod Lawful
 pub mod Orders
 mod Positions
 mod UpdatedRows

@@ -9,6 +9,7 @@ mod database;
 mod execute;
 mod execution;
 mod indexes;
+mod laws;
 mod limits;
 mod naming;
 mod row_changes;
@@ -23,6 +24,11 @@ pub use built::Stmt;
 pub use change::{Change, Effect};
 pub use database::Database;
 pub use execution::{Execution, Outcome};
+pub use laws::{
+    columns_stay_distinct, denied_changes_nothing, indexes_stay_distinct, names_stay_in_order,
+    others_stay, rows_are_appended, rows_are_changed, rows_are_taken_out, select_changes_nothing,
+    sites_stay, synonyms_stay, table_is_dropped, table_is_made, tables_stay_within,
+};
 pub use limits::{MAX_ROW_BYTES, MAX_ROWS, MAX_TABLE_BYTES};
 pub use stored_rows::StoredRows;
 pub use synonym::Synonym;

@@ -1,0 +1,75 @@
+//! What holds of every execution, whatever the database. Each function here is a law: its contract says it, and its
+//! body does nothing.
+
+ghost use Rattle.rs_mean.specs.Laws.{ColumnsStayDistinct, DeniedChangesNothing, IndexesStayDistinct, NamesStayInOrder, OthersStay, RowsAreAppended, RowsAreChanged, RowsAreTakenOut, SelectChangesNothing, SitesStay, SynonymsStay, TableIsDropped, TableIsMade, TablesStayWithin};
+
+/// A denied execution changes nothing.
+pub fn denied_changes_nothing()
+    ensures { DeniedChangesNothing }
+{}
+
+/// A SELECT changes nothing.
+pub fn select_changes_nothing()
+    ensures { SelectChangesNothing }
+{}
+
+/// No execution changes how many sites there are.
+pub fn sites_stay()
+    ensures { SitesStay }
+{}
+
+/// Each name stands once, and the names rise, at first and after each execution.
+pub fn names_stay_in_order()
+    ensures { NamesStayInOrder }
+{}
+
+/// An execution touches no table but its own.
+pub fn others_stay()
+    ensures { OthersStay }
+{}
+
+/// Only statements on synonyms change what synonyms stand for.
+pub fn synonyms_stay()
+    ensures { SynonymsStay }
+{}
+
+/// After a CREATE TABLE that was done its name, which no table had, has the table made, in which there is no row.
+pub fn table_is_made()
+    ensures { TableIsMade }
+{}
+
+/// After a DROP TABLE that was done no table has its name, which one had before.
+pub fn table_is_dropped()
+    ensures { TableIsDropped }
+{}
+
+/// After an INSERT of values that was done its name has the table that it had, with the rows of these values at its end.
+pub fn rows_are_appended()
+    ensures { RowsAreAppended }
+{}
+
+/// After a DELETE that was done its table has as many rows less as it tells.
+pub fn rows_are_taken_out()
+    ensures { RowsAreTakenOut }
+{}
+
+/// After an UPDATE that was done its table has as many rows as before, and it tells at most so many.
+pub fn rows_are_changed()
+    ensures { RowsAreChanged }
+{}
+
+/// A table never has more than 65,536 rows, nor more than 8,388,608 bytes, nor a row of more than 1,024 bytes, at first
+/// and after each execution.
+pub fn tables_stay_within()
+    ensures { TablesStayWithin }
+{}
+
+/// No table has two columns of one name, at first and after each execution.
+pub fn columns_stay_distinct()
+    ensures { ColumnsStayDistinct }
+{}
+
+/// No table has two indexes of one name, or on one column, at first and after each execution.
+pub fn indexes_stay_distinct()
+    ensures { IndexesStayDistinct }
+{}
