@@ -135,13 +135,6 @@ all_once same P (x ∷ xs) all = (all.0, all_filter P (λ other. not (same x oth
 
 -- ---- in lists in order
 
-pub rising_filter : {X : Type 0} (R : X → X → Ordering) (p : X → Bool) (xs : List X) → Rising R xs → Rising R (filter p xs)
-rising_filter R p [] up = tt
-rising_filter R p (x ∷ xs) up =
-    let rest = rising_filter R p xs up.1 in
-    elim (p x) as (λ b. Rising R (cond b (x ∷ filter p xs) (filter p xs)))
-    [ true ↦ (all_filter (λ y. is_gt (R x y) ≡ false) p xs up.0, rest) | false ↦ rest ]
-
 repeated : (b : Bool) (here more : ℕ) → here ≡ cond b 1 0 → min 1 (cond b 1 0 + more) ≡ min 1 (cond b 1 0 + (here + more))
 repeated true here more e = omega arith
 repeated false here more e = omega arith
