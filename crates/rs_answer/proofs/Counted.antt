@@ -135,13 +135,6 @@ all_once same P (x ∷ xs) all = (all.0, all_filter P (λ other. not (same x oth
 
 -- ---- in lists in order
 
-pub rising_filter : {X : Type 0} (R : X → X → Ordering) (p : X → Bool) (xs : List X) → Rising R xs → Rising R (filter p xs)
-rising_filter R p [] up = tt
-rising_filter R p (x ∷ xs) up =
-    let rest = rising_filter R p xs up.1 in
-    elim (p x) as (λ b. Rising R (cond b (x ∷ filter p xs) (filter p xs)))
-    [ true ↦ (all_filter (λ y. is_gt (R x y) ≡ false) p xs up.0, rest) | false ↦ rest ]
-
 repeated : (b : Bool) (here more : ℕ) → here ≡ cond b 1 0 → min 1 (cond b 1 0 + more) ≡ min 1 (cond b 1 0 + (here + more))
 repeated true here more e = omega arith
 repeated false here more e = omega arith
@@ -197,13 +190,14 @@ module _ {X : Type 0} {R : X → X → Ordering} (total : IsTotalOrder R) (exact
   others_after key k x [] up differs all = tt
   others_after key k x (y ∷ ys) up differs all = (
     ⊎_elim
-    (λ (e : same k (key y) ≡ true).
-    let back : is_gt (R x k) ≡ false = ap (λ z. is_gt (R x z)) (is.exact k (key y) e) ∙ all.0 in
-    let alike : k ≡ x = same_first total exact k x back up in
-    absurd (false≢true (sym differs ∙ ap (λ z. same z x) alike ∙ is.itself x)))
-    (λ (e : same k (key y) ≡ false). e)
-    (cases_Bool (same k (key y))),
-    others_after key k x ys up differs all.1)
+        (λ (e : same k (key y) ≡ true).
+        let back : is_gt (R x k) ≡ false = ap (λ z. is_gt (R x z)) (is.exact k (key y) e) ∙ all.0 in
+        let alike : k ≡ x = same_first total exact k x back up in
+        absurd (false≢true (sym differs ∙ ap (λ z. same z x) alike ∙ is.itself x)))
+        (λ (e : same k (key y) ≡ false). e)
+        (cases_Bool (same k (key y))),
+    others_after key k x ys up differs all.1,
+  )
 
   -- ---- `dedup` of a list in order
 
@@ -216,9 +210,10 @@ module _ {X : Type 0} {R : X → X → Ordering} (total : IsTotalOrder R) (exact
   dedup_rises : (k : X) (xs : List X) → NoneBelow R k xs → Rising R xs → Rising R (dedup_from same k xs)
   dedup_rises k [] low up = (tt, tt)
   dedup_rises k (x ∷ xs) low up =
-      elim (same x k) as (λ b. Rising R (cond b (dedup_from same k xs) (k ∷ dedup_from same x xs)))
-      [ true ↦ dedup_rises k xs low.1 up.1
-      | false ↦ (all_dedup (λ z. is_gt (R k z) ≡ false) x xs low.0 low.1, dedup_rises x xs up.0 up.1) ]
+      elim (same x k) as (λ b. Rising R (cond b (dedup_from same k xs) (k ∷ dedup_from same x xs))) [
+        | true ↦ dedup_rises k xs low.1 up.1
+        | false ↦ (all_dedup (λ z. is_gt (R k z) ≡ false) x xs low.0 low.1, dedup_rises x xs up.0 up.1)
+      ]
 
   times_dedup : (z k : X) (xs : List X) → NoneBelow R k xs → Rising R xs → times same z (dedup_from same k xs) ≡ min 1 (one_like same z k + times same z xs)
   times_dedup z k [] low up = elim (same z k) as (λ b. cond b 1 0 + 0 ≡ min 1 (cond b 1 0 + 0)) [ true ↦ refl | false ↦ refl ]

@@ -4,6 +4,7 @@ pub mod Arranged
 pub mod Chosen
 pub mod Counted
 pub mod Fitting
+pub mod ItemLawful
 pub mod Lawful
 pub mod Orders
 pub mod Progress

@@ -1,5 +1,5 @@
 -- The rows that groups give, one group after another.
-use Rattle.std.proofs.Common.{◌≡◌, List, [], ◌∷◌, ◌++◌, Bool, true, false, ◌||◌, Option, Some, None, refl, sym, ap, ◌∙◌, append-nil, append_assoc}
+use Rattle.std.proofs.Common.{◌≡◌, List, [], ◌∷◌, ◌++◌, Bool, true, false, ◌||◌, Option, Some, None, refl, ap, ◌∙◌, append-nil, append_assoc}
 use Rattle.std.specs.List.{cons_option}
 use Rattle.std.specs.Option.{option_to_list}
 use Rattle.rs_base.specs.declared.value.Value.{Value}
@@ -23,20 +23,9 @@ or_false : (b c d : Bool) → b ≡ false → (b || c) ≡ d → c ≡ d
 or_false true c d e h = cc
 or_false false c d e h = h
 
-or_true : (b c d : Bool) → b ≡ true → (b || c) ≡ d → d ≡ true
-or_true true c d e h = sym h
-or_true false c d e h = cc
-
 module _ (items : List ShapeItem) (given : List (List Value)) (members : List (List Value)) (left groups : List (List (List Value))) (so_far : Progress items given (members ∷ left) groups) where
   pub progress_more : (now : List (List Value)) → group_overflows items members ≡ false → now ≡ given ++ option_to_list (row_of items members) → Progress items now left groups
   progress_more now fits more = record {
     rows = ap (λ rows. rows ++ rows_of items left) more ∙ moved given (rows_of items left) (row_of items members) ∙ so_far.rows;
     sums = or_false (group_overflows items members) (any_overflows items left) (any_overflows items groups) fits so_far.sums;
   }
-
-  pub progress_over : group_overflows items members ≡ true → any_overflows items groups ≡ true
-  progress_over over = or_true (group_overflows items members) (any_overflows items left) (any_overflows items groups) over so_far.sums
-
-pub progress_all : (items : List ShapeItem) (given : List (List Value)) (groups : List (List (List Value))) → Progress items given [] groups
-    → (any_overflows items groups ≡ false) × (given ≡ rows_of items groups)
-progress_all items given groups whole = (sym whole.sums, sym (append-nil given) ∙ whole.rows)

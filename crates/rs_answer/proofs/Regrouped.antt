@@ -1,9 +1,9 @@
 -- Rows that a stable sort has put in order of their groups' values are in the same groups, and these give the same rows.
-use Rattle.std.proofs.Common.{◌≡◌, ◌≢◌, ℕ, ◌+◌, List, [], ◌∷◌, Bool, true, false, not, ◌&&◌, map, Option, Some, None, Ordering, Less, Equal, Greater, Result, Ok, Err, refl, sym, ap, ◌∙◌, subst, arith, is_lt}
+use Rattle.std.proofs.Common.{◌≡◌, ◌≢◌, ℕ, ◌+◌, List, [], ◌∷◌, Bool, true, not, ◌&&◌, map, Option, Some, None, Ordering, Less, Equal, Greater, Result, Ok, Err, refl, sym, ap, ◌∙◌, subst, arith, is_lt}
 use Rattle.std.specs.List.{filter_map, cons_option, sum_by, AllByRecursion}
 use Rattle.std.specs.List.Sorted.{IsPermutation, IsStableByKey, ties}
 use Rattle.std.specs.Ordering.{is_eq, ordering_reverse}
-use Rattle.std.proofs.lemmas.Bool.{cond-true, cond-false}
+use Rattle.std.proofs.lemmas.Bool.{cond-true}
 use Rattle.std.proofs.lemmas.List.Elements.{filter_agree}
 use Rattle.std.proofs.lemmas.List.Sorted.{IsPermutation-map, IsPermutation-refl, list_any-IsPermutation, sum_by-IsPermutation}
 use Rattle.std.proofs.lemmas.List.Sums.{sum_by-cons}
@@ -105,9 +105,6 @@ shown_from rows shape joined items groups result e same gave =
 
 permutes_to_itself : {X : Type 0} (xs ys : List X) → xs ≡ ys → IsPermutation xs ys
 permutes_to_itself xs ys e = subst (λ zs. IsPermutation xs zs) e (IsPermutation-refl xs)
-
-pub alone_groups : (shape : Shape) (joined : List (List Value)) → shape.grouped ≡ false → IsPermutation (groups_of shape joined) (map (λ row. row ∷ []) joined)
-alone_groups shape joined e = permutes_to_itself _ _ (cond-false shape.grouped (groups_by shape.group joined) (map (λ row. row ∷ []) joined) e)
 
 pub one_group : (shape : Shape) (joined rows : List (List Value)) → shape.grouped ≡ true → shape.group ≡ [] → rows ≡ joined → IsPermutation (groups_of shape joined) (rows ∷ [])
 one_group shape joined rows e none same =

@@ -1,8 +1,8 @@
 -- The row that a group gives, one item more; and whether one of the sums overflows.
-use Rattle.std.proofs.Common.{◌≡◌, ℕ, ◌+◌, ◌<◌, List, [], ◌∷◌, ◌++◌, Bool, true, false, ◌||◌, cond, length, take, drop, get_or, map, Option, Some, None, refl, sym, ap, ◌∙◌}
+use Rattle.std.proofs.Common.{◌≡◌, ℕ, ◌+◌, ◌<◌, List, [], ◌∷◌, ◌++◌, Bool, true, false, ◌||◌, cond, length, take, get_or, map, Option, Some, None, refl, sym, ap, ◌∙◌}
 use Rattle.std.specs.List.{list_any}
 use Rattle.std.specs.Option.{option_and_then, option_map}
-use Rattle.std.proofs.lemmas.List.{take_more, drop_more, map-append, take-append-drop}
+use Rattle.std.proofs.lemmas.List.{take_more, map-append}
 use Rattle.rs_answer.specs.Items.{all_of}
 
 -- ---- all of the values
@@ -65,10 +65,3 @@ module _ {X : Type 0} (p : X → Bool) (xs : List X) (i : ℕ) (d x : X) (within
   none_more so_far here =
       ap (list_any p) (take_more xs i d within ∙ ap (λ y. take i xs ++ y ∷ []) (sym is))
       ∙ list_any-append p (take i xs) (x ∷ []) ∙ ap (λ b. b || (p x || false)) so_far ∙ or_last (p x) here
-
-  pub any_here : p x ≡ true → list_any p xs ≡ true
-  any_here here =
-      ap (list_any p) (sym (take-append-drop i xs) ∙ ap (λ ys. take i xs ++ ys) (drop_more xs i d within ∙ ap (λ y. y ∷ drop (i + 1) xs) (sym is)))
-      ∙ list_any-append p (take i xs) (x ∷ drop (i + 1) xs)
-      ∙ ap (λ b. list_any p (take i xs) || (b || list_any p (drop (i + 1) xs))) here
-      ∙ (elim (list_any p (take i xs)) as (λ b. (b || true) ≡ true) [ true ↦ refl | false ↦ refl ])

@@ -20,7 +20,11 @@ fn sorted_rows(alloc: Global, shape: &Shape, joined: Rows) -> Result<Rows, Answe
 }
 
 /// The rows of a query, sorted by its keys and then by all columns; or Overflow, where a sum isn't an integer of 64 bits.
-pub fn answer_rows(alloc: Global, shape: &Shape, joined: Rows) -> Result<Result<Rows, Denial>, NoMemory>
+pub fn answer_rows(
+    alloc: Global,
+    shape: &Shape,
+    joined: Rows,
+) -> Result<Result<Rows, Denial>, NoMemory>
     ensures { IfOk result (λ answer. answer ≡ spec.answer_of shape.now joined) }
 {
     match sorted_rows(alloc, shape, joined) {

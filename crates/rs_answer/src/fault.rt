@@ -1,8 +1,7 @@
 //! Why a query gives no rows.
 
 use rs_base::NoMemory;
-use std::alloc::AllocError;
-use std::alloc::AllocFailed;
+use std::alloc::{AllocError, AllocFailed};
 
 /// A sum isn't an integer of 64 bits, or memory was wanting.
 #[derive(Clone, Copy, Debug, PartialEq, Eq)]

@@ -62,7 +62,11 @@ fn rows_by_group(alloc: Global, places: &[u16], joined: Rows) -> Result<Vec<Row>
     ensures stable { IfOk result (λ rows. IsStableByKey (group_values places.now) group_cmp joined rows.items) }
 {
     let mut rows = into_vec(alloc, joined)?;
-    rows.sort_by(|one: &Row, other: &Row| compare_groups(places, one.as_slice(), other.as_slice()))?;
+    rows.sort_by(|one: &Row, other: &Row| compare_groups(
+        places,
+        one.as_slice(),
+        other.as_slice(),
+    ))?;
     Ok(rows)
 }
 
@@ -87,7 +91,12 @@ fn all_together(alloc: Global, items: &[ShapeItem], rows: &[Row]) -> Result<Vec<
 }
 
 /// What the groups give, where the rows are in order of their groups' values: each run of equal ones is a group.
-fn each_run(alloc: Global, items: &[ShapeItem], places: &[u16], rows: &[Row]) -> Result<Vec<Row>, AnswerFault>
+fn each_run(
+    alloc: Global,
+    items: &[ShapeItem],
+    places: &[u16],
+    rows: &[Row],
+) -> Result<Vec<Row>, AnswerFault>
     requires { IsSortedByKey (group_values places.now) group_cmp rows.now }
     ensures { Gives (any_overflows items.now (grouped_by places.now rows.now)) (λ given. given.items ≡ rows_of items.now (grouped_by places.now rows.now)) result }
 {
@@ -102,7 +111,11 @@ fn each_run(alloc: Global, items: &[ShapeItem], places: &[u16], rows: &[Row]) ->
 }
 
 /// The rows that a query shows, in some order.
-pub(crate) fn shown_rows(alloc: Global, shape: &Shape, joined: Rows) -> Result<Vec<Row>, AnswerFault>
+pub(crate) fn shown_rows(
+    alloc: Global,
+    shape: &Shape,
+    joined: Rows,
+) -> Result<Vec<Row>, AnswerFault>
     ensures { Gives (overflows shape.now joined) (λ rows. IsPermutation (shown shape.now joined) rows.items) result }
 {
     let items = shape.items.as_slice();

@@ -122,7 +122,11 @@ fn item_value(alloc: Global, item: ShapeItem, members: &[Row]) -> Result<Option<
 }
 
 /// The row that a group gives, if it gives one: each item's value. Where one has none the later sums count for Overflow still.
-fn group_row(alloc: Global, items: &[ShapeItem], members: &[Row]) -> Result<Option<Row>, AnswerFault>
+fn group_row(
+    alloc: Global,
+    items: &[ShapeItem],
+    members: &[Row],
+) -> Result<Option<Row>, AnswerFault>
     ensures { Gives (group_overflows items.now members.now) (λ row. row ≡ spec.row_of items.now members.now) result }
 {
     let mut row = with_room(alloc, items.len())?;
@@ -137,7 +141,12 @@ fn group_row(alloc: Global, items: &[ShapeItem], members: &[Row]) -> Result<Opti
 }
 
 /// Puts the row that a group gives, if it gives one, at the end of the rows.
-pub(crate) fn push_group(alloc: Global, items: &[ShapeItem], members: &[Row], rows: &mut Vec<Row>) -> Result<(), AnswerFault>
+pub(crate) fn push_group(
+    alloc: Global,
+    items: &[ShapeItem],
+    members: &[Row],
+    rows: &mut Vec<Row>,
+) -> Result<(), AnswerFault>
     ensures { Gives (group_overflows items.now members.now) (λ _. rows.new.items ≡ rows.old.items ++ option_to_list (spec.row_of items.now members.now)) result }
 {
     if let Some(row) = group_row(alloc, items, members)? {

@@ -4,13 +4,11 @@
 pub use answer::answer_rows;
 pub use sorting::compare_answers;
 
-pub mod laws;
-
 mod answer;
 mod fault;
 mod groups;
 mod items;
+pub mod laws;
 mod sorting;
-
 #[cfg(test)]
 mod tests;

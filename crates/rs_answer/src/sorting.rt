@@ -57,9 +57,17 @@ fn without_repeats(mut rows: Vec<Row>) -> Vec<Row>
 }
 
 /// The rows in the order of an answer; where they are to be distinct, each once.
-pub(crate) fn rows_in_order(keys: &[ShapeKey], distinct: bool, rows: Vec<Row>) -> Result<Rows, NoMemory>
+pub(crate) fn rows_in_order(
+    keys: &[ShapeKey],
+    distinct: bool,
+    rows: Vec<Row>,
+) -> Result<Rows, NoMemory>
     ensures { IfOk result (λ ordered. ordered ≡ sorted_by (answer_cmp keys.now) (if distinct then once same_row rows.items else rows.items)) }
 {
     let rows = sorted(keys, rows)?;
-    Ok(Items::from_vec(if distinct { without_repeats(rows) } else { rows }))
+    Ok(Items::from_vec(if distinct {
+        without_repeats(rows)
+    } else {
+        rows
+    }))
 }

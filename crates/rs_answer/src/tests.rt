@@ -8,6 +8,8 @@ use std::test::*;
 /// Rows of integers.
 type Numbers<'a> = &'a [&'a [i64]];
 
+const NO_ROWS: Numbers<'static> = &[];
+
 const PAIRS: Numbers<'static> = &[&[1, 10], &[3, 5], &[1, -3], &[2, 5]];
 
 /// A query, over joined rows.
@@ -56,11 +58,21 @@ fn rows_of(alloc: Global, numbers: Numbers<'_>) -> Result<Rows, Fail> {
 }
 
 fn is_row(row: &Row, want: &[i64]) -> bool {
-    row.len() == want.len() && row.as_slice().iter().zip(want).all(|(value, number)| *value == Value::Int(*number))
+    row.len() == want.len()
+        && row
+            .as_slice()
+            .iter()
+            .zip(want)
+            .all(|(value, number)| *value == Value::Int(*number))
 }
 
 fn are_rows(rows: &Rows, want: Numbers<'_>) -> bool {
-    rows.len() == want.len() && rows.as_slice().iter().zip(want).all(|(row, numbers)| is_row(row, numbers))
+    rows.len() == want.len()
+        && rows
+            .as_slice()
+            .iter()
+            .zip(want)
+            .all(|(row, numbers)| is_row(row, numbers))
 }
 
 /// Whether the query answers these rows; without any, whether it overflows.
@@ -77,9 +89,18 @@ fn answers(alloc: Global, query: Query<'_>, want: Option<Numbers<'_>>) -> Result
 #[test]
 fn groups_are_answered_by_a_falling_key(rt: HostRuntime) -> Result<(), Fail> {
     let query = Query {
-        items: &[ShapeItem::Col(0), ShapeItem::Count, ShapeItem::Sum(1), ShapeItem::Min(1), ShapeItem::Max(1)],
+        items: &[
+            ShapeItem::Col(0),
+            ShapeItem::Count,
+            ShapeItem::Sum(1),
+            ShapeItem::Min(1),
+            ShapeItem::Max(1),
+        ],
         group: Some(&[0]),
-        keys: &[ShapeKey { item: 2, desc: true }],
+        keys: &[ShapeKey {
+            item: 2,
+            desc: true,
+        }],
         ..PLAIN
     };
     let want: Numbers<'_> = &[&[1, 2, 7, -3, 10], &[2, 1, 5, 5, 5], &[3, 1, 5, 5, 5]];
@@ -102,13 +123,13 @@ fn distinct_rows_are_answered_once(rt: HostRuntime) -> Result<(), Fail> {
     Ok(())
 }
 
-// Without GROUP BY there is one group, also over no rows; the least of no rows is none.
+// The least of no rows is none.
 #[test]
-fn no_rows_are_one_group_or_none(rt: HostRuntime) -> Result<(), Fail> {
+fn no_rows_are_one_group(rt: HostRuntime) -> Result<(), Fail> {
     let totals = Query {
         items: &[ShapeItem::Count, ShapeItem::Sum(0)],
         group: Some(&[]),
-        joined: &[],
+        joined: NO_ROWS,
         ..PLAIN
     };
     assert!(rt; answers(rt.alloc(), totals, Some(&[&[0, 0]]))?);
@@ -116,12 +137,19 @@ fn no_rows_are_one_group_or_none(rt: HostRuntime) -> Result<(), Fail> {
         items: &[ShapeItem::Count, ShapeItem::Min(0)],
         ..totals
     };
-    assert!(rt; answers(rt.alloc(), least, Some(&[]))?);
-    let grouped = Query {
+    assert!(rt; answers(rt.alloc(), least, Some(NO_ROWS))?);
+    Ok(())
+}
+
+#[test]
+fn no_rows_have_no_values_to_group_by(rt: HostRuntime) -> Result<(), Fail> {
+    let query = Query {
+        items: &[ShapeItem::Count],
         group: Some(&[0]),
-        ..totals
+        joined: NO_ROWS,
+        ..PLAIN
     };
-    assert!(rt; answers(rt.alloc(), grouped, Some(&[]))?);
+    assert!(rt; answers(rt.alloc(), query, Some(NO_ROWS))?);
     Ok(())
 }
 

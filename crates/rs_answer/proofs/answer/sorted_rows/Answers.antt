@@ -10,8 +10,9 @@ use Rattle.rs_answer.proofs.answer.sorted_rows.Goals as goal
 pub returns : goal.returns
 returns c =
     let shape = c.args.shape.now in
-    let rows = c.in_ok-rows.rows.items in
-    (c.in_ok-rows.ensures.0,
-    c.in_ok-rows_in_order.ensures
-    ∙ ap (λ (keys : List ShapeKey). sorted_by (answer_cmp keys) (if shape.distinct then once same_row rows else rows)) c.as_slice.ensures
-    ∙ same_answer shape c.args.joined rows c.in_ok-rows.ensures.1)
+    let rows = c.in_ok-rows.rows.items in (
+      c.in_ok-rows.ensures.0,
+      c.in_ok-rows_in_order.ensures
+          ∙ ap (λ (keys : List ShapeKey). sorted_by (answer_cmp keys) (if shape.distinct then once same_row rows else rows)) c.as_slice.ensures
+          ∙ same_answer shape c.args.joined rows c.in_ok-rows.ensures.1,
+    )

@@ -15,9 +15,10 @@ use Rattle.rs_answer.proofs.groups.each_run.Goals as goal
 pub loop-rest-init : goal.loop-rest-init
 loop-rest-init c =
     let places = c.args.places.now in
-    let groups = grouped_by places c.args.rows.now in
-    (subst (λ (given : List (List Value)). Progress c.args.items.now given groups groups) (sym c.new-given.ensures.items) (progress_none c.args.items.now groups),
-    rising_from_sorted (on_total (group_values places) group_total) c.args.rows.now c.requires)
+    let groups = grouped_by places c.args.rows.now in (
+      subst (λ (given : List (List Value)). Progress c.args.items.now given groups groups) (sym c.new-given.ensures.items) (progress_none c.args.items.now groups),
+      rising_from_sorted (on_total (group_values places) group_total) c.args.rows.now c.requires,
+    )
 
 pub split_at-requires : goal.split_at-requires
 split_at-requires c =
@@ -51,9 +52,10 @@ loop-rest-preserved c =
     let cut = run_cut places c.first-item.result rest c.run_length.result some c.first-item.is front c.loop-rest.invariant.1 in
     let left : grouped_by places rest ≡ c.split_at.result.0.now ∷ grouped_by places c.split_at.result.1.now = rw (c.split_at.ensures.front, c.split_at.ensures.back) cut in
     let groups = grouped_by places c.args.rows.now in
-    let so_far = subst (λ (left : List (List (List Value))). Progress items c.loop-rest.given.items left groups) left c.loop-rest.invariant.0 in
-    (progress_more items c.loop-rest.given.items c.split_at.result.0.now (grouped_by places c.split_at.result.1.now) groups so_far c.push_group.new.rows.items c.in_ok-push_group.ensures.0 c.in_ok-push_group.ensures.1,
-    rw c.split_at.ensures.back (rising_drop (by_group places) c.run_length.result rest c.loop-rest.invariant.1))
+    let so_far = subst (λ (left : List (List (List Value))). Progress items c.loop-rest.given.items left groups) left c.loop-rest.invariant.0 in (
+      progress_more items c.loop-rest.given.items c.split_at.result.0.now (grouped_by places c.split_at.result.1.now) groups so_far c.push_group.new.rows.items c.in_ok-push_group.ensures.0 c.in_ok-push_group.ensures.1,
+      rw c.split_at.ensures.back (rising_drop (by_group places) c.run_length.result rest c.loop-rest.invariant.1),
+    )
 
 pub loop-rest-smaller : goal.loop-rest-smaller
 loop-rest-smaller c =

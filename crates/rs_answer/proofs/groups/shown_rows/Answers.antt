@@ -8,7 +8,7 @@ use Rattle.rs_answer.proofs.groups.shown_rows.Goals as goal
 pub returns-then-is_empty : goal.returns-then-is_empty
 returns-then-is_empty c =
     let shape = c.args.shape.now in
-    let none : shape.group ≡ [] = c.if-is_empty.ensures.0 (search rules) in
+    let none : shape.group ≡ [] = search rules in
     shown_from _ shape c.args.joined c.as_slice-items.result.now (c.as_slice-then-is_empty.result.now ∷ []) c.all_together.result c.as_slice-items.ensures
     (one_group shape c.args.joined c.as_slice-then-is_empty.result.now c.if-not-shape.false none c.as_slice-then-is_empty.ensures) c.all_together.ensures
 

@@ -13,9 +13,9 @@ returns c =
     let keys = c.args.keys.now in
     let once = dedup_sorted (answer_total keys) (answer_exact keys) same_row (ties_decide row_total row_exact) c.args.rows.items in
     elim c.if-distinct.branch [
-      then-distinct w ↦
-      (simp w.from_vec-is at c.from_vec.ensures) ∙ w.without_repeats.ensures ∙ ap (dedup same_row) c.in_ok-rows.ensures ∙ once
-      ∙ ap (sorted_by (answer_cmp keys)) (sym (cond-true _ _ _ w.if-distinct.true))
+      | then-distinct w ↦
+          (simp w.from_vec-is at c.from_vec.ensures) ∙ w.without_repeats.ensures ∙ ap (dedup same_row) c.in_ok-rows.ensures ∙ once
+          ∙ ap (sorted_by (answer_cmp keys)) (sym (cond-true _ _ _ w.if-distinct.true))
       | else-distinct w ↦
-      (simp w.from_vec-is at c.from_vec.ensures) ∙ c.in_ok-rows.ensures ∙ ap (sorted_by (answer_cmp keys)) (sym (cond-false _ _ _ w.if-distinct.false))
+          (simp w.from_vec-is at c.from_vec.ensures) ∙ c.in_ok-rows.ensures ∙ ap (sorted_by (answer_cmp keys)) (sym (cond-false _ _ _ w.if-distinct.false))
     ]
