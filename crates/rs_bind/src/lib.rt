@@ -27,6 +27,7 @@ mod tests;
 pub use changes::{bind_delete, bind_insert, bind_update};
 pub use heading::{Heading, Headings};
 pub use laws::bound_is_over;
+pub use numbers::as_position;
 pub use queries::bind_select;
 pub use scope::{Param, Params, Scope, ScopeColumn};
 pub use statements::bind;

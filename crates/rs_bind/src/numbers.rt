@@ -11,7 +11,7 @@ pub(crate) fn as_place(place: usize) -> u16
 }
 
 /// A position in 8 bits. One that is larger becomes the largest.
-pub(crate) fn as_position(position: usize) -> u8
+pub fn as_position(position: usize) -> u8
     ensures { result ≡ spec.as_position position }
 {
     u8::try_from(position).unwrap_or(u8::MAX)

@@ -9,6 +9,5 @@ mod LawTests
 mod LawTouches
 pub mod Lawful
 pub mod Orders
-mod Positions
 mod UpdatedRows
 mod Written

@@ -2,7 +2,6 @@
 
 ghost use Rattle.std.specs.Prelude.{◌≡◌, ◌++◌, [], ◌∷◌, position, bytes_eq, IfOk};
 ghost use Rattle.rs_bind.specs.Denials.{first_denial};
-ghost use Rattle.rs_bind.specs.Scope.{as_position};
 ghost use Rattle.rs_mean.specs.Database.{table_named};
 ghost use Rattle.rs_mean.specs.TableStatements as spec;
 
@@ -11,6 +10,7 @@ use crate::columns::has_name;
 use crate::database::Database;
 use rs_ast::{ColDef, IndexOf, IndexOfs};
 use rs_base::{Answer, Denial, Ident, NoMemory, Swn, Txn, with_room};
+use rs_bind::as_position;
 use std::alloc::Global;
 
 fn position_of(columns: &[ColDef], name: Ident) -> Option<usize>
@@ -19,14 +19,7 @@ fn position_of(columns: &[ColDef], name: Ident) -> Option<usize>
     columns.iter().position(|column| column.name == name)
 }
 
-fn as_position(position: usize) -> u8
-    ensures { result ≡ as_position position }
-{
-    u8::try_from(position).unwrap_or(u8::MAX)
-}
-
 /// The place of the column of that name, in 8 bits; where there is none, it is behind the last.
-#[tactic(auto, using(crate::proofs::Positions::position_or_end))]
 fn column_place(columns: &[ColDef], name: Ident) -> u8
     ensures { result ≡ spec.column_place columns.now name }
 {
