@@ -12,6 +12,7 @@ mod indexes;
 mod laws;
 mod limits;
 mod naming;
+mod plain;
 mod row_changes;
 mod row_statements;
 mod stored_rows;
@@ -30,6 +31,9 @@ pub use laws::{
     sites_stay, synonyms_stay, table_is_dropped, table_is_made, tables_stay_within,
 };
 pub use limits::{MAX_ROW_BYTES, MAX_ROWS, MAX_TABLE_BYTES};
+pub use plain::{PlainTable, PlainTables, answer_plain};
+pub use rs_answer::answer_rows;
+pub use rs_eval::{fill, holds, set_row};
 pub use stored_rows::StoredRows;
 pub use synonym::Synonym;
 pub use table::Table;

@@ -1,0 +1,332 @@
+//! The plain evaluator: what a statement on rows answers over given tables.
+
+ghost use Rattle.std.specs.Prelude.{◌≡◌, [], ◌∷◌, map, find, IfOk};
+ghost use Rattle.std.specs.Option.{option_copied};
+ghost use Rattle.std.specs.Ordering.{is_eq};
+ghost use Rattle.rs_base.specs.Name.{name_cmp, resolve};
+ghost use Rattle.rs_bind.specs.Denials.{first_denial};
+ghost use Rattle.rs_bind.specs.Entries.{defined};
+ghost use Rattle.rs_mean.specs.Plain as spec;
+ghost use Rattle.rs_mean.specs.RowStatements.{answering, effect_of_bound, inserting, once_bound, updating};
+
+use crate::bound_effect::{only, selected};
+use crate::row_changes::{inserted, met, updated};
+use crate::stored_rows::StoredRows;
+use rs_ast::{Clause, ColDef, ColDefs, Column, Columns, Dml, Select, Set, TableRef, TermRow};
+use rs_base::{Answer, Denial, Ident, NoMemory, Row, Rows, SiteNo, Swn, with_room};
+use rs_bind::{Heading, Headings, bind_delete, bind_insert, bind_select, bind_update};
+use rs_plan::{Bound, Swns};
+use sqlite_items::Items;
+use std::alloc::Global;
+
+/// A table: its name, its columns, and its rows in order of insertion.
+#[derive(Debug, Drop)]
+pub struct PlainTable {
+    pub name: Swn,
+    pub columns: Columns,
+    pub rows: Rows,
+}
+
+pub type PlainTables = Items<PlainTable>;
+
+/// An answer, or why there is none.
+type Told = Result<Answer, Denial>;
+
+fn has_name(name: &Swn, table: &PlainTable) -> bool
+    ensures { result ≡ is_eq (name_cmp name.now table.now.name) }
+{
+    name.cmp(&table.name).is_eq()
+}
+
+fn table_named<'a>(tables: &'a [PlainTable], name: &Swn) -> Option<&'a PlainTable>
+    ensures { option_copied result ≡ spec.plain_named tables.now name.now }
+{
+    tables.iter().find(|table| has_name(name, table))
+}
+
+fn defined(column: &Column) -> ColDef
+    ensures { result ≡ defined column.now }
+{
+    ColDef {
+        name: column.name,
+        kind: column.kind,
+    }
+}
+
+fn all_defined(alloc: Global, columns: &[Column]) -> Result<ColDefs, NoMemory>
+    ensures { IfOk result (λ defs. defs ≡ map defined columns.now) }
+{
+    let mut defs = with_room(alloc, columns.len())?;
+    for column in columns {
+        defs.push(defined(column))?;
+    }
+    Ok(defs)
+}
+
+fn columns_of(alloc: Global, table: Option<&PlainTable>) -> Result<ColDefs, NoMemory>
+    ensures { IfOk result (λ defs. defs ≡ spec.columns_of (option_copied table.entry)) }
+{
+    match table {
+        Some(table) => all_defined(alloc, table.columns.as_slice()),
+        None => Ok(ColDefs::new(alloc)),
+    }
+}
+
+fn heading(alloc: Global, tables: &[PlainTable], name: &Swn) -> Result<Heading, NoMemory>
+    ensures { IfOk result (λ heading. heading ≡ spec.plain_heading tables.now name.now) }
+{
+    let columns = columns_of(alloc, table_named(tables, name))?;
+    Ok(Heading {
+        name: *name,
+        columns,
+    })
+}
+
+fn headings(alloc: Global, tables: &[PlainTable], names: &[Swn]) -> Result<Headings, NoMemory>
+    ensures { IfOk result (λ headings. headings ≡ map (spec.plain_heading tables.now) names.now) }
+{
+    let mut headings = with_room(alloc, names.len())?;
+    for name in names {
+        headings.push(heading(alloc, tables, name)?)?;
+    }
+    Ok(headings)
+}
+
+fn rows<'a>(tables: &'a [PlainTable], name: &Swn) -> &'a [Row]
+    ensures { result.now ≡ spec.plain_rows tables.now name.now }
+{
+    match table_named(tables, name) {
+        Some(table) => table.rows.as_slice(),
+        None => &[],
+    }
+}
+
+fn all_rows<'a>(
+    alloc: Global,
+    tables: &'a [PlainTable],
+    names: &[Swn],
+) -> Result<Vec<&'a [Row]>, NoMemory>
+    ensures { IfOk result (λ found. map (λ rows. rows.now) found.items ≡ map (spec.plain_rows tables.now) names.now) }
+{
+    let mut found = Vec::with_capacity(alloc, names.len())?;
+    for name in names {
+        found.push(rows(tables, name))?;
+    }
+    Ok(found)
+}
+
+fn denial(tables: &[PlainTable], name: &Swn) -> Option<Denial>
+    ensures { result ≡ first_denial (spec.plain_test tables.now name.now ∷ []) }
+{
+    if table_named(tables, name).is_none() {
+        Some(Denial::NoTable)
+    } else {
+        None
+    }
+}
+
+fn first_missing(tables: &[PlainTable], names: &[Swn]) -> Option<Denial>
+    ensures { result ≡ first_denial (map (spec.plain_test tables.now) names.now) }
+{
+    for name in names {
+        if let Some(cause) = denial(tables, name) {
+            return Some(cause);
+        }
+    }
+    None
+}
+
+fn names_of(
+    alloc: Global,
+    tables: &[TableRef],
+    user: Ident,
+    site: SiteNo,
+) -> Result<Swns, NoMemory>
+    ensures { IfOk result (λ names. names ≡ map (λ table. resolve table.name user site) tables.now) }
+{
+    let mut names = with_room(alloc, tables.len())?;
+    for table in tables {
+        names.push(table.name.resolve(user, site))?;
+    }
+    Ok(names)
+}
+
+fn told_rows(rows: Result<Rows, Denial>) -> Told
+    ensures { spec.outcome_of result ≡ (answering rows).outcome }
+{
+    match rows {
+        Ok(rows) => Ok(Answer::Rows(rows)),
+        Err(cause) => Err(cause),
+    }
+}
+
+fn told_count(rows: Result<StoredRows, Denial>, count: usize) -> Told
+    ensures { (name : Swn) → spec.outcome_of result ≡ (updating name count rows).outcome }
+{
+    match rows {
+        Ok(_) => Ok(Answer::Changed(count as u64)),
+        Err(cause) => Err(cause),
+    }
+}
+
+fn told_length(rows: Result<StoredRows, Denial>) -> Told
+    ensures { (name : Swn) → spec.outcome_of result ≡ (inserting name rows).outcome }
+{
+    match rows {
+        Ok(rows) => Ok(Answer::Changed(rows.len() as u64)),
+        Err(cause) => Err(cause),
+    }
+}
+
+/// What a bound statement answers over the rows of its tables in order.
+fn answer_over(alloc: Global, bound: &Bound, tables: &[&[Row]]) -> Result<Told, NoMemory>
+    ensures { IfOk result (λ told. spec.outcome_of told ≡ (effect_of_bound (map (λ rows. rows.now) tables.now) bound.now).outcome) }
+{
+    match bound {
+        Bound::Select { clauses, shape, .. } => Ok(told_rows(selected(
+            alloc,
+            clauses.as_slice(),
+            shape,
+            tables,
+        )?)),
+        Bound::Insert { rows: given, .. } => {
+            let rows = StoredRows::copied(alloc, only(tables))?;
+            Ok(told_length(inserted(alloc, given.as_slice(), &rows)?))
+        }
+        Bound::Update { sets, clauses, .. } => {
+            let rows = only(tables);
+            let count = met(clauses.as_slice(), rows);
+            let new = updated(alloc, sets.as_slice(), clauses.as_slice(), rows)?;
+            Ok(told_count(new, count))
+        }
+        Bound::Delete { clauses, .. } => {
+            let count = met(clauses.as_slice(), only(tables));
+            Ok(Ok(Answer::Changed(count as u64)))
+        }
+    }
+}
+
+fn answer_once_bound(
+    alloc: Global,
+    outcome: Result<Bound, Denial>,
+    tables: &[&[Row]],
+) -> Result<Told, NoMemory>
+    ensures { IfOk result (λ told. spec.outcome_of told ≡ (once_bound (map (λ rows. rows.now) tables.now) outcome).outcome) }
+{
+    match outcome {
+        Ok(bound) => answer_over(alloc, &bound, tables),
+        Err(cause) => Ok(Err(cause)),
+    }
+}
+
+fn select(
+    alloc: Global,
+    tables: &[PlainTable],
+    names: &[Swn],
+    query: &Select,
+) -> Result<Told, NoMemory>
+    ensures { IfOk result (λ told. spec.outcome_of told ≡ (spec.plain_select tables.now names.now query.now).outcome) }
+{
+    if let Some(cause) = first_missing(tables, names) {
+        return Ok(Err(cause));
+    }
+    let headings = headings(alloc, tables, names)?;
+    let found = all_rows(alloc, tables, names)?;
+    let outcome = bind_select(alloc, query, headings.as_slice(), &[])?;
+    answer_once_bound(alloc, outcome, found.as_slice())
+}
+
+fn query(
+    alloc: Global,
+    tables: &[PlainTable],
+    user: Ident,
+    site: SiteNo,
+    query: &Select,
+) -> Result<Told, NoMemory>
+    ensures { IfOk result (λ told. spec.outcome_of told ≡ (spec.plain_query tables.now user site query.now).outcome) }
+{
+    let names = names_of(alloc, query.from.as_slice(), user, site)?;
+    select(alloc, tables, names.as_slice(), query)
+}
+
+fn insert(
+    alloc: Global,
+    tables: &[PlainTable],
+    name: &Swn,
+    given: &[TermRow],
+) -> Result<Told, NoMemory>
+    ensures { IfOk result (λ told. spec.outcome_of told ≡ (spec.plain_insert tables.now name.now given.now).outcome) }
+{
+    if let Some(cause) = denial(tables, name) {
+        return Ok(Err(cause));
+    }
+    let heading = heading(alloc, tables, name)?;
+    let outcome = bind_insert(alloc, given, &heading, &[])?;
+    answer_once_bound(alloc, outcome, &[rows(tables, name)])
+}
+
+fn update(
+    alloc: Global,
+    tables: &[PlainTable],
+    name: &Swn,
+    sets: &[Set],
+    clauses: &[Clause],
+) -> Result<Told, NoMemory>
+    ensures { IfOk result (λ told. spec.outcome_of told ≡ (spec.plain_update tables.now name.now sets.now clauses.now).outcome) }
+{
+    if let Some(cause) = denial(tables, name) {
+        return Ok(Err(cause));
+    }
+    let heading = heading(alloc, tables, name)?;
+    let outcome = bind_update(alloc, sets, clauses, &heading, &[])?;
+    answer_once_bound(alloc, outcome, &[rows(tables, name)])
+}
+
+fn delete(
+    alloc: Global,
+    tables: &[PlainTable],
+    name: &Swn,
+    clauses: &[Clause],
+) -> Result<Told, NoMemory>
+    ensures { IfOk result (λ told. spec.outcome_of told ≡ (spec.plain_delete tables.now name.now clauses.now).outcome) }
+{
+    if let Some(cause) = denial(tables, name) {
+        return Ok(Err(cause));
+    }
+    let heading = heading(alloc, tables, name)?;
+    let outcome = bind_delete(alloc, clauses, &heading, &[])?;
+    answer_once_bound(alloc, outcome, &[rows(tables, name)])
+}
+
+/// The slow evaluator, over whole tables: what `user` who asks at `site` is answered, or the first denial but `NoSite`.
+/// Names have no synonyms, and no table is changed. Fails where memory is wanting.
+pub fn answer_plain(
+    alloc: Global,
+    tables: &[PlainTable],
+    dml: &Dml,
+    user: Ident,
+    site: SiteNo,
+) -> Result<Result<Answer, Denial>, NoMemory>
+    ensures { IfOk result (λ told. spec.outcome_of told ≡ (spec.plain_effect tables.now user site dml.now).outcome) }
+{
+    match dml {
+        Dml::Select(given) => query(alloc, tables, user, site, given),
+        Dml::Insert { name, rows: given } => {
+            insert(alloc, tables, &name.resolve(user, site), given.as_slice())
+        }
+        Dml::Update {
+            name,
+            sets,
+            clauses,
+        } => update(
+            alloc,
+            tables,
+            &name.resolve(user, site),
+            sets.as_slice(),
+            clauses.as_slice(),
+        ),
+        Dml::Delete { name, clauses } => {
+            delete(alloc, tables, &name.resolve(user, site), clauses.as_slice())
+        }
+    }
+}
