@@ -4,7 +4,7 @@ use super::*;
 use rs_ast::{
     Arith, BoundRow, BoundSet, BoundSide, BoundTerm, Clause, Cmp, ColDef, ColRef, Column, Dml,
     Entry, Expr, Item, Key, KeyBy, Op, Operand, Select, Set, Shape, ShapeItem, ShapeKey, TableRef,
-    Term,
+    TableRefs, Term,
 };
 use rs_base::{Denial, Ident, Kind, NameText, NoMemory, SiteNo, Swn, Txn, Value, one_item};
 use rs_plan::Bound;
@@ -76,30 +76,21 @@ fn is_p(alloc: Global, left: ColRef, p: Ident) -> Result<Items<Clause>, NoMemory
     one_item(alloc, Clause { any })
 }
 
-fn table(object: Ident, alias: Option<Ident>) -> TableRef {
-    TableRef {
-        name: NameText::plain(object),
-        alias,
-    }
-}
-
-/// FROM synonym, u b
-fn tables(alloc: Global) -> Result<Items<TableRef>, Fail> {
+fn tables(alloc: Global, table: TableRef) -> Result<TableRefs, NoMemory> {
     let mut from = Items::new(alloc);
-    from.push(table(ident(b"synonym")?, None))?;
-    from.push(table(ident(b"u")?, Some(ident(b"b")?)))?;
+    from.push(table)?;
     Ok(from)
 }
 
-/// SELECT b.s, MAX(t.n)
+/// SELECT s, MAX(t.n)
 fn items(alloc: Global) -> Result<Items<Item>, Fail> {
     let mut items = Items::new(alloc);
-    items.push(Item::Col(of_table(b"b", b"s")?))?;
+    items.push(Item::Col(alone(b"s")?))?;
     items.push(Item::Max(of_table(b"t", b"n")?))?;
     Ok(items)
 }
 
-/// ORDER BY 2 DESC, b.s
+/// ORDER BY 2 DESC, s
 fn order(alloc: Global) -> Result<Items<Key>, Fail> {
     let mut order = Items::new(alloc);
     order.push(Key {
@@ -107,30 +98,34 @@ fn order(alloc: Global) -> Result<Items<Key>, Fail> {
         desc: true,
     })?;
     order.push(Key {
-        by: KeyBy::Col(of_table(b"b", b"s")?),
+        by: KeyBy::Col(alone(b"s")?),
         desc: false,
     })?;
     Ok(order)
 }
 
-/// SELECT b.s, MAX(t.n) FROM synonym, u b WHERE t.n = :p GROUP BY b.s ORDER BY 2 DESC, b.s
+/// SELECT s, MAX(t.n) FROM synonym WHERE n = :p GROUP BY s ORDER BY 2 DESC, s
 fn query(alloc: Global) -> Result<Select, Fail> {
-    let clauses = is_p(alloc, of_table(b"t", b"n")?, ident(b"p")?)?;
-    let group = one_item(alloc, of_table(b"b", b"s")?)?;
+    let clauses = is_p(alloc, alone(b"n")?, ident(b"p")?)?;
+    let group = one_item(alloc, alone(b"s")?)?;
+    let items = items(alloc)?;
+    let order = order(alloc)?;
+    let table = TableRef {
+        name: NameText::plain(ident(b"synonym")?),
+        alias: None,
+    };
     Ok(Select {
         distinct: false,
-        items: Some(items(alloc)?),
-        from: tables(alloc)?,
+        items: Some(items),
+        from: tables(alloc, table)?,
         clauses,
         group,
-        order: order(alloc)?,
+        order,
     })
 }
 
 fn bound_query(alloc: Global) -> Result<Result<Bound, Denial>, Fail> {
-    let mut headings = Items::new(alloc);
-    headings.push(heading(alloc, b"t")?)?;
-    headings.push(heading(alloc, b"u")?)?;
+    let headings = one_item(alloc, heading(alloc, b"t")?)?;
     let query = query(alloc)?;
     Ok(bind_select(alloc, &query, headings.as_slice(), &params()?)?)
 }
@@ -146,13 +141,13 @@ fn is_shape_of_query(shape: &Shape) -> bool {
     };
     matches!(
         shape.items.as_slice(),
-        [ShapeItem::Col(3), ShapeItem::Max(0)]
-    ) && matches!(shape.group.as_slice(), [3])
+        [ShapeItem::Col(1), ShapeItem::Max(0)]
+    ) && matches!(shape.group.as_slice(), [1])
         && matches!(shape.keys.as_slice(), [one, two] if *one == falling && *two == rising)
         && shape.grouped
 }
 
-// The first table goes by the object of its name, `t`, though the query names it by a synonym.
+// The table goes by the object of its name, `t`, though the query names it by a synonym.
 #[test]
 fn a_query_is_bound(rt: HostRuntime) -> Result<(), Fail> {
     let outcome = bound_query(rt.alloc())?;
@@ -168,9 +163,9 @@ fn a_query_is_bound(rt: HostRuntime) -> Result<(), Fail> {
     else {
         return Err("the query is denied".into());
     };
-    let (t, b) = (ident(b"t")?, ident(b"b")?);
-    assert!(rt; matches!(aliases.as_slice(), [one, two] if *one == t && *two == b));
-    assert!(rt; matches!(widths.as_slice(), [2, 2]));
+    let t = ident(b"t")?;
+    assert!(rt; matches!(aliases.as_slice(), [alias] if *alias == t));
+    assert!(rt; matches!(widths.as_slice(), [2]));
     assert_eq!(rt; clauses.len(), 1);
     assert!(rt; is_shape_of_query(shape));
     Ok(())
