@@ -2,11 +2,10 @@ ghost use Rattle.std.specs.Prelude.{◌≡◌, ◌≤◌, length, IfOk};
 
 use super::*;
 use rs_ast::{
-    Arith, BoundRow, BoundSet, BoundSide, BoundTerm, Clause, Cmp, ColDef, ColRef, Column, Dml,
-    Entry, Expr, Item, Key, KeyBy, Op, Operand, Select, Set, Shape, ShapeItem, ShapeKey, TableRef,
-    TableRefs, Term,
+    Arith, BoundRow, BoundSet, BoundTerm, Clause, Cmp, ColDef, ColRef, Column, Dml, Entry, Expr,
+    Op, Operand, Set, Term,
 };
-use rs_base::{Denial, Ident, Kind, NameText, NoMemory, SiteNo, Swn, Txn, Value, one_item};
+use rs_base::{Ident, Kind, NameText, NoMemory, SiteNo, Swn, Txn, Value, one_item};
 use rs_plan::Bound;
 use sqlite_items::Items;
 use std::alloc::Global;
@@ -23,13 +22,6 @@ fn named(object: &[u8]) -> Result<Swn, Fail> {
 fn alone(column: &[u8]) -> Result<ColRef, Fail> {
     Ok(ColRef {
         table: None,
-        column: ident(column)?,
-    })
-}
-
-fn of_table(table: &[u8], column: &[u8]) -> Result<ColRef, Fail> {
-    Ok(ColRef {
-        table: Some(ident(table)?),
         column: ident(column)?,
     })
 }
@@ -74,101 +66,6 @@ fn is_p(alloc: Global, left: ColRef, p: Ident) -> Result<Items<Clause>, NoMemory
     };
     let any = one_item(alloc, cmp)?;
     one_item(alloc, Clause { any })
-}
-
-fn tables(alloc: Global, table: TableRef) -> Result<TableRefs, NoMemory> {
-    let mut from = Items::new(alloc);
-    from.push(table)?;
-    Ok(from)
-}
-
-/// SELECT s, MAX(t.n)
-fn items(alloc: Global) -> Result<Items<Item>, Fail> {
-    let mut items = Items::new(alloc);
-    items.push(Item::Col(alone(b"s")?))?;
-    items.push(Item::Max(of_table(b"t", b"n")?))?;
-    Ok(items)
-}
-
-/// ORDER BY 2 DESC, s
-fn order(alloc: Global) -> Result<Items<Key>, Fail> {
-    let mut order = Items::new(alloc);
-    order.push(Key {
-        by: KeyBy::Place(2),
-        desc: true,
-    })?;
-    order.push(Key {
-        by: KeyBy::Col(alone(b"s")?),
-        desc: false,
-    })?;
-    Ok(order)
-}
-
-/// SELECT s, MAX(t.n) FROM synonym WHERE n = :p GROUP BY s ORDER BY 2 DESC, s
-fn query(alloc: Global) -> Result<Select, Fail> {
-    let clauses = is_p(alloc, alone(b"n")?, ident(b"p")?)?;
-    let group = one_item(alloc, alone(b"s")?)?;
-    let items = items(alloc)?;
-    let order = order(alloc)?;
-    let table = TableRef {
-        name: NameText::plain(ident(b"synonym")?),
-        alias: None,
-    };
-    Ok(Select {
-        distinct: false,
-        items: Some(items),
-        from: tables(alloc, table)?,
-        clauses,
-        group,
-        order,
-    })
-}
-
-fn bound_query(alloc: Global) -> Result<Result<Bound, Denial>, Fail> {
-    let headings = one_item(alloc, heading(alloc, b"t")?)?;
-    let query = query(alloc)?;
-    Ok(bind_select(alloc, &query, headings.as_slice(), &params()?)?)
-}
-
-fn is_shape_of_query(shape: &Shape) -> bool {
-    let falling = ShapeKey {
-        item: 1,
-        desc: true,
-    };
-    let rising = ShapeKey {
-        item: 0,
-        desc: false,
-    };
-    matches!(
-        shape.items.as_slice(),
-        [ShapeItem::Col(1), ShapeItem::Max(0)]
-    ) && matches!(shape.group.as_slice(), [1])
-        && matches!(shape.keys.as_slice(), [one, two] if *one == falling && *two == rising)
-        && shape.grouped
-}
-
-// The table goes by the object of its name, `t`, though the query names it by a synonym.
-#[test]
-fn a_query_is_bound(rt: HostRuntime) -> Result<(), Fail> {
-    let outcome = bound_query(rt.alloc())?;
-    let Ok(
-        Bound::Select {
-            aliases,
-            widths,
-            clauses,
-            shape,
-            ..
-        },
-    ) = &outcome
-    else {
-        return Err("the query is denied".into());
-    };
-    let t = ident(b"t")?;
-    assert!(rt; matches!(aliases.as_slice(), [alias] if *alias == t));
-    assert!(rt; matches!(widths.as_slice(), [2]));
-    assert_eq!(rt; clauses.len(), 1);
-    assert!(rt; is_shape_of_query(shape));
-    Ok(())
 }
 
 /// A number, and `:p`.
