@@ -3,7 +3,8 @@ ghost use Rattle.std.specs.Prelude.{◌≡◌, ◌≤◌, length, IfOk};
 use super::*;
 use rs_ast::{
     Arith, BoundRow, BoundSet, BoundTerm, Clause, Cmp, ColDef, ColRef, Column, Dml, Entry, Expr,
-    Op, Operand, Set, Term,
+    Item, Key, KeyBy, Op, Operand, Select, Set, Shape, ShapeItem, ShapeKey, TableRef, TableRefs,
+    Term,
 };
 use rs_base::{Ident, Kind, NameText, NoMemory, SiteNo, Swn, Txn, Value, one_item};
 use rs_plan::Bound;
@@ -66,6 +67,90 @@ fn is_p(alloc: Global, left: ColRef, p: Ident) -> Result<Items<Clause>, NoMemory
     };
     let any = one_item(alloc, cmp)?;
     one_item(alloc, Clause { any })
+}
+
+/// FROM synonym, which was born at this site.
+fn tables(alloc: Global, site: SiteNo) -> Result<TableRefs, Fail> {
+    let name = NameText {
+        creator: None,
+        creator_site: None,
+        object: ident(b"synonym")?,
+        birth: Some(site),
+    };
+    let mut from = Items::new(alloc);
+    from.push(TableRef { name, alias: None })?;
+    Ok(from)
+}
+
+/// SELECT s, MAX(n)
+fn items(alloc: Global) -> Result<Items<Item>, Fail> {
+    let mut items = Items::new(alloc);
+    items.push(Item::Col(alone(b"s")?))?;
+    items.push(Item::Max(alone(b"n")?))?;
+    Ok(items)
+}
+
+/// ORDER BY 2 DESC, s
+fn order(alloc: Global) -> Result<Items<Key>, Fail> {
+    let mut order = Items::new(alloc);
+    order.push(Key {
+        by: KeyBy::Place(2),
+        desc: true,
+    })?;
+    order.push(Key {
+        by: KeyBy::Col(alone(b"s")?),
+        desc: false,
+    })?;
+    Ok(order)
+}
+
+/// SELECT s, MAX(n) FROM synonym WHERE n = :p GROUP BY s ORDER BY 2 DESC, s
+fn query(alloc: Global, site: SiteNo) -> Result<Select, Fail> {
+    let clauses = is_p(alloc, alone(b"n")?, ident(b"p")?)?;
+    let group = one_item(alloc, alone(b"s")?)?;
+    let items = items(alloc)?;
+    let order = order(alloc)?;
+    Ok(Select {
+        distinct: false,
+        items: Some(items),
+        from: tables(alloc, site)?,
+        clauses,
+        group,
+        order,
+    })
+}
+
+fn is_shape_of_query(shape: &Shape) -> bool {
+    let falling = ShapeKey {
+        item: 1,
+        desc: true,
+    };
+    let rising = ShapeKey {
+        item: 0,
+        desc: false,
+    };
+    matches!(
+        shape.items.as_slice(),
+        [ShapeItem::Col(1), ShapeItem::Max(0)]
+    ) && matches!(shape.group.as_slice(), [1])
+        && matches!(shape.keys.as_slice(), [one, two] if *one == falling && *two == rising)
+        && shape.grouped
+}
+
+// The table goes by the object of its name, `t`, though the query names it by a synonym.
+#[test]
+fn a_query_is_bound(rt: HostRuntime) -> Result<(), Fail> {
+    let alloc = rt.alloc();
+    let t = ident(b"t")?;
+    let headings = one_item(alloc, heading(alloc, b"t")?)?;
+    let query = query(alloc, SiteNo::first())?;
+    let outcome = bind_select(alloc, &query, headings.as_slice(), &params()?)?;
+    let Ok(Bound::Select { aliases, shape, .. }) = &outcome else {
+        return Err("the query is denied".into());
+    };
+    assert!(rt; matches!(aliases.as_slice(), [alias] if *alias == t));
+    assert!(rt; is_shape_of_query(shape));
+    Ok(())
 }
 
 /// A number, and `:p`.
