@@ -2,11 +2,11 @@ ghost use Rattle.std.specs.Prelude.{◌≡◌, ◌≤◌, length, IfOk};
 
 use super::*;
 use rs_ast::{
-    Arith, BoundRow, BoundSet, BoundSide, BoundTerm, Clause, Cmp, ColDef, ColRef, Column, Dml,
-    Entry, Expr, Item, Key, KeyBy, Op, Operand, Select, Set, Shape, ShapeItem, ShapeKey, TableRef,
+    Arith, BoundRow, BoundSet, BoundTerm, Clause, Cmp, ColDef, ColRef, Column, Dml, Entry, Expr,
+    Item, Key, KeyBy, Op, Operand, Select, Set, Shape, ShapeItem, ShapeKey, TableRef, TableRefs,
     Term,
 };
-use rs_base::{Denial, Ident, Kind, NameText, NoMemory, SiteNo, Swn, Txn, Value, one_item};
+use rs_base::{Ident, Kind, NameText, NoMemory, SiteNo, Swn, Txn, Value, one_item};
 use rs_plan::Bound;
 use sqlite_items::Items;
 use std::alloc::Global;
@@ -23,13 +23,6 @@ fn named(object: &[u8]) -> Result<Swn, Fail> {
 fn alone(column: &[u8]) -> Result<ColRef, Fail> {
     Ok(ColRef {
         table: None,
-        column: ident(column)?,
-    })
-}
-
-fn of_table(table: &[u8], column: &[u8]) -> Result<ColRef, Fail> {
-    Ok(ColRef {
-        table: Some(ident(table)?),
         column: ident(column)?,
     })
 }
@@ -76,30 +69,28 @@ fn is_p(alloc: Global, left: ColRef, p: Ident) -> Result<Items<Clause>, NoMemory
     one_item(alloc, Clause { any })
 }
 
-fn table(object: Ident, alias: Option<Ident>) -> TableRef {
-    TableRef {
-        name: NameText::plain(object),
-        alias,
-    }
-}
-
-/// FROM synonym, u b
-fn tables(alloc: Global) -> Result<Items<TableRef>, Fail> {
+/// FROM synonym, which was born at this site.
+fn tables(alloc: Global, site: SiteNo) -> Result<TableRefs, Fail> {
+    let name = NameText {
+        creator: None,
+        creator_site: None,
+        object: ident(b"synonym")?,
+        birth: Some(site),
+    };
     let mut from = Items::new(alloc);
-    from.push(table(ident(b"synonym")?, None))?;
-    from.push(table(ident(b"u")?, Some(ident(b"b")?)))?;
+    from.push(TableRef { name, alias: None })?;
     Ok(from)
 }
 
-/// SELECT b.s, MAX(t.n)
+/// SELECT s, MAX(n)
 fn items(alloc: Global) -> Result<Items<Item>, Fail> {
     let mut items = Items::new(alloc);
-    items.push(Item::Col(of_table(b"b", b"s")?))?;
-    items.push(Item::Max(of_table(b"t", b"n")?))?;
+    items.push(Item::Col(alone(b"s")?))?;
+    items.push(Item::Max(alone(b"n")?))?;
     Ok(items)
 }
 
-/// ORDER BY 2 DESC, b.s
+/// ORDER BY 2 DESC, s
 fn order(alloc: Global) -> Result<Items<Key>, Fail> {
     let mut order = Items::new(alloc);
     order.push(Key {
@@ -107,32 +98,26 @@ fn order(alloc: Global) -> Result<Items<Key>, Fail> {
         desc: true,
     })?;
     order.push(Key {
-        by: KeyBy::Col(of_table(b"b", b"s")?),
+        by: KeyBy::Col(alone(b"s")?),
         desc: false,
     })?;
     Ok(order)
 }
 
-/// SELECT b.s, MAX(t.n) FROM synonym, u b WHERE t.n = :p GROUP BY b.s ORDER BY 2 DESC, b.s
-fn query(alloc: Global) -> Result<Select, Fail> {
-    let clauses = is_p(alloc, of_table(b"t", b"n")?, ident(b"p")?)?;
-    let group = one_item(alloc, of_table(b"b", b"s")?)?;
+/// SELECT s, MAX(n) FROM synonym WHERE n = :p GROUP BY s ORDER BY 2 DESC, s
+fn query(alloc: Global, site: SiteNo) -> Result<Select, Fail> {
+    let clauses = is_p(alloc, alone(b"n")?, ident(b"p")?)?;
+    let group = one_item(alloc, alone(b"s")?)?;
+    let items = items(alloc)?;
+    let order = order(alloc)?;
     Ok(Select {
         distinct: false,
-        items: Some(items(alloc)?),
-        from: tables(alloc)?,
+        items: Some(items),
+        from: tables(alloc, site)?,
         clauses,
         group,
-        order: order(alloc)?,
+        order,
     })
-}
-
-fn bound_query(alloc: Global) -> Result<Result<Bound, Denial>, Fail> {
-    let mut headings = Items::new(alloc);
-    headings.push(heading(alloc, b"t")?)?;
-    headings.push(heading(alloc, b"u")?)?;
-    let query = query(alloc)?;
-    Ok(bind_select(alloc, &query, headings.as_slice(), &params()?)?)
 }
 
 fn is_shape_of_query(shape: &Shape) -> bool {
@@ -146,32 +131,24 @@ fn is_shape_of_query(shape: &Shape) -> bool {
     };
     matches!(
         shape.items.as_slice(),
-        [ShapeItem::Col(3), ShapeItem::Max(0)]
-    ) && matches!(shape.group.as_slice(), [3])
+        [ShapeItem::Col(1), ShapeItem::Max(0)]
+    ) && matches!(shape.group.as_slice(), [1])
         && matches!(shape.keys.as_slice(), [one, two] if *one == falling && *two == rising)
         && shape.grouped
 }
 
-// The first table goes by the object of its name, `t`, though the query names it by a synonym.
+// The table goes by the object of its name, `t`, though the query names it by a synonym.
 #[test]
 fn a_query_is_bound(rt: HostRuntime) -> Result<(), Fail> {
-    let outcome = bound_query(rt.alloc())?;
-    let Ok(
-        Bound::Select {
-            aliases,
-            widths,
-            clauses,
-            shape,
-            ..
-        },
-    ) = &outcome
-    else {
+    let alloc = rt.alloc();
+    let t = ident(b"t")?;
+    let headings = one_item(alloc, heading(alloc, b"t")?)?;
+    let query = query(alloc, SiteNo::first())?;
+    let outcome = bind_select(alloc, &query, headings.as_slice(), &params()?)?;
+    let Ok(Bound::Select { aliases, shape, .. }) = &outcome else {
         return Err("the query is denied".into());
     };
-    let (t, b) = (ident(b"t")?, ident(b"b")?);
-    assert!(rt; matches!(aliases.as_slice(), [one, two] if *one == t && *two == b));
-    assert!(rt; matches!(widths.as_slice(), [2, 2]));
-    assert_eq!(rt; clauses.len(), 1);
+    assert!(rt; matches!(aliases.as_slice(), [alias] if *alias == t));
     assert!(rt; is_shape_of_query(shape));
     Ok(())
 }
