@@ -1,13 +1,10 @@
 -- What statements on rows do.
 use Rattle.std.specs.Prelude.{ℕ, List, [], ◌∷◌, map, flat_map, length, Option, Some, None, Result, Ok, Err}
-use Rattle.rs_base.specs.declared.name.NameText.{NameText}
 use Rattle.rs_base.specs.declared.name.Swn.{Swn}
 use Rattle.rs_base.specs.declared.reply.Answer.TheVariants as answers
 use Rattle.rs_base.specs.declared.reply.Denial.{Denial}
 use Rattle.rs_base.specs.declared.value.Value.{Value}
 use Rattle.rs_ast.specs.declared.bound.BoundCmp.{BoundCmp}
-use Rattle.rs_ast.specs.declared.bound.BoundSet.{BoundSet}
-use Rattle.rs_ast.specs.declared.bound.BoundTerm.{BoundTerm}
 use Rattle.rs_ast.specs.declared.change.Set.{Set}
 use Rattle.rs_ast.specs.declared.change.Term.{Term}
 use Rattle.rs_ast.specs.declared.clause.Clause.{Clause}

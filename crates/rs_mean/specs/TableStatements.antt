@@ -1,8 +1,6 @@
 -- What statements on tables, indexes and synonyms do.
-use Rattle.std.specs.Prelude.{ℕ, Bool, ◌||◌, not, ◌==◌, is_some, List, [], ◌∷◌, ◌++◌, filter, bytes_eq, Option, Some, None, option_map}
+use Rattle.std.specs.Prelude.{ℕ, Bool, ◌||◌, not, ◌==◌, is_some, List, [], ◌∷◌, ◌++◌, filter, bytes_eq, Option, Some, None}
 use Rattle.std.specs.List.{list_any, position_or_len}
-use Rattle.std.specs.Option.{option_map_or}
-use Rattle.rs_base.specs.declared.name.NameText.{NameText}
 use Rattle.rs_base.specs.declared.name.Swn.{Swn}
 use Rattle.rs_base.specs.declared.txn.Txn.{Txn}
 use Rattle.rs_base.specs.declared.reply.Answer.TheVariants as answers
@@ -18,7 +16,7 @@ use Rattle.rs_mean.specs.declared.table.Table.{Table}
 use Rattle.rs_mean.specs.Columns.{has_name, names_differ}
 use Rattle.rs_mean.specs.Database.{Database, table_named, target_of}
 use Rattle.rs_mean.specs.Effects.{done, unless_denied}
-use Rattle.rs_mean.specs.Names.{name_of, own_synonym, site_test, table_tests}
+use Rattle.rs_mean.specs.Names.{own_synonym, site_test, table_tests}
 
 -- ---- CREATE TABLE, DROP TABLE
 

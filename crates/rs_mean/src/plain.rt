@@ -136,12 +136,7 @@ fn first_missing(tables: &[PlainTable], names: &[Swn]) -> Option<Denial>
     None
 }
 
-fn names_of(
-    alloc: Global,
-    tables: &[TableRef],
-    user: Ident,
-    site: SiteNo,
-) -> Result<Swns, NoMemory>
+fn names_of(alloc: Global, tables: &[TableRef], user: Ident, site: SiteNo) -> Result<Swns, NoMemory>
     ensures { IfOk result (λ names. names ≡ map (λ table. resolve table.name user site) tables.now) }
 {
     let mut names = with_room(alloc, tables.len())?;

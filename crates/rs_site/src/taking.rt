@@ -75,12 +75,7 @@ impl Site {
     }
 
     /// Makes the change as the next transaction, and remembers that the request was taken, and its reply.
-    fn commit(
-        &mut self,
-        change: Change,
-        origin: &Origin,
-        reply: Reply,
-    ) -> Result<(), NoMemory>
+    fn commit(&mut self, change: Change, origin: &Origin, reply: Reply) -> Result<(), NoMemory>
         requires { self.old.begun < spec.last_number }
         ensures ok { OnOk result (self.new ≡ record (spec.remembering self.old origin.now reply) { begun = self.old.begun + 1; database = changed change self.old.database }) }
         ensures err { OnErr result (self.new ≡ self.old) }

@@ -1,4 +1,4 @@
-use Rattle.std.proofs.Common.{◌≡◌, sym, ap, subst, OnOk, OnErr}
+use Rattle.std.proofs.Common.{◌≡◌, sym, subst, OnOk, OnErr}
 use Rattle.rs_mean.specs.Changes.{with_rows}
 use Rattle.rs_mean.specs.Database.{Database, changing}
 use Rattle.rs_mean.specs.declared.table.Table.{Table}
