@@ -4,6 +4,7 @@ mod full_rows;
 mod later_lines;
 mod limits;
 mod outside;
+mod queries;
 mod reports;
 mod sessions;
 

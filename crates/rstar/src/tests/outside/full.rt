@@ -49,6 +49,8 @@ fn tables_have_65536_rows(alloc: Global) -> Result<bool, NoMemory> {
     course.execute(alloc, b"CREATE TABLE t (a INT)", b"denied 5 TableExists")?;
     course.execute(alloc, b"CREATE TABLE u (a INT)", b"done 1\nok")?;
     course.execute(alloc, b"INSERT INTO u VALUES (1)", b"done 1\nchanged 1")?;
+    let count = b"done 1\nrows 1\n65536";
+    course.execute(alloc, b"SELECT COUNT(*) FROM t", count)?;
     let rows = filled(alloc, b"done 1\nrows 65536", b"\n1", 65536)?;
     course.execute(alloc, b"SELECT * FROM t", rows.as_slice())?;
     course.ask_again(alloc, b"SELECT * FROM u", rows.as_slice())?;
