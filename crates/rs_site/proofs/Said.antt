@@ -1,6 +1,5 @@
 -- What is told of a text that says no statement that is executed.
-use Rattle.std.proofs.Common.{◌≡◌, ℕ, ◌<◌, ◌≤◌, min, List, length, Option, Some, None, refl, sym, ap, subst, ◌∙◌, arith, inl, inr}
-use Rattle.rs_base.specs.Reading.{◌>>=◌}
+use Rattle.std.proofs.Common.{◌≡◌, ℕ, ◌≤◌, min, List, length, None, refl, subst, arith, inl, inr}
 use Rattle.rs_parse.specs.Parsing.{Parsed, Statement, FaultAt, parsed_of, IsFault, AtToken, NoToken, AtEnd}
 use Rattle.rs_parse.proofs.ParseLaws.{parsed_spelled, fault_placed}
 use Rattle.rs_parse.proofs.Splits.{start_within, end_within}

@@ -1,3 +1,5 @@
+mod plain;
+
 use super::*;
 use rs_base::{Bytes, Ident, Origin, Peer, Reply, SiteNo, print_reply};
 use rs_msg::{Ask, Message, decode, encode};

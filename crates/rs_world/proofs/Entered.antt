@@ -79,7 +79,7 @@ pub entered_first : (given : List Event) → Entered given (opened 1 1) [] []
 entered_first given = record {
   begun = refl;
   database = refl;
-  in_order = names_stay_in_order.0;
+  in_order = names_stay_in_order.0 1;
   txns = λ i entry at. absurd (nothing_at i entry at);
   entries = λ i entry at. absurd (nothing_at i entry at);
   distinct = λ i j a b lt at_a at_b. absurd (nothing_at i a at_a);
