@@ -29,7 +29,8 @@ use Rattle.rs_mean.specs.Changes.{changed, with_rows}
 use Rattle.rs_mean.specs.Columns.{has_name, names_differ}
 use Rattle.rs_mean.specs.Database.{Database, table_named, with_changed}
 use Rattle.rs_mean.specs.Laws.{EachTable, IsWithin, HasDistinctIndexes}
-use Rattle.rs_mean.specs.Limits.{max_row_bytes, max_rows, max_table_bytes, rows_size, fits_row, fits_rows}
+use Rattle.rs_rows.specs.Sizes.{rows_size}
+use Rattle.rs_mean.specs.Limits.{max_row_bytes, max_rows, max_table_bytes, fits_row, fits_rows}
 use Rattle.rs_mean.specs.RowChanges.{has_room, may_be_rows, kept}
 use Rattle.rs_mean.specs.RowStatements.{rows_of}
 use Rattle.rs_mean.specs.TableStatements.{indexes_of, has_index, is_indexed, without_index, is_other_index, new_table}

@@ -21,7 +21,8 @@ use Rattle.rs_mean.specs.declared.execution.Execution.{Execution}
 use Rattle.rs_mean.specs.declared.table.Table.{Table}
 use Rattle.rs_mean.specs.Changes.{with_rows}
 use Rattle.rs_mean.specs.Database.{Database, empty, table_named, IsInOrder}
-use Rattle.rs_mean.specs.Limits.{max_row_bytes, max_rows, max_table_bytes, rows_size}
+use Rattle.rs_rows.specs.Sizes.{rows_size}
+use Rattle.rs_mean.specs.Limits.{max_row_bytes, max_rows, max_table_bytes}
 use Rattle.rs_mean.specs.Meaning.{meaning}
 use Rattle.rs_mean.specs.Names.{name_of}
 

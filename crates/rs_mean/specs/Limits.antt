@@ -1,7 +1,8 @@
 -- How large rows and tables may be.
-use Rattle.std.specs.Prelude.{ℕ, Bool, ◌&&◌, nat_le, List, length, sum_by}
+use Rattle.std.specs.Prelude.{ℕ, Bool, ◌&&◌, nat_le, List, length}
 use Rattle.rs_base.specs.declared.value.Value.{Value}
 use Rattle.rs_base.specs.Sizes.{row_size}
+use Rattle.rs_rows.specs.Sizes.{rows_size}
 
 -- the most bytes of a row
 abbrev pub max_row_bytes : ℕ
@@ -14,10 +15,6 @@ max_rows = 65536
 -- the most bytes of a table
 abbrev pub max_table_bytes : ℕ
 max_table_bytes = 8388608
-
--- the bytes of all the rows
-abbrev pub rows_size : List (List Value) → ℕ
-rows_size rows = sum_by row_size rows
 
 -- a table may hold this row
 abbrev pub fits_row : List Value → Bool

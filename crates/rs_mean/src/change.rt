@@ -4,11 +4,11 @@ ghost use Rattle.std.specs.Prelude.{◌≡◌, IfOk};
 ghost use Rattle.rs_mean.specs.Effects as spec;
 
 use crate::execution::Outcome;
-use crate::stored_rows::StoredRows;
 use crate::synonym::Synonym;
 use crate::table::Table;
 use rs_ast::IndexOfs;
 use rs_base::{Answer, Denial, NoMemory, Swn, one_item};
+use rs_rows::StoredRows;
 use std::alloc::Global;
 
 /// A change of the database. That of a table which isn't there changes nothing.

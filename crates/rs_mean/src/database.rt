@@ -6,11 +6,11 @@ ghost use Rattle.rs_mean.specs.Changes.{changed, with_rows};
 ghost use Rattle.rs_mean.specs.Database.{changing, empty, table_named, target_of, with_synonym, with_table, without_synonym, without_table};
 
 use crate::change::Change;
-use crate::stored_rows::StoredRows;
 use crate::synonym::Synonym;
 use crate::table::Table;
 use rs_ast::IndexOfs;
 use rs_base::{NoMemory, SiteNo, Swn};
+use rs_rows::StoredRows;
 use std::alloc::Global;
 use std::collections::BTreeMap;
 use std::marker::Model;

@@ -1,10 +1,11 @@
 //! How large rows and tables may be.
 
-ghost use Rattle.std.specs.Prelude.{◌≡◌};
+ghost use Rattle.std.specs.Prelude.{◌≡◌, ◌&&◌, ◌++◌};
 ghost use Rattle.std.specs.List.{list_all};
 ghost use Rattle.rs_mean.specs.Limits as spec;
 
-use rs_base::{Row, Value, row_size};
+use rs_base::{Value, row_size};
+use rs_rows::{RowRun, StoredRows};
 
 /// The most bytes of a row.
 pub const MAX_ROW_BYTES: u64 = 1024;
@@ -22,8 +23,30 @@ fn fits_row(row: &[Value]) -> bool
 }
 
 /// Whether a table may hold each of the rows.
-pub(crate) fn all_fit_row(rows: &[Row]) -> bool
+pub(crate) fn all_fit_row(rows: &RowRun<'_>) -> bool
     ensures { result ≡ list_all spec.fits_row rows.now }
 {
-    rows.iter().all(|row| fits_row(row.as_slice()))
+    let mut rest = rows.again();
+    while let Some((row, others)) = rest.split_first() {
+        if !fits_row(row) {
+            return false;
+        }
+        rest = others;
+    }
+    true
+}
+
+/// Whether a table may hold all these rows, as far as their number and bytes go.
+pub(crate) fn fits_rows(rows: &StoredRows) -> bool
+    ensures { result ≡ spec.fits_rows rows.now }
+{
+    rows.len() <= MAX_ROWS && rows.bytes() <= MAX_TABLE_BYTES
+}
+
+/// Whether a table may hold these rows and `more`, as far as their number and bytes go.
+pub(crate) fn has_room(rows: &StoredRows, more: &StoredRows) -> bool
+    ensures { result ≡ spec.fits_rows (rows.now ++ more.now) }
+{
+    rows.len().saturating_add(more.len()) <= MAX_ROWS
+        && rows.bytes().saturating_add(more.bytes()) <= MAX_TABLE_BYTES
 }

@@ -7,15 +7,17 @@ ghost use Rattle.rs_base.specs.Name.{name_cmp, resolve};
 ghost use Rattle.rs_bind.specs.Denials.{first_denial};
 ghost use Rattle.rs_bind.specs.Entries.{defined};
 ghost use Rattle.rs_mean.specs.Plain as spec;
+ghost use Rattle.rs_mean.specs.Queries.{IsSelect};
 ghost use Rattle.rs_mean.specs.RowStatements.{answering, effect_of_bound, inserting, once_bound, updating};
 
-use crate::bound_effect::{only, selected};
+use crate::bound_effect::rows_of_query;
 use crate::row_changes::{inserted, met, updated};
-use crate::stored_rows::StoredRows;
+use crate::selecting::selected;
 use rs_ast::{Clause, ColDef, ColDefs, Column, Columns, Dml, Select, Set, TableRef, TermRow};
-use rs_base::{Answer, Denial, Ident, NoMemory, Row, Rows, SiteNo, Swn, with_room};
+use rs_base::{Answer, Denial, Ident, NoMemory, Rows, SiteNo, Swn, with_room};
 use rs_bind::{Heading, Headings, bind_delete, bind_insert, bind_select, bind_update};
 use rs_plan::{Bound, Swns};
+use rs_rows::{RowRun, StoredRows};
 use sqlite_items::Items;
 use std::alloc::Global;
 
@@ -92,27 +94,37 @@ fn headings(alloc: Global, tables: &[PlainTable], names: &[Swn]) -> Result<Headi
     Ok(headings)
 }
 
-fn rows<'a>(tables: &'a [PlainTable], name: &Swn) -> &'a [Row]
-    ensures { result.now ≡ spec.plain_rows tables.now name.now }
+fn rows(alloc: Global, tables: &[PlainTable], name: &Swn) -> Result<StoredRows, NoMemory>
+    ensures { IfOk result (λ rows. rows ≡ spec.plain_rows tables.now name.now) }
 {
     match table_named(tables, name) {
-        Some(table) => table.rows.as_slice(),
-        None => &[],
+        Some(table) => StoredRows::copied(alloc, table.rows.as_slice()),
+        None => Ok(StoredRows::new(alloc)),
     }
 }
 
-fn all_rows<'a>(
+fn all_rows(
     alloc: Global,
-    tables: &'a [PlainTable],
+    tables: &[PlainTable],
     names: &[Swn],
-) -> Result<Vec<&'a [Row]>, NoMemory>
-    ensures { IfOk result (λ found. map (λ rows. rows.now) found.items ≡ map (spec.plain_rows tables.now) names.now) }
+) -> Result<Vec<StoredRows>, NoMemory>
+    ensures { IfOk result (λ found. found.items ≡ map (spec.plain_rows tables.now) names.now) }
 {
     let mut found = Vec::with_capacity(alloc, names.len())?;
     for name in names {
-        found.push(rows(tables, name))?;
+        found.push(rows(alloc, tables, name)?)?;
     }
     Ok(found)
+}
+
+fn lent(alloc: Global, tables: &[StoredRows]) -> Result<Vec<RowRun<'_>>, NoMemory>
+    ensures { IfOk result (λ lent. lent.items ≡ tables.now) }
+{
+    let mut lent = Vec::with_capacity(alloc, tables.len())?;
+    for rows in tables {
+        lent.push(rows.as_run())?;
+    }
+    Ok(lent)
 }
 
 fn denial(tables: &[PlainTable], name: &Swn) -> Option<Denial>
@@ -173,45 +185,60 @@ fn told_length(rows: Result<StoredRows, Denial>) -> Told
     }
 }
 
-/// What a bound statement answers over the rows of its tables in order.
-fn answer_over(alloc: Global, bound: &Bound, tables: &[&[Row]]) -> Result<Told, NoMemory>
-    ensures { IfOk result (λ told. spec.outcome_of told ≡ (effect_of_bound (map (λ rows. rows.now) tables.now) bound.now).outcome) }
+/// What a bound statement answers over the rows of one table.
+fn answer_over(alloc: Global, bound: &Bound, rows: &StoredRows) -> Result<Told, NoMemory>
+    ensures { IfOk result (λ told. spec.outcome_of told ≡ (effect_of_bound (rows.now ∷ []) bound.now).outcome) }
 {
     match bound {
         Bound::Select { clauses, shape, .. } => Ok(told_rows(selected(
             alloc,
             clauses.as_slice(),
             shape,
-            tables,
+            &[rows.as_run()],
         )?)),
         Bound::Insert { rows: given, .. } => {
-            let rows = StoredRows::copied(alloc, only(tables))?;
-            Ok(told_length(inserted(alloc, given.as_slice(), &rows)?))
+            Ok(told_length(inserted(alloc, given.as_slice(), rows)?))
         }
         Bound::Update { sets, clauses, .. } => {
-            let rows = only(tables);
-            let count = met(clauses.as_slice(), rows);
-            let new = updated(alloc, sets.as_slice(), clauses.as_slice(), rows)?;
+            let count = met(clauses.as_slice(), &rows.as_run());
+            let new = updated(alloc, sets.as_slice(), clauses.as_slice(), &rows.as_run())?;
             Ok(told_count(new, count))
         }
         Bound::Delete { clauses, .. } => {
-            let count = met(clauses.as_slice(), only(tables));
+            let count = met(clauses.as_slice(), &rows.as_run());
             Ok(Ok(Answer::Changed(count as u64)))
         }
     }
 }
 
+/// What a change of this table answers, once it is bound.
 fn answer_once_bound(
     alloc: Global,
     outcome: Result<Bound, Denial>,
-    tables: &[&[Row]],
+    tables: &[PlainTable],
+    name: &Swn,
 ) -> Result<Told, NoMemory>
-    ensures { IfOk result (λ told. spec.outcome_of told ≡ (once_bound (map (λ rows. rows.now) tables.now) outcome).outcome) }
+    ensures { IfOk result (λ told. spec.outcome_of told ≡ (once_bound (spec.plain_rows tables.now name.now ∷ []) outcome).outcome) }
 {
     match outcome {
-        Ok(bound) => answer_over(alloc, &bound, tables),
+        Ok(bound) => answer_over(alloc, &bound, &rows(alloc, tables, name)?),
         Err(cause) => Ok(Err(cause)),
     }
+}
+
+/// What a bound query answers over its tables in order.
+fn answer_query(
+    alloc: Global,
+    bound: &Bound,
+    tables: &[PlainTable],
+    names: &[Swn],
+) -> Result<Told, NoMemory>
+    requires { IsSelect bound.now }
+    ensures { IfOk result (λ told. spec.outcome_of told ≡ (effect_of_bound (map (spec.plain_rows tables.now) names.now) bound.now).outcome) }
+{
+    let found = all_rows(alloc, tables, names)?;
+    let lent = lent(alloc, found.as_slice())?;
+    Ok(told_rows(rows_of_query(alloc, bound, lent.as_slice())?))
 }
 
 fn select(
@@ -226,9 +253,10 @@ fn select(
         return Ok(Err(cause));
     }
     let headings = headings(alloc, tables, names)?;
-    let found = all_rows(alloc, tables, names)?;
-    let outcome = bind_select(alloc, query, headings.as_slice(), &[])?;
-    answer_once_bound(alloc, outcome, found.as_slice())
+    match bind_select(alloc, query, headings.as_slice(), &[])? {
+        Ok(bound) => answer_query(alloc, &bound, tables, names),
+        Err(cause) => Ok(Err(cause)),
+    }
 }
 
 fn query(
@@ -257,7 +285,7 @@ fn insert(
     }
     let heading = heading(alloc, tables, name)?;
     let outcome = bind_insert(alloc, given, &heading, &[])?;
-    answer_once_bound(alloc, outcome, &[rows(tables, name)])
+    answer_once_bound(alloc, outcome, tables, name)
 }
 
 fn update(
@@ -274,7 +302,7 @@ fn update(
     }
     let heading = heading(alloc, tables, name)?;
     let outcome = bind_update(alloc, sets, clauses, &heading, &[])?;
-    answer_once_bound(alloc, outcome, &[rows(tables, name)])
+    answer_once_bound(alloc, outcome, tables, name)
 }
 
 fn delete(
@@ -290,7 +318,7 @@ fn delete(
     }
     let heading = heading(alloc, tables, name)?;
     let outcome = bind_delete(alloc, clauses, &heading, &[])?;
-    answer_once_bound(alloc, outcome, &[rows(tables, name)])
+    answer_once_bound(alloc, outcome, tables, name)
 }
 
 /// The slow evaluator, over whole tables: what `user` who asks at `site` is answered, or the first denial but `NoSite`.

@@ -1,14 +1,15 @@
 //! What changes of rows make of the rows of a table.
 
-ghost use Rattle.std.specs.Prelude.{◌≡◌, [], ◌++◌, drop, length, take, map, IfOk};
+ghost use Rattle.std.specs.Prelude.{◌≡◌, [], ◌∷◌, ◌++◌, drop, length, take, map, IfOk, OnOk};
 ghost use Rattle.rs_eval.specs.Setting.{term_value};
 ghost use Rattle.rs_mean.specs.RowChanges as spec;
+ghost use Rattle.rs_mean.specs.Updating.{Puts};
 
-use crate::limits::all_fit_row;
-use crate::stored_rows::StoredRows;
+use crate::limits::{all_fit_row, fits_rows, has_room};
 use rs_ast::{BoundClause, BoundRow, BoundSet, BoundTerm};
-use rs_base::{Denial, NoMemory, Row, Value, copy_row, with_room};
+use rs_base::{Denial, NoMemory, Row, Value, with_room};
 use rs_eval::{holds, set_row, term_value};
+use rs_rows::{RowRun, StoredRows};
 use std::alloc::Global;
 
 // ---- INSERT
@@ -30,16 +31,17 @@ fn given_rows(alloc: Global, rows: &[BoundRow]) -> Result<StoredRows, NoMemory>
 {
     let mut given = StoredRows::new(alloc);
     for row in rows {
-        given.push(given_row(alloc, row.as_slice())?)?;
+        let values = given_row(alloc, row.as_slice())?;
+        given.push(alloc, values.as_slice())?;
     }
     Ok(given)
 }
 
 /// Whether the rows may be stored, and there is room for them behind those that are there.
-fn has_room(rows: &StoredRows, more: &StoredRows) -> bool
+fn may_be_added(rows: &StoredRows, more: &StoredRows) -> bool
     ensures { result ≡ spec.has_room rows.now more.now }
 {
-    all_fit_row(more.as_slice()) && rows.has_room(more)
+    all_fit_row(&more.as_run()) && has_room(rows, more)
 }
 
 /// The rows that are put in behind those of a table, or `TableFull`.
@@ -51,7 +53,7 @@ pub(crate) fn inserted(
     ensures { IfOk result (λ more. more ≡ spec.inserted given.now rows.now) }
 {
     let more = given_rows(alloc, given)?;
-    if has_room(rows, &more) {
+    if may_be_added(rows, &more) {
         Ok(Ok(more))
     } else {
         Ok(Err(Denial::TableFull))
@@ -60,19 +62,26 @@ pub(crate) fn inserted(
 
 // ---- UPDATE
 
-/// The row, set where it meets the clauses.
-fn updated_row(
+/// Puts the row at the end, set where it meets the clauses, or tells why it can't be set.
+fn push_updated(
     alloc: Global,
     sets: &[BoundSet],
     clauses: &[BoundClause],
     row: &[Value],
-) -> Result<Result<Row, Denial>, NoMemory>
-    ensures { IfOk result (λ new. new ≡ spec.updated_row sets.now clauses.now row.now) }
+    new: &mut StoredRows,
+) -> Result<Result<(), Denial>, NoMemory>
+    ensures { IfOk result (λ done. Puts done new.old new.new (spec.updated_row sets.now clauses.now row.now)) }
 {
-    if holds(clauses, row) {
-        set_row(alloc, sets, &[], row)
-    } else {
-        Ok(Ok(copy_row(alloc, row)?))
+    if !holds(clauses, row) {
+        new.push(alloc, row)?;
+        return Ok(Ok(()));
+    }
+    match set_row(alloc, sets, &[], row)? {
+        Ok(row) => {
+            new.push(alloc, row.as_slice())?;
+            Ok(Ok(()))
+        }
+        Err(cause) => Ok(Err(cause)),
     }
 }
 
@@ -81,16 +90,17 @@ fn updated_rows(
     alloc: Global,
     sets: &[BoundSet],
     clauses: &[BoundClause],
-    rows: &[Row],
+    rows: &RowRun<'_>,
 ) -> Result<Result<StoredRows, Denial>, NoMemory>
     ensures { IfOk result (λ new. new ≡ spec.updated_rows sets.now clauses.now rows.now) }
 {
     let mut new = StoredRows::new(alloc);
-    for row in rows {
-        match updated_row(alloc, sets, clauses, row.as_slice())? {
-            Ok(row) => new.push(row)?,
-            Err(cause) => return Ok(Err(cause)),
+    let mut rest = rows.again();
+    while let Some((row, others)) = rest.split_first() {
+        if let Err(cause) = push_updated(alloc, sets, clauses, row, &mut new)? {
+            return Ok(Err(cause));
         }
+        rest = others;
     }
     Ok(Ok(new))
 }
@@ -100,7 +110,7 @@ pub(crate) fn updated(
     alloc: Global,
     sets: &[BoundSet],
     clauses: &[BoundClause],
-    rows: &[Row],
+    rows: &RowRun<'_>,
 ) -> Result<Result<StoredRows, Denial>, NoMemory>
     ensures { IfOk result (λ new. new ≡ spec.updated sets.now clauses.now rows.now) }
 {
@@ -115,7 +125,7 @@ pub(crate) fn updated(
 fn may_be_rows(rows: &StoredRows) -> bool
     ensures { result ≡ spec.may_be_rows rows.now }
 {
-    all_fit_row(rows.as_slice()) && rows.fits()
+    all_fit_row(&rows.as_run()) && fits_rows(rows)
 }
 
 // ---- DELETE
@@ -124,24 +134,33 @@ fn may_be_rows(rows: &StoredRows) -> bool
 pub(crate) fn kept(
     alloc: Global,
     clauses: &[BoundClause],
-    rows: &[Row],
+    rows: &RowRun<'_>,
 ) -> Result<StoredRows, NoMemory>
     ensures { IfOk result (λ kept. kept ≡ spec.kept clauses.now rows.now) }
 {
     let mut kept = StoredRows::new(alloc);
-    for row in rows {
-        if !holds(clauses, row.as_slice()) {
-            kept.push(copy_row(alloc, row.as_slice())?)?;
+    let mut rest = rows.again();
+    while let Some((row, others)) = rest.split_first() {
+        if !holds(clauses, row) {
+            kept.push(alloc, row)?;
         }
+        rest = others;
     }
     Ok(kept)
 }
 
 /// How many rows meet the clauses.
-pub(crate) fn met(clauses: &[BoundClause], rows: &[Row]) -> usize
+pub(crate) fn met(clauses: &[BoundClause], rows: &RowRun<'_>) -> usize
     ensures { result ≡ spec.met clauses.now rows.now }
 {
-    rows.iter()
-        .filter(|row| holds(clauses, row.as_slice()))
-        .count()
+    let mut count = 0;
+    let mut rest = rows.again();
+    while let Some((row, others)) = rest.split_first() {
+        if holds(clauses, row) {
+            prove!(count < rows.len());
+            count += 1;
+        }
+        rest = others;
+    }
+    count
 }

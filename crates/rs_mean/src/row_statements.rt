@@ -5,16 +5,16 @@ ghost use Rattle.rs_bind.specs.Denials.{first_denial};
 ghost use Rattle.rs_mean.specs.Names.{name_of, table_tests};
 ghost use Rattle.rs_mean.specs.RowStatements as spec;
 
-use crate::bound_effect::{effect_of_bound, effect_over};
+use crate::bound_effect::{answering, effect_over, rows_of_query};
 use crate::change::Effect;
 use crate::columns::copy_columns;
 use crate::database::Database;
 use crate::execution::Execution;
-use crate::stored_rows::StoredRows;
 use rs_ast::{Clause, Dml, Select, Set, TableRef, TermRow};
-use rs_base::{Denial, NameText, NoMemory, Row, Swn, with_room};
+use rs_base::{Denial, NameText, NoMemory, Swn, with_room};
 use rs_bind::{Heading, Headings, bind_delete, bind_insert, bind_select, bind_update};
 use rs_plan::{Bound, Swns};
+use rs_rows::{RowRun, StoredRows};
 use std::alloc::Global;
 
 impl Database {
@@ -37,17 +37,17 @@ impl Database {
         Ok(headings)
     }
 
-    fn rows_in(&self, name: &Swn) -> &[Row]
-        ensures { result.now ≡ spec.rows_in self.now name.now }
+    fn rows_in(&self, name: &Swn) -> RowRun<'_>
+        ensures { result ≡ spec.rows_in self.now name.now }
     {
         match self.table(name) {
-            Some(table) => table.rows.as_slice(),
-            None => &[],
+            Some(table) => table.rows.as_run(),
+            None => RowRun::empty(),
         }
     }
 
-    fn all_rows_in(&self, alloc: Global, names: &[Swn]) -> Result<Vec<&[Row]>, NoMemory>
-        ensures { IfOk result (λ tables. map (λ rows. rows.now) tables.items ≡ map (spec.rows_in self.now) names.now) }
+    fn all_rows_in(&self, alloc: Global, names: &[Swn]) -> Result<Vec<RowRun<'_>>, NoMemory>
+        ensures { IfOk result (λ tables. tables.items ≡ map (spec.rows_in self.now) names.now) }
     {
         let mut tables = Vec::with_capacity(alloc, names.len())?;
         for name in names {
@@ -91,7 +91,7 @@ impl Database {
         let tables = self.all_rows_in(alloc, names)?;
         let headings = self.headings_in(alloc, names)?;
         match bind_select(alloc, query, headings.as_slice(), &[])? {
-            Ok(bound) => effect_of_bound(alloc, bound, tables.as_slice()),
+            Ok(bound) => answering(alloc, rows_of_query(alloc, &bound, tables.as_slice())?),
             Err(cause) => Ok(Effect::denied(cause)),
         }
     }

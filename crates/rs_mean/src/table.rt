@@ -3,9 +3,9 @@
 ghost use Rattle.std.specs.Prelude.{◌≡◌, OnOk, OnErr};
 ghost use Rattle.rs_mean.specs.Changes.{with_rows};
 
-use crate::stored_rows::StoredRows;
 use rs_ast::{ColDefs, IndexOfs};
 use rs_base::{NoMemory, SiteNo, Txn};
+use rs_rows::StoredRows;
 
 /// A table: the transaction that made it, the site that stores it, its columns, its indexes in order of making, and its
 /// rows in order of insertion.

@@ -7,10 +7,10 @@ ghost use Rattle.rs_mean.specs.TableStatements as spec;
 use crate::change::{Change, Effect};
 use crate::columns::{copy_columns, names_differ};
 use crate::database::Database;
-use crate::stored_rows::StoredRows;
 use crate::table::Table;
 use rs_ast::{ColDef, ColDefs, IndexOfs};
 use rs_base::{Answer, Denial, NoMemory, Swn, Txn};
+use rs_rows::StoredRows;
 use std::alloc::Global;
 
 fn new_table(alloc: Global, txn: Txn, name: &Swn, columns: ColDefs) -> Table

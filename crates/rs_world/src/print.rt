@@ -6,8 +6,9 @@ ghost use Rattle.rs_base.specs.Printing.{printed_row};
 ghost use Rattle.rs_world.specs.ReportText as spec;
 
 use crate::report::{Given, Report, SiteView};
-use rs_base::{Bytes, NoMemory, Row, Swn, put};
+use rs_base::{Bytes, NoMemory, Swn, put};
 use rs_mean::{Database, Table};
+use rs_rows::RowRun;
 use rs_site::Decided;
 use std::alloc::Global;
 
@@ -53,11 +54,13 @@ fn print_history(entries: &[Decided], out: &mut Bytes) -> Result<(), NoMemory>
     print_entries(entries, out)
 }
 
-fn print_rows(rows: &[Row], out: &mut Bytes) -> Result<(), NoMemory>
+fn print_rows(rows: &RowRun<'_>, out: &mut Bytes) -> Result<(), NoMemory>
     ensures { OnOk result (out.new ≡ out.old ++ flat_map printed_row rows.now) }
 {
-    for row in rows {
-        put::row(out, row.as_slice())?;
+    let mut rest = rows.again();
+    while let Some((row, others)) = rest.split_first() {
+        put::row(out, row)?;
+        rest = others;
     }
     Ok(())
 }
@@ -71,7 +74,7 @@ fn print_table_line(name: &Swn, table: &Table, out: &mut Bytes) -> Result<(), No
     out.extend(b" made ")?;
     put::txn(out, &table.made)?;
     out.extend(b" rows ")?;
-    put::number(out, table.rows.as_slice().len() as u64)?;
+    put::number(out, table.rows.len() as u64)?;
     out.extend(b"\n")
 }
 
@@ -79,7 +82,7 @@ fn print_table(name: &Swn, table: &Table, out: &mut Bytes) -> Result<(), NoMemor
     ensures { OnOk result (out.new ≡ out.old ++ spec.printed_table (name.now, table.now)) }
 {
     print_table_line(name, table, out)?;
-    print_rows(table.rows.as_slice(), out)
+    print_rows(&table.rows.as_run(), out)
 }
 
 fn print_tables(database: &Database, out: &mut Bytes) -> Result<(), NoMemory>

@@ -3,4 +3,4 @@ use Rattle.rs_mean.specs.Plain.{plain_rows}
 use Rattle.rs_mean.proofs.plain.all_rows.Given as goal
 
 abbrev pub invariant-loop-name : goal.invariant-loop-name
-invariant-loop-name l = map (λ rows. rows.now) l.found.items ≡ map (plain_rows l.tables) (take l.name-index l.names)
+invariant-loop-name l = l.found.items ≡ map (plain_rows l.tables) (take l.name-index l.names)
