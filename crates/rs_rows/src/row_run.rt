@@ -1,0 +1,80 @@
+//! Rows that are lent.
+
+ghost use Rattle.std.specs.Prelude.{◌≡◌, ◌==◌, [], ◌∷◌, length, sum, MatchOption};
+ghost use Rattle.rs_rows.specs.Cut.{cut};
+
+use rs_base::Value;
+use std::marker::Model;
+
+/// Rows that are lent: their values, one row behind the other, and how many values each row has.
+#[derive(Debug, Drop)]
+pub struct RowRun<'a> {
+    values: &'a [Value],
+    widths: &'a [usize],
+}
+
+impl<'a> Model for RowRun<'a> {
+    ghost use Rattle.std.specs.Prelude.{◌≡◌, length, sum};
+    ghost use Rattle.rs_base.specs.Value.{RowList};
+    ghost use Rattle.rs_rows.specs.Cut.{cut};
+
+    ghost Value = { RowList };
+
+    ghost view = { λ run. cut run.widths.now run.values.now };
+
+    ghost invariant = { λ run. sum run.widths.now ≡ length run.values.now };
+}
+
+impl<'a> RowRun<'a> {
+    pub fn empty() -> RowRun<'static>
+        ensures { result ≡ [] }
+    {
+        RowRun {
+            values: &[],
+            widths: &[],
+        }
+    }
+
+    /// The rows of this width each, whose values stand one row behind the other.
+    pub(crate) fn of(values: &'a [Value], widths: &'a [usize]) -> RowRun<'a>
+        requires { sum widths.now ≡ length values.now }
+        ensures { result ≡ cut widths.now values.now }
+    {
+        RowRun { values, widths }
+    }
+
+    /// The same rows, lent once more.
+    pub fn again(&self) -> RowRun<'a>
+        ensures { result ≡ self.now }
+    {
+        RowRun {
+            values: self.values,
+            widths: self.widths,
+        }
+    }
+
+    pub fn len(&self) -> usize
+        ensures { result ≡ length self.now }
+    {
+        self.widths.len()
+    }
+
+    pub fn is_empty(&self) -> bool
+        ensures { result ≡ (length self.now == 0) }
+    {
+        self.widths.is_empty()
+    }
+
+    /// The first row, and those behind it.
+    pub fn split_first(&self) -> Option<(&'a [Value], RowRun<'a>)>
+        ensures { MatchOption result (self.now ≡ []) (λ parts. self.now ≡ parts.0.now ∷ parts.1) }
+    {
+        match self.widths {
+            [] => None,
+            [width, widths @ ..] => {
+                let (row, values) = self.values.split_at(*width);
+                Some((row, RowRun { values, widths }))
+            }
+        }
+    }
+}
