@@ -77,16 +77,11 @@ impl Bytes {
         self.bytes.extend_from_slice(more)?;
         Ok(())
     }
+
     /// Keeps the first bytes: so many, or all where there are fewer.
     pub fn truncate(&mut self, len: usize)
         ensures { self.new ≡ take len self.old }
     {
         self.bytes.truncate(len);
-    }
-    /// The list, moved.
-    pub(crate) fn into_vec(self) -> Vec<u8>
-        ensures { result.items ≡ self }
-    {
-        self.bytes
     }
 }

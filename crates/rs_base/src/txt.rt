@@ -1,6 +1,6 @@
 //! Text values.
 
-ghost use Rattle.std.specs.Prelude.{◌≡◌, ◌↔◌, ◌==◌, IsTrue, IsFalse, IfOk, IsErrOf, SomeIff};
+ghost use Rattle.std.specs.Prelude.{◌≡◌, ◌↔◌, ◌==◌, IsTrue, IsFalse, IfOk, IsErrOf};
 ghost use Rattle.std.specs.Cmp.{partial_order_from_own_ties};
 ghost use Rattle.std.specs.Cmp.Lexicographic.{pointwise, slice_cmp};
 ghost use Rattle.std.specs.Cmp.Rules.{comparing};
@@ -8,17 +8,17 @@ ghost use Rattle.std.specs.Ordering.{nat_cmp, as_partial_cmp};
 ghost use Rattle.std.proofs.Common.{rules};
 ghost use Rattle.rs_base.specs.Txt as spec;
 
-use crate::bytes::Bytes;
 use crate::fault::NoMemory;
 use std::alloc::Global;
 use std::cmp::Ordering;
 use std::marker::Model;
 use thiserror::Error;
 
-/// A text value: at most 255 bytes of UTF-8 without control characters (bytes below 0x20, and 0x7F).
+/// A text value: at most 255 bytes of UTF-8 without control characters (bytes below 0x20, and 0x7F). It lies behind
+/// one pointer, so that a value, an integer or a text, takes two words and not four: tables hold many integers.
 #[derive(Debug, Drop)]
 pub struct Txt {
-    bytes: Vec<u8>,
+    bytes: Box<Vec<u8>>,
 }
 
 impl Model for Txt {
@@ -27,9 +27,9 @@ impl Model for Txt {
 
     ghost Value = { List ℕ };
 
-    ghost view = { λ text. text.bytes.items };
+    ghost view = { λ text. text.bytes.value.items };
 
-    ghost invariant = { λ text. IsTrue (is_txt text.bytes.items) };
+    ghost invariant = { λ text. IsTrue (is_txt text.bytes.value.items) };
 }
 
 /// Why bytes did not become a text value.
@@ -69,6 +69,14 @@ fn is_txt(bytes: &[u8]) -> bool
     bytes.len() <= 255 && is_utf8(bytes) && are_text_bytes(bytes)
 }
 
+/// A copy of these bytes, behind one pointer.
+fn boxed(alloc: Global, bytes: &[u8]) -> Result<Box<Vec<u8>>, NoMemory>
+    ensures { IfOk result (λ held. held.value.items ≡ bytes.now) }
+{
+    let bytes = Vec::from_slice(alloc, bytes)?;
+    Ok(Box::new(alloc, bytes)?)
+}
+
 impl Txt {
     /// The text value of these bytes.
     pub fn new(alloc: Global, bytes: &[u8]) -> Result<Txt, TxtFault>
@@ -78,22 +86,10 @@ impl Txt {
         if !is_txt(bytes) {
             return Err(TxtFault::Bad);
         }
-        match Vec::from_slice(alloc, bytes) {
+        match boxed(alloc, bytes) {
             Ok(bytes) => Ok(Txt { bytes }),
             Err(_) => Err(TxtFault::NoMemory),
         }
-    }
-
-    /// The text value of these bytes, which it takes as they are, or `None` where they are none.
-    pub fn from_bytes(bytes: Bytes) -> Option<Txt>
-        ensures { SomeIff result (IsTrue (spec.is_txt bytes)) bytes }
-    {
-        if !is_txt(bytes.as_slice()) {
-            return None;
-        }
-        Some(Txt {
-            bytes: bytes.into_vec(),
-        })
     }
 
     pub fn as_bytes(&self) -> &[u8]
@@ -106,7 +102,7 @@ impl Txt {
     pub fn copy(&self, alloc: Global) -> Result<Txt, NoMemory>
         ensures { IfOk result (λ text. text ≡ self.now) }
     {
-        let bytes = Vec::from_slice(alloc, self.bytes.as_slice())?;
+        let bytes = boxed(alloc, self.as_bytes())?;
         Ok(Txt { bytes })
     }
 }

@@ -9,12 +9,14 @@ use crate::txt::Txt;
 use sqlite_items::Items;
 use std::alloc::Global;
 
-/// A value. Each integer is below each text; integers are ordered by value, texts by their bytes.
+/// A value. Each integer is below each text; integers are ordered by value, texts by their bytes. It takes two words.
 #[derive(Debug, PartialEq, Eq, PartialOrd, Ord, Drop)]
 pub enum Value {
     Int(i64),
     Text(Txt),
 }
+
+const _: () = prove!(size_of::<Value>() == 16);
 
 /// What a column holds.
 #[derive(Clone, Copy, Debug, PartialEq, Eq)]

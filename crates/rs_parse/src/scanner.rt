@@ -8,7 +8,7 @@ ghost use Rattle.rs_parse.specs.Scanning.{token_here, Steps};
 
 use crate::span::{blanks, is_digit, is_letter, number_len, word_len};
 use rs_ast::{Mark, Token};
-use rs_base::{Bytes, Ident, NoMemory, ReadFault, Txt};
+use rs_base::{Bytes, Ident, NoMemory, ReadFault, Txt, TxtFault};
 use std::alloc::Global;
 use std::marker::Model;
 
@@ -117,10 +117,11 @@ impl<'a> Scanner<'a> {
         ensures { Reads (spec.text_at self.old) result self.new }
     {
         let quoted = self.quoted(alloc)?;
-        let Some(text) = Txt::from_bytes(quoted) else {
-            return Err(ReadFault::Malformed);
-        };
-        Ok(Token::Text(text))
+        match Txt::new(alloc, quoted.as_slice()) {
+            Ok(text) => Ok(Token::Text(text)),
+            Err(TxtFault::Bad) => Err(ReadFault::Malformed),
+            Err(TxtFault::NoMemory) => Err(ReadFault::NoMemory),
+        }
     }
 
     /// Goes behind this byte, where it stands there.
