@@ -1,3 +1,4 @@
+mod Counts
 pub mod Entries
 mod LawEffects
 mod LawKept
@@ -9,5 +10,6 @@ mod LawTests
 mod LawTouches
 pub mod Lawful
 pub mod Orders
+mod Selects
 mod UpdatedRows
 mod Written
