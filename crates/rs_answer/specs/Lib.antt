@@ -1,5 +1,6 @@
 pub mod Answer
 pub mod Best
+pub mod Counting
 pub mod Given
 pub mod Groups
 pub mod ItemLaws

@@ -2,9 +2,11 @@
 #![tactic(auto)]
 
 pub use answer::answer_rows;
+pub use counting::{count_answer, counts_alone};
 pub use sorting::compare_answers;
 
 mod answer;
+mod counting;
 mod fault;
 mod groups;
 mod items;
