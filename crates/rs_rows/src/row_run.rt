@@ -35,7 +35,7 @@ impl<'a> RowRun<'a> {
         }
     }
 
-    /// The rows of this width each, whose values stand one row behind the other.
+    /// The values cut into rows of these widths.
     pub(crate) fn of(values: &'a [Value], widths: &'a [usize]) -> RowRun<'a>
         requires { sum widths.now ≡ length values.now }
         ensures { result ≡ cut widths.now values.now }
@@ -53,12 +53,14 @@ impl<'a> RowRun<'a> {
         }
     }
 
+    #[tactic(auto, using(crate::proofs::CutLaws::length_of_cut))]
     pub fn len(&self) -> usize
         ensures { result ≡ length self.now }
     {
         self.widths.len()
     }
 
+    #[tactic(auto, using(crate::proofs::CutLaws::length_of_cut))]
     pub fn is_empty(&self) -> bool
         ensures { result ≡ (length self.now == 0) }
     {

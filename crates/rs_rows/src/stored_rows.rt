@@ -58,6 +58,7 @@ impl StoredRows {
         RowRun::of(self.values.as_slice(), self.widths.as_slice())
     }
 
+    #[tactic(auto, using(crate::proofs::CutLaws::length_of_cut))]
     pub fn len(&self) -> usize
         ensures { result ≡ length self.now }
     {
@@ -72,6 +73,7 @@ impl StoredRows {
     }
 
     /// Puts a copy of the row at the end. Where memory is wanting, nothing changes.
+    #[tactic(auto, using(crate::proofs::CutLaws::cut_of_one_more, crate::proofs::CutLaws::whole_of_more, crate::proofs::CutLaws::size_of_more))]
     pub fn push(&mut self, alloc: Global, row: &[Value]) -> Result<(), NoMemory>
         ensures ok { OnOk result (self.new ≡ self.old ++ row.now ∷ []) }
         ensures err { OnErr result (self.new ≡ self.old) }
@@ -85,12 +87,12 @@ impl StoredRows {
         put
     }
 
-    /// Moves `more` to the end, in time proportional to `more`. Where memory is wanting, nothing changes.
-    pub fn append(&mut self, more: StoredRows) -> Result<(), NoMemory>
+    /// Moves `more` to the end, in time that goes with `more`. Where memory is wanting, nothing changes.
+    #[tactic(auto, using(crate::proofs::CutLaws::cut_of_more, crate::proofs::CutLaws::whole_of_more, crate::proofs::CutLaws::size_of_more))]
+    pub fn append(&mut self, mut more: StoredRows) -> Result<(), NoMemory>
         ensures ok { OnOk result (self.new ≡ self.old ++ more) }
         ensures err { OnErr result (self.new ≡ self.old) }
     {
-        let mut more = more;
         let count = self.values.len();
         self.values.append(&mut more.values)?;
         if let Err(fault) = self.widths.append(&mut more.widths) {
@@ -103,6 +105,7 @@ impl StoredRows {
 }
 
 /// Puts copies of the row's values, and their number, at the ends. Where memory is wanting, some of the copies may stay.
+#[tactic(auto, using(crate::proofs::CutLaws::taken_back))]
 fn put_row(
     alloc: Global,
     values: &mut Vec<Value>,
