@@ -3,6 +3,7 @@ use rs_ast::{
     Arith, BoundClause, BoundClauses, BoundCmp, BoundSet, BoundSets, BoundSide, BoundTerm, Op,
 };
 use rs_base::{Denial, Row, Rows, Txt, Value};
+use rs_rows::{RowRun, StoredRows};
 use sqlite_items::Items;
 use std::alloc::Global;
 use std::cmp::Ordering;
@@ -20,10 +21,10 @@ fn integers(alloc: Global, numbers: &[i64]) -> Result<Row, Fail> {
     Ok(row)
 }
 
-fn pairs(alloc: Global, numbers: &[(i64, i64)]) -> Result<Rows, Fail> {
-    let mut rows = Items::new(alloc);
+fn pairs(alloc: Global, numbers: &[(i64, i64)]) -> Result<StoredRows, Fail> {
+    let mut rows = StoredRows::new(alloc);
     for (one, other) in numbers {
-        rows.push(integers(alloc, &[*one, *other])?)?;
+        rows.push(alloc, &[Value::Int(*one), Value::Int(*other)])?;
     }
     Ok(rows)
 }
@@ -164,7 +165,11 @@ fn columns_are_set_by_the_old_row(rt: HostRuntime) -> Result<(), Fail> {
     Ok(())
 }
 
-fn rows_of(alloc: Global, clauses: &[BoundClause], tables: &[&[Row]]) -> Result<Rows, Fail> {
+fn rows_of(
+    alloc: Global,
+    clauses: &[BoundClause],
+    tables: &[RowRun<'_>],
+) -> Result<Rows, Fail> {
     match joined_rows(alloc, clauses, tables)? {
         Ok(rows) => Ok(rows),
         Err(_denial) => Err("too many")?,
@@ -182,7 +187,7 @@ fn three_joined(alloc: Global) -> Result<Rows, Fail> {
     rows_of(
         alloc,
         clauses.as_slice(),
-        &[first.as_slice(), second.as_slice(), third.as_slice()],
+        &[first.as_run(), second.as_run(), third.as_run()],
     )
 }
 

@@ -2,8 +2,8 @@ use Rattle.std.proofs.Common.{◌≡◌, ◌+◌, length}
 use Rattle.rs_mean.specs.RowChanges.{met}
 use Rattle.rs_mean.proofs.row_changes.met.Given as goal
 
-abbrev pub invariant-loop-rest : goal.invariant-loop-rest
-invariant-loop-rest l = met l.clauses l.rows ≡ l.count + met l.clauses l.rest
+abbrev pub invariant-loop-row : goal.invariant-loop-row
+invariant-loop-row l = met l.clauses l.rows ≡ l.count + met l.clauses l.rest
 
-abbrev pub decreases-loop-rest : goal.decreases-loop-rest
-decreases-loop-rest l = length l.rest
+abbrev pub decreases-loop-row : goal.decreases-loop-row
+decreases-loop-row l = length l.rest

@@ -3,8 +3,8 @@ use Rattle.rs_mean.specs.RowChanges.{updated_rows}
 use Rattle.rs_mean.proofs.UpdatedRows.{behind}
 use Rattle.rs_mean.proofs.row_changes.updated_rows.Given as goal
 
-abbrev pub invariant-loop-rest : goal.invariant-loop-rest
-invariant-loop-rest l = updated_rows l.sets l.clauses l.rows ≡ behind l.new (updated_rows l.sets l.clauses l.rest)
+abbrev pub invariant-loop-row : goal.invariant-loop-row
+invariant-loop-row l = updated_rows l.sets l.clauses l.rows ≡ behind l.new (updated_rows l.sets l.clauses l.rest)
 
-abbrev pub decreases-loop-rest : goal.decreases-loop-rest
-decreases-loop-rest l = length l.rest
+abbrev pub decreases-loop-row : goal.decreases-loop-row
+decreases-loop-row l = length l.rest

@@ -3,8 +3,8 @@ use Rattle.std.specs.Prelude.{flat_map}
 use Rattle.rs_base.specs.Printing.{printed_row}
 use Rattle.rs_world.proofs.print.print_rows.Given as goal
 
-abbrev pub invariant-loop-rest : goal.invariant-loop-rest
-invariant-loop-rest l = l.fn.out ++ flat_map printed_row l.rows ≡ l.out ++ flat_map printed_row l.rest
+abbrev pub invariant-loop-row : goal.invariant-loop-row
+invariant-loop-row l = l.fn.out ++ flat_map printed_row l.rows ≡ l.out ++ flat_map printed_row l.rest
 
-abbrev pub decreases-loop-rest : goal.decreases-loop-rest
-decreases-loop-rest l = length l.rest
+abbrev pub decreases-loop-row : goal.decreases-loop-row
+decreases-loop-row l = length l.rest
