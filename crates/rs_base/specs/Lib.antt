@@ -1,6 +1,7 @@
 pub mod Ident
 pub mod IdentInside
 pub mod Name
+pub mod Txn
 pub mod Txt
 pub mod Value
 pub mod Faults

@@ -9,6 +9,7 @@ mod lock;
 mod mem_sink;
 mod mem_source;
 mod name;
+mod orders;
 mod peer;
 mod print;
 pub mod put;
@@ -35,6 +36,9 @@ pub use lock::{HeldLocks, Mode, Resource};
 pub use mem_sink::MemSink;
 pub use mem_source::MemSource;
 pub use name::{NameText, Swn};
+pub use orders::{
+    order_of_enlists, order_of_names, order_of_origins, order_of_txns, order_of_values,
+};
 pub use peer::{Datagrams, Peer};
 pub use print::{
     print_number, print_origin, print_reply, print_row, print_swn, print_txn, print_value,
