@@ -1,9 +1,8 @@
 -- How rows are cut out of a list of values, and what is put behind them.
-use Rattle.std.proofs.Common.{◌≡◌, ℕ, suc, ◌+◌, ◌-◌, ◌^◌, ◌≤◌, min, List, [], ◌∷◌, ◌++◌, length, take, drop, sum, refl, sym, ap, ◌∙◌, arith, length-append, length-drop}
+use Rattle.std.proofs.Common.{◌≡◌, ℕ, suc, ◌+◌, ◌≤◌, List, [], ◌∷◌, ◌++◌, length, take, drop, sum, refl, sym, ap, ◌∙◌, arith, length-append, length-drop}
 use Rattle.std.proofs.lemmas.List.{nil_from_length, take-append-le, drop-append-le}
 use Rattle.std.proofs.lemmas.List.Sums.{sum_by-cons, sum_by-append}
 use Rattle.std.proofs.Math.Seq.{take-length, take-append_seam}
-use Rattle.rs_base.specs.declared.value.Value.{Value}
 use Rattle.rs_base.specs.Sizes.{row_size}
 use Rattle.rs_base.specs.Value.{RowList}
 use Rattle.rs_rows.specs.Cut.{cut}
@@ -26,7 +25,7 @@ cut_of_more {A} (width ∷ widths) more values others whole =
     let within : width ≤ length values = omega (arith, all) in
     let left : sum widths ≡ length (drop width values) = omega (arith, all, length-drop width values) in
     rw (take-append-le width values others within, drop-append-le width values others within)
-      (ap (λ (rows : List (List A)). take width values ∷ rows) (cut_of_more widths more (drop width values) others left))
+    (ap (λ (rows : List (List A)). take width values ∷ rows) (cut_of_more widths more (drop width values) others left))
 
 -- the values of one more row, put behind those that are all cut
 pub cut_of_one_more : {A : Type 0} (widths : List ℕ) (values row : List A) → sum widths ≡ length values → cut (widths ++ length row ∷ []) (values ++ row) ≡ cut widths values ++ row ∷ []
