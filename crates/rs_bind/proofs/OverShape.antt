@@ -19,12 +19,12 @@ use Rattle.rs_ast.specs.declared.shape.ShapeItem.{ShapeItem}
 use Rattle.rs_ast.specs.declared.shape.ShapeItem.TheVariants as shape_items
 use Rattle.rs_ast.specs.declared.shape.ShapeKey.{ShapeKey}
 use Rattle.rs_plan.specs.Kinds.{kinds_fit}
-use Rattle.rs_plan.specs.Over.{is_place, has_kind, item_fits, IsShapeOver}
+use Rattle.rs_plan.specs.Over.{is_place, has_kind, item_fits, is_filled, IsShapeOver}
 use Rattle.rs_plan.specs.Over as over
 use Rattle.rs_bind.specs.declared.scope.Param.{Param}
 use Rattle.rs_bind.specs.declared.scope.ScopeColumn.{ScopeColumn}
 use Rattle.rs_bind.specs.Binding.{shape_item, items_shown, shows_place, key_item, shape_key, shape_of}
-use Rattle.rs_bind.specs.Denials.{test, first_denial, column_tests, item_tests, items_tests, key_tests, names_tests, clauses_tests, is_aggregate, has_aggregate, is_filled, is_grouped, is_place_in, is_of_group, are_of_group, grouping_test, is_item_of, is_shown, item_count, names_item, keys_tests}
+use Rattle.rs_bind.specs.Denials.{test, first_denial, column_tests, item_tests, items_tests, key_tests, names_tests, clauses_tests, is_aggregate, has_aggregate, is_grouped, is_same_place, is_of_group, are_of_group, grouping_test, is_item_of, is_shown, item_count, names_item, keys_tests}
 use Rattle.rs_bind.specs.Scope.{as_place, place_of, column_kind}
 use Rattle.rs_bind.proofs.OverScope.{kinds_in, any_found, column_there, place_kind}
 use Rattle.rs_bind.proofs.OverTests.{first_passes, both_pass, each_passes, each_passes_too, all_made, any_made}
@@ -83,13 +83,13 @@ module _ (scope : List ScopeColumn) where
 
   -- ---- groups
 
-  filled : (group : List ColRef) → is_filled group ≡ over.is_filled (map (place_of scope) group)
+  filled : (group : List ColRef) → is_filled group ≡ is_filled (map (place_of scope) group)
   filled [] = refl
   filled (written ∷ group) = refl
 
   item_of_group : (group : List ColRef) (item : Item) → is_of_group scope group item ≡ true → over.is_of_group (map (place_of scope) group) (shape_item scope item) ≡ true
   item_of_group group (items.Col shown) e =
-      any_made (place_of scope) (λ other. place_of scope shown == other) (is_place_in scope shown) (λ written same. same) group e
+      any_made (place_of scope) (λ other. place_of scope shown == other) (is_same_place scope shown) (λ written same. same) group e
   item_of_group group items.Count e = refl
   item_of_group group (items.Sum shown) e = refl
   item_of_group group (items.Min shown) e = refl

@@ -23,6 +23,7 @@ use Rattle.rs_ast.specs.declared.select.KeyBy.{KeyBy}
 use Rattle.rs_ast.specs.declared.select.KeyBy.TheVariants as keys
 use Rattle.rs_ast.specs.declared.select.Select.{Select}
 use Rattle.rs_plan.specs.Kinds.{kinds_fit}
+use Rattle.rs_plan.specs.Over.{is_filled}
 use Rattle.rs_bind.specs.declared.heading.Heading.{Heading}
 use Rattle.rs_bind.specs.declared.scope.Param.{Param}
 use Rattle.rs_bind.specs.declared.scope.ScopeColumn.{ScopeColumn}
@@ -114,20 +115,16 @@ abbrev pub has_aggregate : Option (List Item) → Bool
 has_aggregate None = false
 has_aggregate (Some shown) = list_any is_aggregate shown
 
-abbrev pub is_filled : {A : Type 0} → List A → Bool
-is_filled [] = false
-is_filled (x ∷ xs) = true
-
 -- there is an aggregate, or GROUP BY
 abbrev pub is_grouped : Select → Bool
 is_grouped select = has_aggregate select.items || is_filled select.group
 
-abbrev pub is_place_in : List ScopeColumn → ColRef → ColRef → Bool
-is_place_in scope one other = place_of scope one == place_of scope other
+abbrev pub is_same_place : List ScopeColumn → ColRef → ColRef → Bool
+is_same_place scope one other = place_of scope one == place_of scope other
 
 -- the item is an aggregate, or one of the columns by which is grouped
 abbrev pub is_of_group : List ScopeColumn → List ColRef → Item → Bool
-is_of_group scope group (items.Col written) = list_any (is_place_in scope written) group
+is_of_group scope group (items.Col written) = list_any (is_same_place scope written) group
 is_of_group scope group items.Count = true
 is_of_group scope group (items.Sum written) = true
 is_of_group scope group (items.Min written) = true
@@ -144,7 +141,7 @@ grouping_test scope select = test (is_grouped select && not (are_of_group scope 
 
 -- the item is this column
 abbrev pub is_item_of : List ScopeColumn → ColRef → Item → Bool
-is_item_of scope written (items.Col shown) = is_place_in scope written shown
+is_item_of scope written (items.Col shown) = is_same_place scope written shown
 is_item_of scope written items.Count = false
 is_item_of scope written (items.Sum shown) = false
 is_item_of scope written (items.Min shown) = false

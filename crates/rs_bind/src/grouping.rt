@@ -44,13 +44,13 @@ pub(crate) fn is_grouped(select: &Select) -> bool
 
 /// Whether two names stand for one column.
 pub(crate) fn is_same_place(scope: &[ScopeColumn], one: &ColRef, other: &ColRef) -> bool
-    ensures { result ≡ spec.is_place_in scope.now one.now other.now }
+    ensures { result ≡ spec.is_same_place scope.now one.now other.now }
 {
     place_of(scope, one) == place_of(scope, other)
 }
 
 fn is_in_group(scope: &[ScopeColumn], group: &[ColRef], written: &ColRef) -> bool
-    ensures { result ≡ list_any (spec.is_place_in scope.now written.now) group.now }
+    ensures { result ≡ list_any (spec.is_same_place scope.now written.now) group.now }
 {
     group
         .iter()

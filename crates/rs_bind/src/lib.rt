@@ -6,6 +6,7 @@ mod changes;
 mod clause_denials;
 mod clauses;
 mod columns;
+mod definitions;
 mod grouping;
 mod heading;
 mod item_keys;
@@ -25,6 +26,7 @@ mod terms;
 mod tests;
 
 pub use changes::{bind_delete, bind_insert, bind_update};
+pub use definitions::column_defs;
 pub use heading::{Heading, Headings};
 pub use laws::bound_is_over;
 pub use numbers::as_position;

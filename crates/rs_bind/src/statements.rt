@@ -7,32 +7,14 @@ ghost use Rattle.rs_bind.specs.Binding.{bound_of};
 ghost use Rattle.rs_bind.specs.Entries as spec;
 
 use crate::changes::{bind_delete, bind_insert, bind_update};
+use crate::definitions::column_defs;
 use crate::heading::{Heading, Headings};
 use crate::queries::bind_select;
 use crate::scope::{Param, Params};
-use rs_ast::{ColDef, ColDefs, Column, Dml, Entry};
+use rs_ast::{Dml, Entry};
 use rs_base::{Denial, Ident, NoMemory, Swn, Value, with_room};
 use rs_plan::Bound;
 use std::alloc::Global;
-
-fn defined(column: &Column) -> ColDef
-    ensures { result ≡ spec.defined column.now }
-{
-    ColDef {
-        name: column.name,
-        kind: column.kind,
-    }
-}
-
-fn columns_of(alloc: Global, columns: &[Column]) -> Result<ColDefs, NoMemory>
-    ensures { IfOk result (λ found. found ≡ map spec.defined columns.now) }
-{
-    let mut found = with_room(alloc, columns.len())?;
-    for column in columns {
-        found.push(defined(column))?;
-    }
-    Ok(found)
-}
 
 /// The columns of an entry, as a statement sees them.
 fn heading_of(alloc: Global, entry: &Entry) -> Result<Heading, NoMemory>
@@ -40,7 +22,7 @@ fn heading_of(alloc: Global, entry: &Entry) -> Result<Heading, NoMemory>
 {
     Ok(Heading {
         name: entry.name,
-        columns: columns_of(alloc, entry.columns.as_slice())?,
+        columns: column_defs(alloc, entry.columns.as_slice())?,
     })
 }
 
