@@ -5,7 +5,6 @@ ghost use Rattle.std.specs.Option.{option_copied};
 ghost use Rattle.std.specs.Ordering.{is_eq};
 ghost use Rattle.rs_base.specs.Name.{name_cmp, resolve};
 ghost use Rattle.rs_bind.specs.Denials.{first_denial};
-ghost use Rattle.rs_bind.specs.Entries.{defined};
 ghost use Rattle.rs_mean.specs.Plain as spec;
 ghost use Rattle.rs_mean.specs.Queries.{IsSelect};
 ghost use Rattle.rs_mean.specs.RowStatements.{answering, effect_of_bound, inserting, once_bound, updating};
@@ -13,9 +12,11 @@ ghost use Rattle.rs_mean.specs.RowStatements.{answering, effect_of_bound, insert
 use crate::bound_effect::rows_of_query;
 use crate::row_changes::{inserted, met, updated};
 use crate::selecting::selected;
-use rs_ast::{Clause, ColDef, ColDefs, Column, Columns, Dml, Select, Set, TableRef, TermRow};
+use rs_ast::{Clause, ColDefs, Columns, Dml, Select, Set, TableRef, TermRow};
 use rs_base::{Answer, Denial, Ident, NoMemory, Rows, SiteNo, Swn, with_room};
-use rs_bind::{Heading, Headings, bind_delete, bind_insert, bind_select, bind_update};
+use rs_bind::{
+    Heading, Headings, bind_delete, bind_insert, bind_select, bind_update, column_defs,
+};
 use rs_plan::{Bound, Swns};
 use rs_rows::{RowRun, StoredRows};
 use sqlite_items::Items;
@@ -46,30 +47,11 @@ fn table_named<'a>(tables: &'a [PlainTable], name: &Swn) -> Option<&'a PlainTabl
     tables.iter().find(|table| has_name(name, table))
 }
 
-fn defined(column: &Column) -> ColDef
-    ensures { result ≡ defined column.now }
-{
-    ColDef {
-        name: column.name,
-        kind: column.kind,
-    }
-}
-
-fn all_defined(alloc: Global, columns: &[Column]) -> Result<ColDefs, NoMemory>
-    ensures { IfOk result (λ defs. defs ≡ map defined columns.now) }
-{
-    let mut defs = with_room(alloc, columns.len())?;
-    for column in columns {
-        defs.push(defined(column))?;
-    }
-    Ok(defs)
-}
-
 fn columns_of(alloc: Global, table: Option<&PlainTable>) -> Result<ColDefs, NoMemory>
     ensures { IfOk result (λ defs. defs ≡ spec.columns_of (option_copied table.entry)) }
 {
     match table {
-        Some(table) => all_defined(alloc, table.columns.as_slice()),
+        Some(table) => column_defs(alloc, table.columns.as_slice()),
         None => Ok(ColDefs::new(alloc)),
     }
 }

@@ -1,6 +1,0 @@
-use Rattle.std.proofs.Common.{◌≡◌, map, take}
-use Rattle.rs_bind.specs.Entries.{defined}
-use Rattle.rs_mean.proofs.plain.all_defined.Given as goal
-
-abbrev pub invariant-loop-column : goal.invariant-loop-column
-invariant-loop-column l = l.defs ≡ map defined (take l.column-index l.columns)
