@@ -9,6 +9,7 @@ mod LawTables
 mod LawTests
 mod LawTouches
 pub mod Lawful
+mod Meeting
 pub mod Orders
 mod Selects
 mod UpdatedRows

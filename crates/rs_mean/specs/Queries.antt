@@ -1,5 +1,4 @@
 -- Bound statements that are queries.
-use Rattle.std.specs.Prelude.{⊥, Unit}
 use Rattle.rs_plan.specs.declared.bound.Bound.{Bound}
 use Rattle.rs_plan.specs.declared.bound.Bound.TheVariants as bounds
 

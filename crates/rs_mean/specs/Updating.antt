@@ -1,5 +1,5 @@
 -- Rows that are updated one after the other.
-use Rattle.std.specs.Prelude.{◌≡◌, ⊥, List, [], ◌∷◌, ◌++◌, Result, Ok, Err}
+use Rattle.std.specs.Prelude.{◌≡◌, List, [], ◌∷◌, ◌++◌, Result, Ok, Err}
 use Rattle.rs_base.specs.declared.reply.Denial.{Denial}
 use Rattle.rs_base.specs.declared.value.Value.{Value}
 

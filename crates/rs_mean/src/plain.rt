@@ -14,9 +14,7 @@ use crate::row_changes::{inserted, met, updated};
 use crate::selecting::selected;
 use rs_ast::{Clause, ColDefs, Columns, Dml, Select, Set, TableRef, TermRow};
 use rs_base::{Answer, Denial, Ident, NoMemory, Rows, SiteNo, Swn, with_room};
-use rs_bind::{
-    Heading, Headings, bind_delete, bind_insert, bind_select, bind_update, column_defs,
-};
+use rs_bind::{Heading, Headings, bind_delete, bind_insert, bind_select, bind_update, column_defs};
 use rs_plan::{Bound, Swns};
 use rs_rows::{RowRun, StoredRows};
 use sqlite_items::Items;

@@ -1,7 +1,7 @@
 //! What changes of rows make of the rows of a table.
 
 ghost use Rattle.std.specs.Prelude.{◌≡◌, [], ◌∷◌, ◌++◌, drop, length, take, map, IfOk, OnOk};
-ghost use Rattle.rs_eval.specs.Setting.{term_value};
+ghost use Rattle.rs_eval.specs.Setting.{row_set, term_value};
 ghost use Rattle.rs_mean.specs.RowChanges as spec;
 ghost use Rattle.rs_mean.specs.Updating.{Puts};
 
@@ -62,6 +62,24 @@ pub(crate) fn inserted(
 
 // ---- UPDATE
 
+/// Puts the row at the end as it is after the sets, or tells why it can't be set.
+fn push_set(
+    alloc: Global,
+    sets: &[BoundSet],
+    row: &[Value],
+    new: &mut StoredRows,
+) -> Result<Result<(), Denial>, NoMemory>
+    ensures { IfOk result (λ done. Puts done new.old new.new (row_set sets.now [] row.now)) }
+{
+    match set_row(alloc, sets, &[], row)? {
+        Ok(row) => {
+            new.push(alloc, row.as_slice())?;
+            Ok(Ok(()))
+        }
+        Err(cause) => Ok(Err(cause)),
+    }
+}
+
 /// Puts the row at the end, set where it meets the clauses, or tells why it can't be set.
 fn push_updated(
     alloc: Global,
@@ -72,16 +90,11 @@ fn push_updated(
 ) -> Result<Result<(), Denial>, NoMemory>
     ensures { IfOk result (λ done. Puts done new.old new.new (spec.updated_row sets.now clauses.now row.now)) }
 {
-    if !holds(clauses, row) {
+    if holds(clauses, row) {
+        push_set(alloc, sets, row, new)
+    } else {
         new.push(alloc, row)?;
-        return Ok(Ok(()));
-    }
-    match set_row(alloc, sets, &[], row)? {
-        Ok(row) => {
-            new.push(alloc, row.as_slice())?;
-            Ok(Ok(()))
-        }
-        Err(cause) => Ok(Err(cause)),
+        Ok(Ok(()))
     }
 }
 

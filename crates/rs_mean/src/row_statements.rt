@@ -40,10 +40,10 @@ impl Database {
     fn rows_in(&self, name: &Swn) -> RowRun<'_>
         ensures { result ≡ spec.rows_in self.now name.now }
     {
-        match self.table(name) {
-            Some(table) => table.rows.as_run(),
-            None => RowRun::empty(),
-        }
+        let Some(table) = self.table(name) else {
+            return RowRun::empty();
+        };
+        table.rows.as_run()
     }
 
     fn all_rows_in(&self, alloc: Global, names: &[Swn]) -> Result<Vec<RowRun<'_>>, NoMemory>
