@@ -1,7 +1,7 @@
 //! Fields read one after the other by `?`. Where none stands there the fault is `Malformed`, and the bytes stay as they
 //! were.
 
-ghost use Rattle.std.specs.Prelude.{◌≡◌, IfErr, IsErrOf};
+ghost use Rattle.std.specs.Prelude.{◌≡◌, Some, IfErr, IsErrOf};
 ghost use Rattle.rs_base.specs.Reading.{Reads};
 ghost use Rattle.rs_codec.specs.Reader as reader;
 
@@ -50,10 +50,11 @@ impl<'a> Fields<'a> {
         self.take_int().ok_or(ReadFault::Malformed)
     }
 
-    /// A copy of the bytes of a text. Where memory is wanting the text was passed over.
+    /// A copy of the bytes of a text. Memory is wanting only where a text stands there, which then was passed over.
     pub fn read_text(&mut self, alloc: Global) -> Result<Bytes, ReadFault>
         ensures read { Reads (reader.text_at self.old) result self.new }
         ensures stays { IsErrOf result ReadFault.Malformed → self.new ≡ self.old }
+        ensures passed { IsErrOf result ReadFault.NoMemory → reader.behind_text self.old ≡ Some self.new }
     {
         let text = self.take_text().ok_or(ReadFault::Malformed)?;
         Ok(Bytes::from_slice(alloc, text)?)
