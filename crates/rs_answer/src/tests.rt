@@ -169,3 +169,19 @@ fn only_a_whole_sum_overflows(rt: HostRuntime) -> Result<(), Fail> {
     assert!(rt; answers(rt.alloc(), overflows, None)?);
     Ok(())
 }
+
+// A query that counts alone answers the same from its joined rows and from their count.
+#[test]
+fn a_count_answers_a_query_that_counts_alone(rt: HostRuntime) -> Result<(), Fail> {
+    let query = Query {
+        distinct: true,
+        items: &[ShapeItem::Count],
+        group: Some(&[]),
+        ..PLAIN
+    };
+    let shape = shape_of(rt.alloc(), query)?;
+    assert!(rt; counts_alone(&shape));
+    assert!(rt; answers(rt.alloc(), query, Some(&[&[4]]))?);
+    assert!(rt; are_rows(&count_answer(rt.alloc(), 4)?, &[&[4]]));
+    Ok(())
+}
