@@ -1,5 +1,5 @@
 -- What binding a query gives is a query.
-use Rattle.std.proofs.Common.{◌≡◌, List, Option, Some, None, Ok, Err, refl, sym, subst}
+use Rattle.std.proofs.Common.{◌≡◌, List, Option, Some, None, Ok, subst}
 use Rattle.rs_base.specs.declared.reply.Denial.{Denial}
 use Rattle.rs_ast.specs.declared.select.Select.{Select}
 use Rattle.rs_plan.specs.declared.bound.Bound.{Bound}

@@ -2,7 +2,7 @@
 use Rattle.std.proofs.Common.{◌≡◌, List, [], ◌∷◌, ◌++◌, Result, Ok, Err, refl, sym, ap, ◌∙◌, append_assoc}
 use Rattle.rs_base.specs.declared.reply.Denial.{Denial}
 use Rattle.rs_base.specs.declared.value.Value.{Value}
-use Rattle.rs_mean.specs.RowChanges.{and_others, with_first}
+use Rattle.rs_mean.specs.RowChanges.{and_others}
 use Rattle.rs_mean.specs.Updating.{Puts}
 
 -- the items that were made, and those that are made of the rest
