@@ -3,7 +3,7 @@ use rs_ast::{
     Arith, BoundClause, BoundClauses, BoundCmp, BoundSet, BoundSets, BoundSide, BoundTerm, Op,
 };
 use rs_base::{Denial, Row, Rows, Txt, Value};
-use rs_rows::{RowRun, StoredRows};
+use rs_rows::StoredRows;
 use sqlite_items::Items;
 use std::alloc::Global;
 use std::cmp::Ordering;
@@ -165,30 +165,36 @@ fn columns_are_set_by_the_old_row(rt: HostRuntime) -> Result<(), Fail> {
     Ok(())
 }
 
-fn rows_of(
-    alloc: Global,
-    clauses: &[BoundClause],
-    tables: &[RowRun<'_>],
-) -> Result<Rows, Fail> {
-    match joined_rows(alloc, clauses, tables)? {
+fn rows_of(alloc: Global, clauses: &[BoundClause], tables: &[StoredRows]) -> Result<Rows, Fail> {
+    let mut runs = Vec::with_capacity(alloc, tables.len())?;
+    for rows in tables {
+        runs.push(rows.as_run())?;
+    }
+    match joined_rows(alloc, clauses, runs.as_slice())? {
         Ok(rows) => Ok(rows),
         Err(_denial) => Err("too many")?,
     }
 }
 
-/// Joins three tables. Places 0 and 1 are of the first, 2 and 3 of the second, 4 and 5 of the third.
-fn three_joined(alloc: Global) -> Result<Rows, Fail> {
-    let first = pairs(alloc, &[(1, 2), (3, 4), (1, 2)])?;
-    let second = pairs(alloc, &[(2, 1), (4, 6), (2, 3)])?;
-    let third = pairs(alloc, &[(6, 0), (3, 5), (1, 1)])?;
+/// Places 0 and 1 are of the first table, 2 and 3 of the second, 4 and 5 of the third.
+fn clauses_of_three(alloc: Global) -> Result<BoundClauses, Fail> {
     let mut clauses: BoundClauses = Items::new(alloc);
     clauses.push(same_or_below(alloc, 2, 1, 0)?)?;
     clauses.push(same_or_below(alloc, 4, 3, 0)?)?;
-    rows_of(
-        alloc,
-        clauses.as_slice(),
-        &[first.as_run(), second.as_run(), third.as_run()],
-    )
+    Ok(clauses)
+}
+
+fn three_joined(alloc: Global) -> Result<Rows, Fail> {
+    let clauses = clauses_of_three(alloc)?;
+    let mut tables = Vec::new(alloc);
+    for numbers in [
+        [(1, 2), (3, 4), (1, 2)],
+        [(2, 1), (4, 6), (2, 3)],
+        [(6, 0), (3, 5), (1, 1)],
+    ] {
+        tables.push(pairs(alloc, &numbers)?)?;
+    }
+    rows_of(alloc, clauses.as_slice(), tables.as_slice())
 }
 
 #[test]
