@@ -66,8 +66,8 @@ fn refusal_text(alloc: Global, refusal: &Refusal) -> Result<Bytes, NoMemory>
     Ok(text)
 }
 
-fn find_in(alloc: Global, bytes: &[u8]) -> Result<Owed, Fault>
-    ensures found { IfOk result (λ owed. spec.FoundIn bytes.now owed.finding owed.text) }
+fn find_in(alloc: Global, bytes: Bytes) -> Result<Owed, Fault>
+    ensures found { IfOk result (λ owed. spec.FoundIn bytes owed.finding owed.text) }
     ensures memory { IfErr result (λ fault. fault ≡ Fault.NoMemory) }
 {
     match report_text(alloc, bytes) {
@@ -97,7 +97,7 @@ fn find_owed<S: Source>(alloc: Global, words: &[String], source: &mut S) -> Resu
         });
     }
     let bytes = read_to_end(alloc, source, MOST_READ)?;
-    find_in(alloc, bytes.as_slice())
+    find_in(alloc, bytes)
 }
 
 /// Does the work of the program whose words these are, and answers its status:

@@ -1,4 +1,4 @@
-use Rattle.std.proofs.Common.{List, ℕ, subst, rules}
+use Rattle.std.proofs.Common.{rules}
 use Rattle.std.proofs.lemmas.Result.{IfOk-weaker}
 use Rattle.rstar.specs.declared.run.Owed.{Owed}
 use Rattle.rstar.specs.Run.{FoundIn, Finds}
@@ -11,7 +11,6 @@ returns-clause-found g c =
     let after = g.S.Source.left c.read_to_end.new.source in
     let bytes = c.in_ok-bytes.bytes in
     let read = c.in_ok-bytes.ensures in
-    IfOk-weaker c.find_in.result (λ (owed : Owed). FoundIn c.as_slice.result.now owed.finding owed.text) (λ (owed : Owed). Finds c.args.words.now left after owed.finding owed.text)
-    (λ owed found. finds_read c.args.words.now left after bytes owed.finding owed.text (c.is_replay.ensures.0 (search rules)) read.consumed read.within read.at_end
-    (subst (λ (bs : List ℕ). FoundIn bs owed.finding owed.text) c.as_slice.ensures found))
+    IfOk-weaker c.find_in.result (λ (owed : Owed). FoundIn bytes owed.finding owed.text) (λ (owed : Owed). Finds c.args.words.now left after owed.finding owed.text)
+    (λ owed found. finds_read c.args.words.now left after bytes owed.finding owed.text (c.is_replay.ensures.0 (search rules)) read.consumed read.within read.at_end found)
     c.find_in.ensures.found
