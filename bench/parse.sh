@@ -2,13 +2,7 @@
 # Plays asks whose texts cost to parse, and prints how many texts a second the built program takes: an INSERT of 500
 # tuples into no table, a SELECT of six tables with ten clauses, and texts of 4,096 and 8,192 bytes that go wrong early or
 # late, whose time should go with their length. It is no test. PROGRAM names another program than the built one.
-set -eu
-cd "$(dirname "${BASH_SOURCE[0]}")/.."
-if [ -z "${PROGRAM:-}" ]; then
-  echo 'sites 1' | ./rstar replay >/dev/null
-  PROGRAM=crates/rstar/out/rstar
-fi
-export PROGRAM
+source "$(dirname "${BASH_SOURCE[0]}")/program.sh"
 
 python3 - <<'PYTHON'
 import os

@@ -3,13 +3,7 @@
 # those of the same schedule without it: a join of two tables of 1,000 rows each, a GROUP BY over 50,000 rows, and an UPDATE
 # of 50,000 rows; and how many times as long the last two take where the rows double within a table's limits (25,000 and
 # 50,000 rows). It is no test. PROGRAM names another program than the built one.
-set -eu
-cd "$(dirname "${BASH_SOURCE[0]}")/.."
-if [ -z "${PROGRAM:-}" ]; then
-  echo 'sites 1' | ./rstar replay >/dev/null
-  PROGRAM=crates/rstar/out/rstar
-fi
-export PROGRAM
+source "$(dirname "${BASH_SOURCE[0]}")/program.sh"
 
 python3 - <<'PYTHON'
 import os

@@ -2,13 +2,7 @@
 # Plays a table and 10,000, 20,000 and 40,000 asks that insert one row each, and prints how long the built program took,
 # the best of five runs, and the most memory that it held. It is no test. PROGRAM names another program than the built
 # one.
-set -eu
-cd "$(dirname "${BASH_SOURCE[0]}")/.."
-if [ -z "${PROGRAM:-}" ]; then
-  echo 'sites 1' | ./rstar replay >/dev/null
-  PROGRAM=crates/rstar/out/rstar
-fi
-export PROGRAM
+source "$(dirname "${BASH_SOURCE[0]}")/program.sh"
 
 python3 - <<'PYTHON'
 import os
