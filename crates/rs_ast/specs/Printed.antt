@@ -1,5 +1,5 @@
 -- The text of a statement: its tokens, with a space between two but where they touch.
-use Rattle.std.specs.Prelude.{ℕ, Bool, true, false, ◌||◌, List, [], ◌∷◌, ◌++◌, map, bytes_eq, codes, decimal, if◌then◌else◌}
+use Rattle.std.specs.Prelude.{ℕ, Bool, true, false, ◌||◌, List, [], ◌∷◌, ◌++◌, map, codes, decimal, if◌then◌else◌}
 use Rattle.std.specs.Char.{to_ascii_uppercase}
 use Rattle.rs_base.specs.Printing.{printed_text}
 use Rattle.rs_ast.specs.declared.token.Mark.{Mark}
