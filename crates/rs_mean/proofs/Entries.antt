@@ -1,13 +1,14 @@
 -- Entries of a map in order of keys.
-use Rattle.std.proofs.Common.{◌≡◌, ◌≢◌, List, [], ◌∷◌, false, cond, Some, None, Ordering, Less, Equal, Greater, refl, sym, ap, ◌∙◌, is_eq}
+use Rattle.std.proofs.Common.{◌≡◌, ◌≢◌, List, [], ◌∷◌, Bool, true, false, cond, Some, None, Ordering, Less, Equal, Greater, refl, sym, ap, ◌∙◌, is_eq}
 use Rattle.std.specs.Cmp.{IsTotalOrder}
 use Rattle.std.specs.BTreeMap.{insert_entry, is_at}
 use Rattle.std.specs.List.{AllByRecursion}
 use Rattle.std.specs.List.Sorted.{IsStrictlySortedBy}
-use Rattle.std.specs.Map.{lookup, set_value, keys_of}
+use Rattle.std.specs.Map.{lookup, set_value, keys_of, remove_entry}
 use Rattle.std.specs.Ordering.{match_ordering, ordering_reverse}
-use Rattle.std.proofs.lemmas.Cmp.{tied_itself, alike_right}
-use Rattle.std.proofs.lemmas.Map.Keys.{sorted_head, sorted_tail}
+use Rattle.std.proofs.lemmas.Cmp.{tied_itself, alike_right, eq_by_cmp_equiv}
+use Rattle.std.proofs.lemmas.Map.{lookup-remove_entry}
+use Rattle.std.proofs.lemmas.Map.Keys.{sorted_head, sorted_tail, IsDistinct-from_sorted}
 use Rattle.std.proofs.lemmas.Map.Lookups.{CmpEqualImpliesEq}
 
 pub apart : {K : Type 0} {R : K → K → Ordering} → CmpEqualImpliesEq R → (x y : K) → x ≢ y → is_eq (R x y) ≡ false
@@ -89,3 +90,42 @@ module _ {K X : Type 0} {R : K → K → Ordering} (o : IsTotalOrder R) (k : K) 
           | Greater ↦ λ h. (all_keys_put (λ y. R e.0 y ≡ Less) es (o.antisymm e.0 k ∙ ap ordering_reverse h) up.0, keys_stay_sorted es up.1)
         ] in
         at (R k e.0) refl
+
+-- ---- entries that are taken out
+
+module _ {K X : Type 0} (R : K → K → Ordering) (test : K → Bool) where
+  all_keys_left : (P : K → Type 0) (es : List (K × X)) → AllByRecursion P (keys_of es) → AllByRecursion P (keys_of (remove_entry test es))
+  all_keys_left P [] all = tt
+  all_keys_left P (e ∷ es) all =
+      elim (test e.0) as (λ b. AllByRecursion P (keys_of (cond b es (e ∷ remove_entry test es)))) [ true ↦ all.1 | false ↦ (all.0, all_keys_left P es all.1) ]
+
+  -- keys in order stay so
+  pub left_in_order : (es : List (K × X)) → IsStrictlySortedBy R (keys_of es) → IsStrictlySortedBy R (keys_of (remove_entry test es))
+  unfolding IsStrictlySortedBy
+  left_in_order [] up = up
+  left_in_order (e ∷ es) up =
+      elim (test e.0) as (λ b. IsStrictlySortedBy R (keys_of (cond b es (e ∷ remove_entry test es))))
+      [ true ↦ up.1 | false ↦ (all_keys_left (λ y. R e.0 y ≡ Less) es up.0, left_in_order es up.1) ]
+
+module _ {K X : Type 0} {R : K → K → Ordering} (o : IsTotalOrder R) where
+  -- each other key keeps its value
+  pub lookup_left : (q k : K) → is_eq (R q k) ≡ false → (es : List (K × X)) → lookup (is_at (R q)) (remove_entry (is_at (R k)) es) ≡ lookup (is_at (R q)) es
+  lookup_left q k differ [] = refl
+  lookup_left q k differ (e ∷ es) =
+      let Claim : Ordering → Type 0 = λ r. R k e.0 ≡ r → lookup (is_at (R q)) (cond (is_eq r) es (e ∷ remove_entry (is_at (R k)) es)) ≡ lookup (is_at (R q)) (e ∷ es) in
+      let later : cond (is_eq (R q e.0)) (Some e.1) (lookup (is_at (R q)) (remove_entry (is_at (R k)) es)) ≡ lookup (is_at (R q)) (e ∷ es)
+      = ap (λ found. cond (is_eq (R q e.0)) (Some e.1) found) (lookup_left q k differ es) in
+      let at : (r : Ordering) → Claim r = λ r. elim r as Claim [
+        | Less ↦ λ h. later
+        | Equal ↦ λ h.
+            let other : is_eq (R q e.0) ≡ false = ap is_eq (sym (alike_right o k e.0 q h)) ∙ differ in
+            sym (ap (λ b. cond b (Some e.1) (lookup (is_at (R q)) es)) other)
+        | Greater ↦ λ h. later
+      ] in
+      at (R k e.0) refl
+
+  -- the key that was taken out has no value
+  pub lookup_gone : (k : K) (es : List (K × X)) → IsStrictlySortedBy R (keys_of es) → lookup (is_at (R k)) (remove_entry (is_at (R k)) es) ≡ None
+  lookup_gone k es up =
+      lookup-remove_entry (eq_by_cmp_equiv o) (is_at (R k)) (λ x y h. (eq_by_cmp_equiv o).congr k x y h) k es (IsDistinct-from_sorted R (keys_of es) up)
+      ∙ ap (λ r. cond (is_eq r) None (lookup (is_at (R k)) es)) (tied_itself o k)

@@ -120,7 +120,7 @@ kept_within (Some table) clauses within = record {
 
 -- ---- names
 
-apart_from : (name other : List ℕ) → bytes_eq other name ≡ false → other ≢ name
+pub apart_from : (name other : List ℕ) → bytes_eq other name ≡ false → other ≢ name
 apart_from name other e same = true≢false (sym ((bytes_eq-Decides other name).1 same) ∙ e)
 
 -- ---- columns
@@ -145,7 +145,8 @@ abbrev Differ : IndexOf → IndexOf → Type 0
 Differ one other = (one.name ≢ other.name) × (one.column ≢ other.column)
 
 module _ (new : IndexOf) where
-  all_differ : (indexes : List IndexOf) → has_index indexes new.name ≡ false → is_indexed indexes new.column ≡ false → All (λ one. Differ one new) indexes
+  -- no index has the name of the new one, or is on its column
+  pub all_differ : (indexes : List IndexOf) → has_index indexes new.name ≡ false → is_indexed indexes new.column ≡ false → All (λ one. Differ one new) indexes
   all_differ [] name column = All-nil (λ one. Differ one new)
   all_differ (index ∷ indexes) name column =
       let names = neither (bytes_eq index.name new.name) (has_index indexes new.name) name in

@@ -30,7 +30,7 @@ use Rattle.rs_mean.specs.declared.change.Change.{Change}
 use Rattle.rs_mean.specs.declared.change.Change.TheVariants as changes
 use Rattle.rs_mean.specs.declared.execution.Execution.{Execution}
 use Rattle.rs_mean.specs.Columns.{names_differ, has_name}
-use Rattle.rs_mean.specs.Database.{Database, table_named}
+use Rattle.rs_mean.specs.Database.{Database, table_named, target_of}
 use Rattle.rs_mean.specs.Effects.{done}
 use Rattle.rs_mean.specs.Meaning.{effect_of_stmt, effect_of, meaning}
 use Rattle.rs_mean.specs.Names.{name_of, own_synonym, site_test, table_tests}
@@ -87,6 +87,9 @@ place_in db name column = column_place (columns_of (table_named name db)) column
 
 pub record AddsIndex (db : Database) (txn : Txn) (name : Swn) (index column : List ℕ) (change : Change) (given : List Answer) : Type 0 where
   pub is : change ≡ changes.SetIndexes name (indexes_in db name ++ new_index txn index (place_in db name column) ∷ [])
+  pub answers : given ≡ answers.Ok ∷ []
+  pub there : IsThere db name
+  pub named : has_name (columns_of (table_named name db)) column ≡ true
   pub new_name : has_index (indexes_in db name) index ≡ false
   pub new_column : is_indexed (indexes_in db name) (place_in db name column) ≡ false
 
@@ -100,36 +103,56 @@ create_index_so db txn name index column =
     let table = there db name (test (not (has_name (columns_of (table_named name db)) column)) denials.NoColumn ∷ tests) e in
     let named = passed (test (not (has_name (columns_of (table_named name db)) column)) denials.NoColumn) tests table.1 in
     let new = neither (has_index (indexes_in db name) index) (is_indexed (indexes_in db name) (place_in db name column)) (passed (test clash denials.IndexExists) [] named.1).0 in
-    so_done (AddsIndex db txn name index column) change answers.Ok (record { is = refl; new_name = new.0; new_column = new.1 }))
+    so_done (AddsIndex db txn name index column) change answers.Ok
+    (record { is = refl; answers = refl; there = table.0; named = holds_if (has_name (columns_of (table_named name db)) column) named.0; new_name = new.0; new_column = new.1 }))
 
 pub record DropsIndex (db : Database) (name : Swn) (index : List ℕ) (change : Change) (given : List Answer) : Type 0 where
   pub is : change ≡ changes.SetIndexes name (without_index index (indexes_in db name))
+  pub answers : given ≡ answers.Ok ∷ []
+  pub there : IsThere db name
+  pub indexed : has_index (indexes_in db name) index ≡ true
 
 drop_index_so : (db : Database) (name : Swn) (index : List ℕ) → IsSo (DropsIndex db name index) (drop_index db name index)
 drop_index_so db name index =
     let change : Change = changes.SetIndexes name (without_index index (indexes_in db name)) in
     so_unless (DropsIndex db name index) (first_denial (drop_index_tests db name index)) (done change answers.Ok)
-    (λ e. so_done (DropsIndex db name index) change answers.Ok (record { is = refl }))
+    (λ e.
+    let no_index : Test = test (not (has_index (indexes_in db name) index)) denials.NoIndex in
+    let table = there db name (no_index ∷ []) e in
+    so_done (DropsIndex db name index) change answers.Ok
+    (record { is = refl; answers = refl; there = table.0; indexed = holds_if (has_index (indexes_in db name) index) (passed no_index [] table.1).0 }))
 
 -- ---- CREATE SYNONYM, DROP SYNONYM
 
-pub record AddsSynonym (execution : Execution) (synonym : List ℕ) (name : Swn) (change : Change) (given : List Answer) : Type 0 where
+pub record AddsSynonym (db : Database) (execution : Execution) (synonym : List ℕ) (name : Swn) (change : Change) (given : List Answer) : Type 0 where
   pub is : change ≡ changes.PutSynonym (own_synonym execution synonym) name
+  pub answers : given ≡ answers.Ok ∷ []
+  pub absent : target_of (own_synonym execution synonym) db ≡ None
 
-create_synonym_so : (db : Database) (execution : Execution) (synonym : List ℕ) (name : Swn) → IsSo (AddsSynonym execution synonym name) (create_synonym db execution synonym name)
+create_synonym_so : (db : Database) (execution : Execution) (synonym : List ℕ) (name : Swn)
+    → IsSo (AddsSynonym db execution synonym name) (create_synonym db execution synonym name)
 create_synonym_so db execution synonym name =
     let change : Change = changes.PutSynonym (own_synonym execution synonym) name in
-    so_unless (AddsSynonym execution synonym name) (first_denial (create_synonym_tests db execution synonym name)) (done change answers.Ok)
-    (λ e. so_done (AddsSynonym execution synonym name) change answers.Ok (record { is = refl }))
+    so_unless (AddsSynonym db execution synonym name) (first_denial (create_synonym_tests db execution synonym name)) (done change answers.Ok)
+    (λ e.
+    let taken : Test = test (is_some (target_of (own_synonym execution synonym) db)) denials.SynonymExists in
+    let free = passed taken [] (passed (site_test db name) (taken ∷ []) e).1 in
+    so_done (AddsSynonym db execution synonym name) change answers.Ok
+    (record { is = refl; answers = refl; absent = absent_if (target_of (own_synonym execution synonym) db) free.0 }))
 
-pub record DropsSynonym (execution : Execution) (synonym : List ℕ) (change : Change) (given : List Answer) : Type 0 where
+pub record DropsSynonym (db : Database) (execution : Execution) (synonym : List ℕ) (change : Change) (given : List Answer) : Type 0 where
   pub is : change ≡ changes.DropSynonym (own_synonym execution synonym)
+  pub answers : given ≡ answers.Ok ∷ []
+  pub there : is_some (target_of (own_synonym execution synonym) db) ≡ true
 
-drop_synonym_so : (db : Database) (execution : Execution) (synonym : List ℕ) → IsSo (DropsSynonym execution synonym) (drop_synonym db execution synonym)
+drop_synonym_so : (db : Database) (execution : Execution) (synonym : List ℕ) → IsSo (DropsSynonym db execution synonym) (drop_synonym db execution synonym)
 drop_synonym_so db execution synonym =
     let change : Change = changes.DropSynonym (own_synonym execution synonym) in
-    so_unless (DropsSynonym execution synonym) (first_denial (drop_synonym_tests db execution synonym)) (done change answers.Ok)
-    (λ e. so_done (DropsSynonym execution synonym) change answers.Ok (record { is = refl }))
+    so_unless (DropsSynonym db execution synonym) (first_denial (drop_synonym_tests db execution synonym)) (done change answers.Ok)
+    (λ e.
+    let found : Bool = is_some (target_of (own_synonym execution synonym) db) in
+    so_done (DropsSynonym db execution synonym) change answers.Ok
+    (record { is = refl; answers = refl; there = holds_if found (passed (test (not found) denials.NoSynonym) [] e).0 }))
 
 -- ---- SELECT
 
@@ -264,8 +287,8 @@ Does db execution (stmts.CreateTable written columns) = Creates db execution.txn
 Does db execution (stmts.DropTable written) = Drops db (name_of db execution written)
 Does db execution (stmts.CreateIndex index written column) = AddsIndex db execution.txn (name_of db execution written) index column
 Does db execution (stmts.DropIndex index written) = DropsIndex db (name_of db execution written) index
-Does db execution (stmts.CreateSynonym synonym written) = AddsSynonym execution synonym (name_of db execution written)
-Does db execution (stmts.DropSynonym synonym) = DropsSynonym execution synonym
+Does db execution (stmts.CreateSynonym synonym written) = AddsSynonym db execution synonym (name_of db execution written)
+Does db execution (stmts.DropSynonym synonym) = DropsSynonym db execution synonym
 Does db execution (stmts.Dml dml) = DoesOfDml db execution dml
 
 dml_so : (db : Database) (execution : Execution) (dml : Dml) → IsSo (DoesOfDml db execution dml) (effect_of_dml db execution dml)

@@ -1,14 +1,7 @@
 -- What changes leave as it was, and what they put in the place of a table.
-use Rattle.std.proofs.Common.{◌≡◌, ◌≢◌, List, [], ◌∷◌, Bool, true, false, cond, Option, Some, None, Less, Equal, Greater, is_eq, refl, sym, ap, ◌∙◌}
+use Rattle.std.proofs.Common.{◌≡◌, ◌≢◌, false, Option, Some, None, is_eq, refl, sym, ap, ◌∙◌}
 use Rattle.std.specs.BTreeMap.{is_at}
-use Rattle.std.specs.List.{AllByRecursion}
-use Rattle.std.specs.List.Sorted.{IsStrictlySortedBy}
-use Rattle.std.specs.Map.{lookup, keys_of, remove_entry}
 use Rattle.std.specs.Option.{option_map}
-use Rattle.std.specs.declared.cmp.Ordering.{Ordering}
-use Rattle.std.proofs.lemmas.Cmp.{alike_right, tied_itself, eq_by_cmp_equiv}
-use Rattle.std.proofs.lemmas.Map.{lookup-remove_entry}
-use Rattle.std.proofs.lemmas.Map.Keys.{IsDistinct-from_sorted}
 use Rattle.rs_base.specs.declared.name.Swn.{Swn}
 use Rattle.rs_base.specs.Name.{name_cmp}
 use Rattle.rs_mean.specs.declared.change.Change.{Change}
@@ -16,7 +9,7 @@ use Rattle.rs_mean.specs.declared.change.Change.TheVariants as changes
 use Rattle.rs_mean.specs.declared.table.Table.{Table}
 use Rattle.rs_mean.specs.Changes.{changed, with_rows}
 use Rattle.rs_mean.specs.Database.{Database, table_named, without_table, changing, with_changed, IsInOrder}
-use Rattle.rs_mean.proofs.Entries.{apart, lookup_put, lookup_beside, keys_stay_sorted}
+use Rattle.rs_mean.proofs.Entries.{apart, lookup_put, lookup_beside, keys_stay_sorted, left_in_order, lookup_left, lookup_gone}
 use Rattle.rs_mean.proofs.Orders.{name_total, name_exact}
 
 -- ---- how many sites there are
@@ -37,19 +30,6 @@ sites_stay_at (changes.DropSynonym synonym) db = refl
 
 -- ---- the order of names
 
-module _ (test : Swn → Bool) where
-  all_keys_left : (P : Swn → Type 0) (es : List (Swn × Table)) → AllByRecursion P (keys_of es) → AllByRecursion P (keys_of (remove_entry test es))
-  all_keys_left P [] all = tt
-  all_keys_left P (e ∷ es) all =
-      elim (test e.0) as (λ b. AllByRecursion P (keys_of (cond b es (e ∷ remove_entry test es)))) [ true ↦ all.1 | false ↦ (all.0, all_keys_left P es all.1) ]
-
-  left_in_order : (es : List (Swn × Table)) → IsStrictlySortedBy name_cmp (keys_of es) → IsStrictlySortedBy name_cmp (keys_of (remove_entry test es))
-  unfolding IsStrictlySortedBy
-  left_in_order [] up = up
-  left_in_order (e ∷ es) up =
-      elim (test e.0) as (λ b. IsStrictlySortedBy name_cmp (keys_of (cond b es (e ∷ remove_entry test es))))
-      [ true ↦ up.1 | false ↦ (all_keys_left (λ y. name_cmp e.0 y ≡ Less) es up.0, left_in_order es up.1) ]
-
 changing_in_order : (name : Swn) (change : Table → Table) (found : Option Table) (db : Database) → IsInOrder db → IsInOrder (with_changed name change found db)
 changing_in_order name change None db up = up
 changing_in_order name change (Some table) db up = keys_stay_sorted name_total name (change table) db.tables up
@@ -57,7 +37,7 @@ changing_in_order name change (Some table) db up = keys_stay_sorted name_total n
 pub change_in_order : (change : Change) (db : Database) → IsInOrder db → IsInOrder (changed change db)
 change_in_order changes.Nothing db up = up
 change_in_order (changes.PutTable name table) db up = keys_stay_sorted name_total name table db.tables up
-change_in_order (changes.DropTable name) db up = left_in_order (is_at (name_cmp name)) db.tables up
+change_in_order (changes.DropTable name) db up = left_in_order name_cmp (is_at (name_cmp name)) db.tables up
 change_in_order (changes.SetIndexes name indexes) db up = changing_in_order name (λ table. record table { indexes = indexes }) (table_named name db) db up
 change_in_order (changes.AppendRows name rows) db up = changing_in_order name (with_rows rows) (table_named name db) db up
 change_in_order (changes.SetRows name rows) db up = changing_in_order name (λ table. record table { rows = rows }) (table_named name db) db up
@@ -78,22 +58,6 @@ TouchesOnly target (changes.PutSynonym synonym name) = Unit {0}
 TouchesOnly target (changes.DropSynonym synonym) = Unit {0}
 
 module _ (name own : Swn) (differ : is_eq (name_cmp name own) ≡ false) where
-  lookup_left : (es : List (Swn × Table)) → lookup (is_at (name_cmp name)) (remove_entry (is_at (name_cmp own)) es) ≡ lookup (is_at (name_cmp name)) es
-  lookup_left [] = refl
-  lookup_left (e ∷ es) =
-      let Claim : Ordering → Type 0 = λ r. name_cmp own e.0 ≡ r
-      → lookup (is_at (name_cmp name)) (cond (is_eq r) es (e ∷ remove_entry (is_at (name_cmp own)) es)) ≡ lookup (is_at (name_cmp name)) (e ∷ es) in
-      let later : cond (is_eq (name_cmp name e.0)) (Some e.1) (lookup (is_at (name_cmp name)) (remove_entry (is_at (name_cmp own)) es)) ≡ lookup (is_at (name_cmp name)) (e ∷ es)
-      = ap (λ found. cond (is_eq (name_cmp name e.0)) (Some e.1) found) (lookup_left es) in
-      let at : (r : Ordering) → Claim r = λ r. elim r as Claim [
-        | Less ↦ λ h. later
-        | Equal ↦ λ h.
-            let other : is_eq (name_cmp name e.0) ≡ false = ap is_eq (sym (alike_right name_total own e.0 name h)) ∙ differ in
-            sym (ap (λ b. cond b (Some e.1) (lookup (is_at (name_cmp name)) es)) other)
-        | Greater ↦ λ h. later
-      ] in
-      at (name_cmp own e.0) refl
-
   changing_beside : (change : Table → Table) (found : Option Table) (db : Database) → table_named name (with_changed own change found db) ≡ table_named name db
   changing_beside change None db = refl
   changing_beside change (Some table) db = lookup_beside name_total own (change table) name differ db.tables
@@ -106,7 +70,7 @@ pub others_stay_at : (target : Option Swn) (name : Swn) (change : Change) (db : 
     → table_named name (changed change db) ≡ table_named name db
 others_stay_at target name changes.Nothing db other only = refl
 others_stay_at target name (changes.PutTable own table) db other only = lookup_beside name_total own table name (beside target name own only other) db.tables
-others_stay_at target name (changes.DropTable own) db other only = lookup_left name own (beside target name own only other) db.tables
+others_stay_at target name (changes.DropTable own) db other only = lookup_left name_total name own (beside target name own only other) db.tables
 others_stay_at target name (changes.SetIndexes own indexes) db other only =
     changing_beside name own (beside target name own only other) (λ table. record table { indexes = indexes }) (table_named own db) db
 others_stay_at target name (changes.AppendRows own rows) db other only = changing_beside name own (beside target name own only other) (with_rows rows) (table_named own db) db
@@ -149,9 +113,7 @@ named_put name table db = lookup_put name_total name table db.tables
 
 -- no table has the name of one that was dropped
 pub named_dropped : (name : Swn) (db : Database) → IsInOrder db → table_named name (without_table name db) ≡ None
-named_dropped name db up =
-    lookup-remove_entry (eq_by_cmp_equiv name_total) (is_at (name_cmp name)) (λ x y h. (eq_by_cmp_equiv name_total).congr name x y h) name db.tables (IsDistinct-from_sorted name_cmp (keys_of db.tables) up)
-    ∙ ap (λ r. cond (is_eq r) None (lookup (is_at (name_cmp name)) db.tables)) (tied_itself name_total name)
+named_dropped name db up = lookup_gone name_total name db.tables up
 
 module _ (name : Swn) (change : Table → Table) (db : Database) where
   named_found : (found : Option Table) → table_named name db ≡ found → table_named name (with_changed name change found db) ≡ option_map change found

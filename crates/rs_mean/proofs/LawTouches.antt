@@ -1,5 +1,5 @@
 -- What each statement may change.
-use Rattle.std.proofs.Common.{List, Option, Some, None, refl, sym, subst}
+use Rattle.std.proofs.Common.{ℕ, List, Option, Some, None, refl, sym, subst}
 use Rattle.std.specs.Option.{option_map}
 use Rattle.rs_base.specs.declared.name.NameText.{NameText}
 use Rattle.rs_base.specs.declared.name.Swn.{Swn}
@@ -10,10 +10,12 @@ use Rattle.rs_mean.specs.declared.built.Stmt.{Stmt}
 use Rattle.rs_mean.specs.declared.built.Stmt.TheVariants as stmts
 use Rattle.rs_mean.specs.declared.change.Change.{Change}
 use Rattle.rs_mean.specs.declared.execution.Execution.{Execution}
+use Rattle.rs_mean.specs.declared.synonym.Synonym.{Synonym}
 use Rattle.rs_mean.specs.Database.{Database}
-use Rattle.rs_mean.specs.Laws.{LeavesSynonyms, written_of_dml, written_of}
-use Rattle.rs_mean.specs.Names.{name_of}
+use Rattle.rs_mean.specs.Laws.{LeavesSynonyms, written_of_dml, written_of, synonym_of}
+use Rattle.rs_mean.specs.Names.{name_of, own_synonym}
 use Rattle.rs_mean.proofs.LawStatements.{DoesOfDml, Does}
+use Rattle.rs_mean.proofs.LawSynonyms.{TouchesSynonym}
 use Rattle.rs_mean.proofs.LawTables.{TouchesOnly, IsOfTables}
 
 module _ (db : Database) (execution : Execution) (change : Change) (given : List Answer) where
@@ -49,3 +51,21 @@ module _ (db : Database) (execution : Execution) (change : Change) (given : List
   of_tables (stmts.CreateSynonym synonym written) leaves so = absurd leaves
   of_tables (stmts.DropSynonym synonym) leaves so = absurd leaves
   of_tables (stmts.Dml dml) leaves so = dml_of_tables dml so
+
+  abbrev own : Option (List ℕ) → Option Synonym
+  own synonym = option_map (own_synonym execution) synonym
+
+  dml_of_synonyms : (dml : Dml) → DoesOfDml db execution dml change given → TouchesSynonym None change
+  dml_of_synonyms (dmls.Select query) so = subst (TouchesSynonym None) (sym so.is) tt
+  dml_of_synonyms (dmls.Insert written rows) so = subst (TouchesSynonym None) (sym so.is) tt
+  dml_of_synonyms (dmls.Update written sets clauses) so = subst (TouchesSynonym None) (sym so.is) tt
+  dml_of_synonyms (dmls.Delete written clauses) so = subst (TouchesSynonym None) (sym so.is) tt
+
+  pub touches_synonym : (stmt : Stmt) → Does db execution stmt change given → TouchesSynonym (own (synonym_of stmt)) change
+  touches_synonym (stmts.CreateTable written columns) so = subst (TouchesSynonym None) (sym so.is) tt
+  touches_synonym (stmts.DropTable written) so = subst (TouchesSynonym None) (sym so.is) tt
+  touches_synonym (stmts.CreateIndex index written column) so = subst (TouchesSynonym None) (sym so.is) tt
+  touches_synonym (stmts.DropIndex index written) so = subst (TouchesSynonym None) (sym so.is) tt
+  touches_synonym (stmts.CreateSynonym synonym written) so = subst (TouchesSynonym (own (Some synonym))) (sym so.is) refl
+  touches_synonym (stmts.DropSynonym synonym) so = subst (TouchesSynonym (own (Some synonym))) (sym so.is) refl
+  touches_synonym (stmts.Dml dml) so = dml_of_synonyms dml so

@@ -1,5 +1,5 @@
 -- The laws.
-use Rattle.std.proofs.Common.{◌≡◌, List, [], ◌∷◌, map, length, is_none, false, Option, Some, None, IsSome, refl, ap, ◌∙◌, subst, arith}
+use Rattle.std.proofs.Common.{◌≡◌, List, [], ◌∷◌, ◌++◌, map, length, is_none, true, false, Option, Some, None, IsSome, refl, ap, ◌∙◌, subst, arith}
 use Rattle.std.specs.List.Sorted.{IsStrictlySortedBy}
 use Rattle.std.specs.Option.{option_map}
 use Rattle.std.proofs.lemmas.List.Elements.{All-nil}
@@ -8,27 +8,35 @@ use Rattle.rs_base.specs.declared.reply.Answer.{Answer}
 use Rattle.rs_base.specs.declared.reply.Answer.TheVariants as answers
 use Rattle.rs_base.specs.declared.value.Value.{Value}
 use Rattle.rs_ast.specs.declared.change.Term.TheVariants as terms
+use Rattle.rs_ast.specs.declared.entry.IndexOf.{IndexOf}
 use Rattle.rs_ast.specs.declared.stmt.Dml.TheVariants as dmls
 use Rattle.rs_mean.specs.declared.built.Stmt.{Stmt}
 use Rattle.rs_mean.specs.declared.built.Stmt.TheVariants as stmts
+use Rattle.rs_mean.specs.declared.change.Change.{Change}
 use Rattle.rs_mean.specs.declared.change.Change.TheVariants as changes
 use Rattle.rs_mean.specs.declared.execution.Execution.{Execution}
+use Rattle.rs_mean.specs.declared.synonym.Synonym.{Synonym}
 use Rattle.rs_mean.specs.declared.table.Table.{Table}
 use Rattle.rs_mean.specs.Changes.{changed, with_rows}
-use Rattle.rs_mean.specs.Database.{Database, table_named}
-use Rattle.rs_mean.specs.Laws.{DeniedChangesNothing, SelectChangesNothing, SitesStay, NamesStayInOrder, OthersStay, SynonymsStay, TableIsMade, TableIsDropped, RowsAreAppended, RowsAreTakenOut, RowsAreChanged, EachTable, IsWithin, TablesStayWithin, HasDistinctColumns, ColumnsStayDistinct, HasDistinctIndexes, IndexesStayDistinct, written_of}
+use Rattle.rs_mean.specs.Columns.{has_name}
+use Rattle.rs_mean.specs.Database.{Database, table_named, target_of}
+use Rattle.rs_mean.specs.Laws.{DeniedChangesNothing, SelectChangesNothing, SitesStay, NamesStayInOrder, SynonymsStayInOrder, OthersStay, SynonymsStay, OtherSynonymsStay, IndexIsMade, IndexIsDropped, SynonymIsMade, SynonymIsDropped, TableIsMade, TableIsDropped, RowsAreAppended, RowsAreTakenOut, RowsAreChanged, EachTable, IsWithin, TablesStayWithin, HasDistinctColumns, ColumnsStayDistinct, HasDistinctIndexes, IndexesStayDistinct, written_of, synonym_of}
 use Rattle.rs_mean.specs.Meaning.{effect_of, meaning}
-use Rattle.rs_mean.specs.Names.{name_of}
+use Rattle.rs_mean.specs.Names.{name_of, own_synonym}
 use Rattle.rs_mean.specs.RowChanges.{kept, met}
 use Rattle.rs_mean.specs.RowStatements.{rows_of}
-use Rattle.rs_mean.specs.TableStatements.{new_table}
+use Rattle.rs_mean.specs.TableStatements.{new_table, columns_of, indexes_of, column_place, has_index, is_indexed, new_index, without_index}
+use Rattle.rs_mean.proofs.Entries.{lookup_put, lookup_gone}
 use Rattle.rs_mean.proofs.LawEffects.{holds_of_change}
-use Rattle.rs_mean.proofs.LawKept.{Keeps, each_changed}
+use Rattle.rs_mean.proofs.LawIndexes.{name_at, none_of_name}
+use Rattle.rs_mean.proofs.LawKept.{Keeps, each_changed, all_differ}
 use Rattle.rs_mean.proofs.LawRows.{given_as_written, as_many_updated, met_at_most, kept_and_met}
-use Rattle.rs_mean.proofs.LawTouches.{touches, of_tables}
+use Rattle.rs_mean.proofs.LawSynonyms.{TouchesSynonym, other_synonyms_at, synonyms_in_order}
+use Rattle.rs_mean.proofs.LawTouches.{touches, of_tables, touches_synonym}
 use Rattle.rs_mean.proofs.LawStays.{stays_within, columns_stay, indexes_stay}
 use Rattle.rs_mean.proofs.LawStatements.{Does, does, effect_so, scope_in}
 use Rattle.rs_mean.proofs.LawTables.{sites_stay_at, change_in_order, TouchesOnly, others_stay_at, IsOfTables, synonyms_stay_at, named_put, named_dropped, named_changing}
+use Rattle.rs_mean.proofs.Orders.{synonym_total}
 
 -- ---- what stays
 
@@ -52,6 +60,10 @@ pub names_stay_in_order : NamesStayInOrder
 unfolding meaning IsStrictlySortedBy
 names_stay_in_order = (λ sites. tt, λ db execution up. change_in_order (effect_of db execution).change db up)
 
+pub synonyms_stay_in_order : SynonymsStayInOrder
+unfolding meaning IsStrictlySortedBy
+synonyms_stay_in_order = (λ sites. tt, λ db execution up. synonyms_in_order db up (effect_of db execution).change)
+
 -- ---- what a statement may change
 
 pub others_stay : OthersStay
@@ -70,6 +82,15 @@ synonyms_stay db execution leaves =
     = holds_of_change (Does db execution execution.stmt) IsOfTables (effect_of db execution) (effect_so db execution) tt
     (λ given so. of_tables db execution (effect_of db execution).change given execution.stmt leaves so) in
     synonyms_stay_at (effect_of db execution).change db is
+
+pub other_synonyms_stay : OtherSynonymsStay
+unfolding meaning
+other_synonyms_stay db execution synonym other =
+    let target : Option Synonym = option_map (own_synonym execution) (synonym_of execution.stmt) in
+    let only : TouchesSynonym target (effect_of db execution).change
+    = holds_of_change (Does db execution execution.stmt) (TouchesSynonym target) (effect_of db execution) (effect_so db execution) tt
+    (λ given so. touches_synonym db execution (effect_of db execution).change given execution.stmt so) in
+    other_synonyms_at db target synonym (effect_of db execution).change other only
 
 -- ---- what is there after a statement that was done
 
@@ -144,6 +165,63 @@ rows_are_changed db execution written sets clauses given is e =
     let tells : given ≡ answers.Changed (met so.clauses old.rows) ∷ [] = so.answers ∙ ap (λ (all : List (List Value)). answers.Changed (met so.clauses all) ∷ []) rows in
     let as_many : length so.new ≡ length old.rows = as_many_updated so.sets so.clauses (rows_of (table_named name db)) so.new so.made ∙ ap (λ (all : List (List Value)). length all) rows in
     (met so.clauses old.rows, old, new, tells, met_at_most so.clauses old.rows, found.1, put, record { made = refl; columns = refl; indexes = refl; rows = omega arith })
+
+-- the table that was there, and the one with these indexes
+set_indexes : (name : Swn) (indexes : List IndexOf) (db : Database) (old : Table) → table_named name db ≡ Some old
+    → table_named name (changed (changes.SetIndexes name indexes) db) ≡ Some (record old { indexes = indexes })
+set_indexes name indexes db old found =
+    named_changing name (λ table. record table { indexes = indexes }) db ∙ ap (λ option. option_map (λ (table : Table). record table { indexes = indexes }) option) found
+
+pub index_is_made : IndexIsMade
+unfolding meaning
+index_is_made db execution name written column given is e =
+    let so = does db execution (stmts.CreateIndex name written column) given is e in
+    let own : Swn = name_of db execution written in
+    let found = found_if (table_named own db) so.there in
+    let old : Table = found.0 in
+    let index : IndexOf = new_index execution.txn name (column_place old.columns column) in
+    let new : Table = record old { indexes = old.indexes ++ index ∷ [] } in
+    let made : Option Table → Change = λ table. changes.SetIndexes own (indexes_of table ++ new_index execution.txn name (column_place (columns_of table) column) ∷ []) in
+    let put : table_named own (changed (effect_of db execution).change db) ≡ Some new
+    = ap (λ change. table_named own (changed change db)) (so.is ∙ ap made found.1) ∙ set_indexes own (old.indexes ++ index ∷ []) db old found.1 in
+    let named : has_name old.columns column ≡ true = subst (λ table. has_name (columns_of table) column ≡ true) found.1 so.named in
+    let new_name : has_index old.indexes name ≡ false = subst (λ table. has_index (indexes_of table) name ≡ false) found.1 so.new_name in
+    let new_column : is_indexed old.indexes index.column ≡ false
+    = subst (λ table. is_indexed (indexes_of table) (column_place (columns_of table) column) ≡ false) found.1 so.new_column in
+    (old, new, index, so.answers, refl, refl, λ few. name_at column old.columns few named, found.1, put,
+    record { fresh = all_differ index old.indexes new_name new_column; is = refl })
+
+pub index_is_dropped : IndexIsDropped
+unfolding meaning
+index_is_dropped db execution name written given is e =
+    let so = does db execution (stmts.DropIndex name written) given is e in
+    let own : Swn = name_of db execution written in
+    let found = found_if (table_named own db) so.there in
+    let old : Table = found.0 in
+    let new : Table = record old { indexes = without_index name old.indexes } in
+    let put : table_named own (changed (effect_of db execution).change db) ≡ Some new
+    = ap (λ change. table_named own (changed change db)) (so.is ∙ ap (λ table. changes.SetIndexes own (without_index name (indexes_of table))) found.1)
+    ∙ set_indexes own (without_index name old.indexes) db old found.1 in
+    let there : has_index old.indexes name ≡ true = subst (λ table. has_index (indexes_of table) name ≡ true) found.1 so.indexed in
+    (old, new, so.answers, found.1, put, record { there = there; gone = none_of_name name old.indexes; is = refl })
+
+pub synonym_is_made : SynonymIsMade
+unfolding meaning
+synonym_is_made db execution synonym written given is e =
+    let so = does db execution (stmts.CreateSynonym synonym written) given is e in
+    let own : Synonym = own_synonym execution synonym in
+    let put : target_of own (changed (effect_of db execution).change db) ≡ Some (name_of db execution written)
+    = ap (λ change. target_of own (changed change db)) so.is ∙ lookup_put synonym_total own (name_of db execution written) db.synonyms in
+    (so.answers, so.absent, put)
+
+pub synonym_is_dropped : SynonymIsDropped
+unfolding meaning
+synonym_is_dropped db execution synonym given up is e =
+    let so = does db execution (stmts.DropSynonym synonym) given is e in
+    let own : Synonym = own_synonym execution synonym in
+    let none : target_of own (changed (effect_of db execution).change db) ≡ None
+    = ap (λ change. target_of own (changed change db)) so.is ∙ lookup_gone synonym_total own db.synonyms up in
+    (so.answers, so.there, none)
 
 -- ---- what every table keeps
 

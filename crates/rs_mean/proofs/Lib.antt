@@ -1,10 +1,12 @@
 mod Counts
 pub mod Entries
 mod LawEffects
+mod LawIndexes
 mod LawKept
 mod LawRows
 mod LawStatements
 mod LawStays
+mod LawSynonyms
 mod LawTables
 mod LawTests
 mod LawTouches

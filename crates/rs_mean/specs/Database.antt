@@ -67,3 +67,7 @@ with_synonym synonym name db = record db { synonyms = insert_entry synonym_cmp d
 -- the database without this synonym
 abbrev pub without_synonym : Synonym → Database → Database
 without_synonym synonym db = record db { synonyms = remove_entry (is_at (synonym_cmp synonym)) db.synonyms }
+
+-- each synonym stands once, and the synonyms rise
+abbrev pub AreSynonymsInOrder : Database → Type 0
+AreSynonymsInOrder db = IsStrictlySortedBy synonym_cmp (keys_of db.synonyms)

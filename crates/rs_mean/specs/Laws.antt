@@ -1,5 +1,6 @@
 -- What holds of every execution, whatever the database.
-use Rattle.std.specs.Prelude.{◌≡◌, ◌≢◌, ◌≤◌, ℕ, ◌+◌, All, AllPairs, List, [], ◌∷◌, map, length, Option, Some, None, Ok, Err, IsSome, option_map}
+use Rattle.std.specs.Prelude.{◌≡◌, ◌≢◌, ◌≤◌, ℕ, ◌+◌, not, bytes_eq, IsTrue, All, AllPairs, List, [], ◌∷◌, ◌++◌, map, filter, length, slice_get, Option, Some, None, Ok, Err, IsSome, option_map}
+use Rattle.std.specs.List.{list_any}
 use Rattle.std.specs.Map.{values_of}
 use Rattle.rs_base.specs.declared.name.NameText.{NameText}
 use Rattle.rs_base.specs.declared.name.Swn.{Swn}
@@ -12,19 +13,21 @@ use Rattle.rs_ast.specs.declared.change.Set.{Set}
 use Rattle.rs_ast.specs.declared.change.Term.TheVariants as terms
 use Rattle.rs_ast.specs.declared.clause.Clause.{Clause}
 use Rattle.rs_ast.specs.declared.column.ColDef.{ColDef}
+use Rattle.rs_ast.specs.declared.entry.IndexOf.{IndexOf}
 use Rattle.rs_ast.specs.declared.select.Select.{Select}
 use Rattle.rs_ast.specs.declared.stmt.Dml.{Dml}
 use Rattle.rs_ast.specs.declared.stmt.Dml.TheVariants as dmls
 use Rattle.rs_mean.specs.declared.built.Stmt.{Stmt}
 use Rattle.rs_mean.specs.declared.built.Stmt.TheVariants as stmts
 use Rattle.rs_mean.specs.declared.execution.Execution.{Execution}
+use Rattle.rs_mean.specs.declared.synonym.Synonym.{Synonym}
 use Rattle.rs_mean.specs.declared.table.Table.{Table}
 use Rattle.rs_mean.specs.Changes.{with_rows}
-use Rattle.rs_mean.specs.Database.{Database, empty, table_named, IsInOrder}
+use Rattle.rs_mean.specs.Database.{Database, empty, table_named, IsInOrder, target_of, AreSynonymsInOrder}
 use Rattle.rs_rows.specs.Sizes.{rows_size}
 use Rattle.rs_mean.specs.Limits.{max_row_bytes, max_rows, max_table_bytes}
 use Rattle.rs_mean.specs.Meaning.{meaning}
-use Rattle.rs_mean.specs.Names.{name_of}
+use Rattle.rs_mean.specs.Names.{name_of, own_synonym}
 
 -- the database after the execution
 abbrev pub after : Database → Execution → Database
@@ -41,6 +44,10 @@ SelectChangesNothing = (db : Database) (execution : Execution) (query : Select) 
 -- no execution changes how many sites there are
 abbrev pub SitesStay : Type 0
 SitesStay = (db : Database) (execution : Execution) → (after db execution).sites ≡ db.sites
+
+-- each synonym stands once, and the synonyms rise, at first and after each execution
+abbrev pub SynonymsStayInOrder : Type 0
+SynonymsStayInOrder = ((sites : ℕ) → AreSynonymsInOrder (empty sites)) × ((db : Database) (execution : Execution) → AreSynonymsInOrder db → AreSynonymsInOrder (after db execution))
 
 -- each name stands once, and the names rise, at first and after each execution
 abbrev pub NamesStayInOrder : Type 0
@@ -85,6 +92,23 @@ LeavesSynonyms (stmts.Dml dml) = Unit {0}
 -- only statements on synonyms change what synonyms stand for
 abbrev pub SynonymsStay : Type 0
 SynonymsStay = (db : Database) (execution : Execution) → LeavesSynonyms execution.stmt → (after db execution).synonyms ≡ db.synonyms
+
+-- the synonym that a statement may change, and the user's own of this name at the asked site
+abbrev pub synonym_of : Stmt → Option (List ℕ)
+synonym_of (stmts.CreateTable written columns) = None
+synonym_of (stmts.DropTable written) = None
+synonym_of (stmts.CreateIndex index written column) = None
+synonym_of (stmts.DropIndex index written) = None
+synonym_of (stmts.CreateSynonym synonym written) = Some synonym
+synonym_of (stmts.DropSynonym synonym) = Some synonym
+synonym_of (stmts.Dml dml) = None
+
+abbrev pub target_synonym : Execution → Option Synonym
+target_synonym execution = option_map (own_synonym execution) (synonym_of execution.stmt)
+
+-- an execution touches no synonym but its own: none of another user, and none at another site
+abbrev pub OtherSynonymsStay : Type 0
+OtherSynonymsStay = (db : Database) (execution : Execution) (synonym : Synonym) → target_synonym execution ≢ Some synonym → target_of synonym (after db execution) ≡ target_of synonym db
 
 -- ---- what is there after a statement that was done
 
@@ -132,6 +156,52 @@ RowsAreChanged = (db : Database) (execution : Execution) (written : NameText) (s
     → execution.stmt ≡ stmts.Dml (dmls.Update written sets clauses) → (meaning db execution).1 ≡ Ok given
     → (count : ℕ) × (old : Table) × (new : Table) × (given ≡ answers.Changed count ∷ []) × (count ≤ length old.rows)
     × (table_named (name_of db execution written) db ≡ Some old) × (table_named (name_of db execution written) (after db execution) ≡ Some new) × HasLost 0 old new
+
+-- the column at this place has this name
+abbrev pub IsNameAt : List ℕ → List ColDef → ℕ → Type 0
+IsNameAt name columns place = option_map (λ column. column.name) (slice_get columns place) ≡ Some name
+
+-- A table has an index more, at the end of those that it had, none of which has its name or is on its column.
+pub record HasGained (index : IndexOf) (old new : Table) : Type 0 where
+  pub fresh : All (λ other. (other.name ≢ index.name) × (other.column ≢ index.column)) old.indexes
+  pub is : new ≡ record old { indexes = old.indexes ++ index ∷ [] }
+
+-- after a CREATE INDEX that was done its table has the index, of this name, on the column of that name, made by the execution
+abbrev pub IndexIsMade : Type 0
+IndexIsMade = (db : Database) (execution : Execution) (name : List ℕ) (written : NameText) (column : List ℕ) (given : List Answer)
+    → execution.stmt ≡ stmts.CreateIndex name written column → (meaning db execution).1 ≡ Ok given
+    → (old : Table) × (new : Table) × (index : IndexOf) × (given ≡ answers.Ok ∷ []) × (index.name ≡ name) × (index.made ≡ execution.txn)
+    × (length old.columns ≤ 16 → IsNameAt column old.columns index.column)
+    × (table_named (name_of db execution written) db ≡ Some old) × (table_named (name_of db execution written) (after db execution) ≡ Some new) × HasGained index old new
+
+-- A table that had an index of this name has none of it any more, and all its others.
+pub record HasNoMore (name : List ℕ) (old new : Table) : Type 0 where
+  pub there : IsTrue (list_any (λ index. bytes_eq index.name name) old.indexes)
+  pub gone : All (λ index. index.name ≢ name) new.indexes
+  pub is : new ≡ record old { indexes = filter (λ index. not (bytes_eq index.name name)) old.indexes }
+
+-- after a DROP INDEX that was done its table has no more index of this name
+abbrev pub IndexIsDropped : Type 0
+IndexIsDropped = (db : Database) (execution : Execution) (name : List ℕ) (written : NameText) (given : List Answer)
+    → execution.stmt ≡ stmts.DropIndex name written → (meaning db execution).1 ≡ Ok given
+    → (old : Table) × (new : Table) × (given ≡ answers.Ok ∷ [])
+    × (table_named (name_of db execution written) db ≡ Some old) × (table_named (name_of db execution written) (after db execution) ≡ Some new) × HasNoMore name old new
+
+-- after a CREATE SYNONYM that was done the user's synonym at the asked site, which wasn't there, stands for the name
+abbrev pub SynonymIsMade : Type 0
+SynonymIsMade = (db : Database) (execution : Execution) (synonym : List ℕ) (written : NameText) (given : List Answer)
+    → execution.stmt ≡ stmts.CreateSynonym synonym written → (meaning db execution).1 ≡ Ok given
+    → (given ≡ answers.Ok ∷ [])
+    × (target_of (own_synonym execution synonym) db ≡ None)
+    × (target_of (own_synonym execution synonym) (after db execution) ≡ Some (name_of db execution written))
+
+-- after a DROP SYNONYM that was done the user's synonym at the asked site, which was there, is no more
+abbrev pub SynonymIsDropped : Type 0
+SynonymIsDropped = (db : Database) (execution : Execution) (synonym : List ℕ) (given : List Answer)
+    → AreSynonymsInOrder db → execution.stmt ≡ stmts.DropSynonym synonym → (meaning db execution).1 ≡ Ok given
+    → (given ≡ answers.Ok ∷ [])
+    × IsSome (target_of (own_synonym execution synonym) db)
+    × (target_of (own_synonym execution synonym) (after db execution) ≡ None)
 
 -- ---- what every table keeps
 

@@ -1,7 +1,7 @@
 //! What holds of every execution, whatever the database. Each function here is a law: its contract says it, and its
 //! body does nothing.
 
-ghost use Rattle.rs_mean.specs.Laws.{ColumnsStayDistinct, DeniedChangesNothing, IndexesStayDistinct, NamesStayInOrder, OthersStay, RowsAreAppended, RowsAreChanged, RowsAreTakenOut, SelectChangesNothing, SitesStay, SynonymsStay, TableIsDropped, TableIsMade, TablesStayWithin};
+ghost use Rattle.rs_mean.specs.Laws.{ColumnsStayDistinct, DeniedChangesNothing, IndexIsDropped, IndexIsMade, IndexesStayDistinct, NamesStayInOrder, OtherSynonymsStay, OthersStay, RowsAreAppended, RowsAreChanged, RowsAreTakenOut, SelectChangesNothing, SitesStay, SynonymIsDropped, SynonymIsMade, SynonymsStay, SynonymsStayInOrder, TableIsDropped, TableIsMade, TablesStayWithin};
 
 /// A denied execution changes nothing.
 pub fn denied_changes_nothing()
@@ -23,6 +23,11 @@ pub fn names_stay_in_order()
     ensures { NamesStayInOrder }
 {}
 
+/// Each synonym stands once, and the synonyms rise, at first and after each execution.
+pub fn synonyms_stay_in_order()
+    ensures { SynonymsStayInOrder }
+{}
+
 /// An execution touches no table but its own.
 pub fn others_stay()
     ensures { OthersStay }
@@ -31,6 +36,11 @@ pub fn others_stay()
 /// Only statements on synonyms change what synonyms stand for.
 pub fn synonyms_stay()
     ensures { SynonymsStay }
+{}
+
+/// An execution touches no synonym but its own: none of another user, and none at another site.
+pub fn other_synonyms_stay()
+    ensures { OtherSynonymsStay }
 {}
 
 /// After a CREATE TABLE that was done its name, which no table had, has the table made, in which there is no row.
@@ -56,6 +66,27 @@ pub fn rows_are_taken_out()
 /// After an UPDATE that was done its table has as many rows as before, and it tells at most so many.
 pub fn rows_are_changed()
     ensures { RowsAreChanged }
+{}
+
+/// After a CREATE INDEX that was done its table has the index, of this name and on the column of that name, at the end of
+/// those that it had.
+pub fn index_is_made()
+    ensures { IndexIsMade }
+{}
+
+/// After a DROP INDEX that was done its table, which had an index of this name, has none of it, and its others.
+pub fn index_is_dropped()
+    ensures { IndexIsDropped }
+{}
+
+/// After a CREATE SYNONYM that was done the user's synonym at the asked site, which wasn't there, stands for the name.
+pub fn synonym_is_made()
+    ensures { SynonymIsMade }
+{}
+
+/// After a DROP SYNONYM that was done the user's synonym at the asked site, which was there, is no more.
+pub fn synonym_is_dropped()
+    ensures { SynonymIsDropped }
 {}
 
 /// A table never has more than 65,536 rows, nor more than 8,388,608 bytes, nor a row of more than 1,024 bytes, at first
