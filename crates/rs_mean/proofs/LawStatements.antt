@@ -35,7 +35,7 @@ use Rattle.rs_mean.specs.Effects.{done}
 use Rattle.rs_mean.specs.Meaning.{effect_of_stmt, effect_of, meaning}
 use Rattle.rs_mean.specs.Names.{name_of, own_synonym, site_test, table_tests}
 use Rattle.rs_mean.specs.RowChanges.{given_rows, has_room, inserted, updated_rows, may_be_rows, within_limits, updated, kept, met}
-use Rattle.rs_mean.specs.RowStatements.{rows_in, heading_in, answering, inserting, updating, once_bound, select, insert, update, delete, effect_of_dml}
+use Rattle.rs_mean.specs.RowStatements.{rows_in, heading_in, answering, inserting, updating, once_bound, tables_in, select, insert, update, delete, effect_of_dml}
 use Rattle.rs_mean.specs.TableStatements.{create_tests, new_table, create_table, drop_table, columns_of, indexes_of, column_place, has_index, is_indexed, create_index_tests, new_index, create_index, drop_index_tests, without_index, drop_index, create_synonym_tests, create_synonym, drop_synonym_tests, drop_synonym}
 use Rattle.rs_mean.proofs.LawTests.{passed, holds_if, absent_if, neither}
 use Rattle.rs_mean.proofs.LawEffects.{IsSo, so_denied, so_done, so_unless}
@@ -163,7 +163,7 @@ answering_so : (rows : Result (List (List Value)) Denial) → IsSo Selects (answ
 answering_so (Ok rows) = so_done Selects changes.Nothing (answers.Rows rows) (record { is = refl })
 answering_so (Err cause) = so_denied Selects cause
 
-select_so : (db : Database) (names : List Swn) (query : Select) → IsSo Selects (select db names query)
+select_so : (db : Database) (names : List Swn) (query : Select) → IsSo Selects (select (tables_in db) names query)
 unfolding select_bound
 select_so db names query =
     let headings : List Heading = map (heading_in db) names in
@@ -199,7 +199,7 @@ module _ (db : Database) (name : Swn) (rows : List (List Term)) (is_there : IsTh
       ] in
       at (has_room (rows_in db name) new) refl
 
-insert_so : (db : Database) (name : Swn) (rows : List (List Term)) → IsSo (Inserts db name rows) (insert db name rows)
+insert_so : (db : Database) (name : Swn) (rows : List (List Term)) → IsSo (Inserts db name rows) (insert (tables_in db) name rows)
 unfolding insert_bound
 insert_so db name rows =
     let tables : List (List (List Value)) = rows_in db name ∷ [] in
@@ -240,7 +240,7 @@ module _ (db : Database) (name : Swn) (sets : List BoundSet) (clauses : List (Li
       let at : (rows : Result (List (List Value)) Denial) → Claim rows = λ rows. elim rows as Claim [ Ok new ↦ λ e. within_so new e | Err cause ↦ λ e. so_denied (Updates db name) cause ] in
       at (updated_rows sets clauses (rows_in db name)) refl
 
-update_so : (db : Database) (name : Swn) (sets : List Set) (clauses : List Clause) → IsSo (Updates db name) (update db name sets clauses)
+update_so : (db : Database) (name : Swn) (sets : List Set) (clauses : List Clause) → IsSo (Updates db name) (update (tables_in db) name sets clauses)
 unfolding update_bound
 update_so db name sets clauses =
     let tables : List (List (List Value)) = rows_in db name ∷ [] in
@@ -259,7 +259,7 @@ pub record Deletes (db : Database) (name : Swn) (change : Change) (given : List 
   pub answers : given ≡ answers.Changed (met clauses (rows_in db name)) ∷ []
   pub there : IsThere db name
 
-delete_so : (db : Database) (name : Swn) (clauses : List Clause) → IsSo (Deletes db name) (delete db name clauses)
+delete_so : (db : Database) (name : Swn) (clauses : List Clause) → IsSo (Deletes db name) (delete (tables_in db) name clauses)
 unfolding delete_bound
 delete_so db name clauses =
     let tables : List (List (List Value)) = rows_in db name ∷ [] in

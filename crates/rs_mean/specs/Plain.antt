@@ -8,21 +8,14 @@ use Rattle.rs_base.specs.declared.reply.Denial.TheVariants as denials
 use Rattle.rs_base.specs.declared.value.Value.{Value}
 use Rattle.rs_base.specs.Name.{resolve, name_cmp}
 use Rattle.rs_ast.specs.declared.column.ColDef.{ColDef}
-use Rattle.rs_ast.specs.declared.change.Set.{Set}
-use Rattle.rs_ast.specs.declared.change.Term.{Term}
-use Rattle.rs_ast.specs.declared.clause.Clause.{Clause}
-use Rattle.rs_ast.specs.declared.select.Select.{Select}
 use Rattle.rs_ast.specs.declared.stmt.Dml.{Dml}
-use Rattle.rs_ast.specs.declared.stmt.Dml.TheVariants as dmls
-use Rattle.rs_plan.specs.declared.bound.Bound.{Bound}
-use Rattle.rs_bind.specs.Binding.{select_bound, insert_bound, update_bound, delete_bound}
-use Rattle.rs_bind.specs.Denials.{Test, test, first_denial}
+use Rattle.rs_bind.specs.Denials.{Test, test}
 use Rattle.rs_bind.specs.Entries.{defined}
 use Rattle.rs_bind.specs.declared.heading.Heading.{Heading}
 use Rattle.rs_mean.specs.declared.change.Effect.{Effect}
 use Rattle.rs_mean.specs.declared.plain.PlainTable.{PlainTable}
-use Rattle.rs_mean.specs.Effects.{Outcome, unless_denied}
-use Rattle.rs_mean.specs.RowStatements.{once_bound}
+use Rattle.rs_mean.specs.Effects.{Outcome}
+use Rattle.rs_mean.specs.RowStatements.{Tables, effect_over}
 
 -- ---- the tables
 
@@ -45,36 +38,18 @@ abbrev pub plain_rows : List PlainTable → Swn → List (List Value)
 plain_rows tables name = rows_of (plain_named tables name)
 
 -- no table has the name
-abbrev pub plain_test : List PlainTable → Swn → Test
-plain_test tables name = test (is_none (plain_named tables name)) denials.NoTable
+abbrev pub plain_tests : List PlainTable → Swn → List Test
+plain_tests tables name = test (is_none (plain_named tables name)) denials.NoTable ∷ []
+
+-- the tables as a statement on rows sees them
+abbrev pub plain_tables : List PlainTable → Tables
+plain_tables tables = record { tests = plain_tests tables; heading = plain_heading tables; rows = plain_rows tables }
 
 -- ---- statements
 
-abbrev pub plain_select : List PlainTable → List Swn → Select → Effect
-plain_select tables names query =
-    unless_denied (first_denial (map (plain_test tables) names)) (once_bound (map (plain_rows tables) names) (select_bound query (map (plain_heading tables) names) []))
-
-abbrev pub plain_change : List PlainTable → Swn → (Heading → Result Bound Denial) → Effect
-plain_change tables name bind =
-    unless_denied (first_denial (plain_test tables name ∷ [])) (once_bound (plain_rows tables name ∷ []) (bind (plain_heading tables name)))
-
-abbrev pub plain_query : List PlainTable → List ℕ → ℕ → Select → Effect
-plain_query tables user site query = plain_select tables (map (λ table. resolve table.name user site) query.from) query
-
-abbrev pub plain_insert : List PlainTable → Swn → List (List Term) → Effect
-plain_insert tables name rows = plain_change tables name (λ heading. insert_bound rows heading [])
-
-abbrev pub plain_update : List PlainTable → Swn → List Set → List Clause → Effect
-plain_update tables name sets clauses = plain_change tables name (λ heading. update_bound sets clauses heading [])
-
-abbrev pub plain_delete : List PlainTable → Swn → List Clause → Effect
-plain_delete tables name clauses = plain_change tables name (λ heading. delete_bound clauses heading [])
-
+-- what a statement does for this user, who asks at this site
 abbrev pub plain_effect : List PlainTable → List ℕ → ℕ → Dml → Effect
-plain_effect tables user site (dmls.Select query) = plain_query tables user site query
-plain_effect tables user site (dmls.Insert written rows) = plain_insert tables (resolve written user site) rows
-plain_effect tables user site (dmls.Update written sets clauses) = plain_update tables (resolve written user site) sets clauses
-plain_effect tables user site (dmls.Delete written clauses) = plain_delete tables (resolve written user site) clauses
+plain_effect tables user site dml = effect_over (plain_tables tables) (λ written. resolve written user site) dml
 
 -- the outcome of an execution of one statement that has this answer, or is denied so
 abbrev pub outcome_of : Result Answer Denial → Outcome

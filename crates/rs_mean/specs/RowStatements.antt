@@ -1,5 +1,6 @@
 -- What statements on rows do.
 use Rattle.std.specs.Prelude.{ℕ, List, [], ◌∷◌, map, flat_map, length, Option, Some, None, Result, Ok, Err}
+use Rattle.rs_base.specs.declared.name.NameText.{NameText}
 use Rattle.rs_base.specs.declared.name.Swn.{Swn}
 use Rattle.rs_base.specs.declared.reply.Answer.TheVariants as answers
 use Rattle.rs_base.specs.declared.reply.Denial.{Denial}
@@ -15,7 +16,7 @@ use Rattle.rs_ast.specs.declared.stmt.Dml.TheVariants as dmls
 use Rattle.rs_plan.specs.declared.bound.Bound.{Bound}
 use Rattle.rs_plan.specs.declared.bound.Bound.TheVariants as bounds
 use Rattle.rs_bind.specs.Binding.{select_bound, insert_bound, update_bound, delete_bound}
-use Rattle.rs_bind.specs.Denials.{first_denial}
+use Rattle.rs_bind.specs.Denials.{Test, first_denial}
 use Rattle.rs_bind.specs.declared.heading.Heading.{Heading}
 use Rattle.rs_eval.specs.Joined.{joined_within}
 use Rattle.rs_answer.specs.Answer.{answer_of}
@@ -29,7 +30,7 @@ use Rattle.rs_mean.specs.Names.{name_of, table_tests}
 use Rattle.rs_mean.specs.RowChanges.{inserted, updated, kept, met}
 use Rattle.rs_mean.specs.TableStatements.{columns_of}
 
--- ---- tables as a statement sees them
+-- ---- tables of a database
 
 abbrev pub rows_of : Option Table → List (List Value)
 rows_of None = []
@@ -85,28 +86,44 @@ once_bound tables (Err cause) = denied cause
 
 -- ---- statements: which tables there are; the names and kinds; and what is found in the rows
 
-abbrev pub select : Database → List Swn → Select → Effect
-select db names query =
-    unless_denied (first_denial (flat_map (table_tests db) names)) (once_bound (map (rows_in db) names) (select_bound query (map (heading_in db) names) []))
+-- What a statement on rows sees of tables: the tests of a name, which has to be that of a table, and its columns and rows.
+pub record Tables : Type 0 where
+  pub tests : Swn → List Test
+  pub heading : Swn → Heading
+  pub rows : Swn → List (List Value)
 
-abbrev pub query : Database → Execution → Select → Effect
-query db execution given = select db (map (λ table. name_of db execution table.name) given.from) given
+abbrev pub select : Tables → List Swn → Select → Effect
+select tables names query =
+    unless_denied (first_denial (flat_map tables.tests names)) (once_bound (map tables.rows names) (select_bound query (map tables.heading names) []))
+
+-- a query, where a written name stands for this one
+abbrev pub query : Tables → (NameText → Swn) → Select → Effect
+query tables name given = select tables (map (λ table. name table.name) given.from) given
 
 -- a change of the table of this name
-abbrev pub change : Database → Swn → (Heading → Result Bound Denial) → Effect
-change db name bind = unless_denied (first_denial (table_tests db name)) (once_bound (rows_in db name ∷ []) (bind (heading_in db name)))
+abbrev pub change : Tables → Swn → (Heading → Result Bound Denial) → Effect
+change tables name bind = unless_denied (first_denial (tables.tests name)) (once_bound (tables.rows name ∷ []) (bind (tables.heading name)))
 
-abbrev pub insert : Database → Swn → List (List Term) → Effect
-insert db name rows = change db name (λ heading. insert_bound rows heading [])
+abbrev pub insert : Tables → Swn → List (List Term) → Effect
+insert tables name rows = change tables name (λ heading. insert_bound rows heading [])
 
-abbrev pub update : Database → Swn → List Set → List Clause → Effect
-update db name sets clauses = change db name (λ heading. update_bound sets clauses heading [])
+abbrev pub update : Tables → Swn → List Set → List Clause → Effect
+update tables name sets clauses = change tables name (λ heading. update_bound sets clauses heading [])
 
-abbrev pub delete : Database → Swn → List Clause → Effect
-delete db name clauses = change db name (λ heading. delete_bound clauses heading [])
+abbrev pub delete : Tables → Swn → List Clause → Effect
+delete tables name clauses = change tables name (λ heading. delete_bound clauses heading [])
+
+-- a statement on rows, where a written name stands for this one
+abbrev pub effect_over : Tables → (NameText → Swn) → Dml → Effect
+effect_over tables name (dmls.Select given) = query tables name given
+effect_over tables name (dmls.Insert written rows) = insert tables (name written) rows
+effect_over tables name (dmls.Update written sets clauses) = update tables (name written) sets clauses
+effect_over tables name (dmls.Delete written clauses) = delete tables (name written) clauses
+
+-- ---- statements on the rows of a database
+
+abbrev pub tables_in : Database → Tables
+tables_in db = record { tests = table_tests db; heading = heading_in db; rows = rows_in db }
 
 unfoldable pub effect_of_dml : Database → Execution → Dml → Effect
-effect_of_dml db execution (dmls.Select given) = query db execution given
-effect_of_dml db execution (dmls.Insert written rows) = insert db (name_of db execution written) rows
-effect_of_dml db execution (dmls.Update written sets clauses) = update db (name_of db execution written) sets clauses
-effect_of_dml db execution (dmls.Delete written clauses) = delete db (name_of db execution written) clauses
+effect_of_dml db execution dml = effect_over (tables_in db) (name_of db execution) dml

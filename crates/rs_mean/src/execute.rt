@@ -1,13 +1,13 @@
-//! Execution of statements.
+//! What an execution changes and answers.
 
-ghost use Rattle.std.specs.Prelude.{◌≡◌, IfOk, OnOk, OnErr};
+ghost use Rattle.std.specs.Prelude.{◌≡◌, IfOk};
 ghost use Rattle.rs_mean.specs.Changes.{changed};
 ghost use Rattle.rs_mean.specs.Meaning as spec;
 
 use crate::built::Stmt;
 use crate::change::Effect;
 use crate::database::Database;
-use crate::execution::{Execution, Outcome};
+use crate::execution::Execution;
 use rs_base::NoMemory;
 use std::alloc::Global;
 
@@ -55,16 +55,5 @@ impl Database {
         ensures { IfOk result (λ effect. spec.meaning self.now execution.now ≡ (changed effect.change self.now, effect.outcome)) }
     {
         self.effect(alloc, execution)
-    }
-
-    /// Executes the statement: the answer, and the change. A denied execution changes nothing, nor does one for which
-    /// memory is wanting.
-    pub fn execute(&mut self, alloc: Global, execution: &Execution) -> Result<Outcome, NoMemory>
-        ensures ok { IfOk result (λ outcome. spec.meaning self.old execution.now ≡ (self.new, outcome)) }
-        ensures err { OnErr result (self.new ≡ self.old) }
-    {
-        let Effect { change, outcome } = self.effect_of(alloc, execution)?;
-        self.apply(change)?;
-        Ok(outcome)
     }
 }

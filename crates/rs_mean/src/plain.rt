@@ -1,13 +1,13 @@
 //! The plain evaluator: what a statement on rows answers over given tables.
 
-ghost use Rattle.std.specs.Prelude.{◌≡◌, [], ◌∷◌, map, find, IfOk};
+ghost use Rattle.std.specs.Prelude.{◌≡◌, [], ◌∷◌, map, flat_map, find, IfOk};
 ghost use Rattle.std.specs.Option.{option_copied};
 ghost use Rattle.std.specs.Ordering.{is_eq};
 ghost use Rattle.rs_base.specs.Name.{name_cmp, resolve};
 ghost use Rattle.rs_bind.specs.Denials.{first_denial};
 ghost use Rattle.rs_mean.specs.Plain as spec;
 ghost use Rattle.rs_mean.specs.Queries.{IsSelect};
-ghost use Rattle.rs_mean.specs.RowStatements.{answering, effect_of_bound, inserting, once_bound, updating};
+ghost use Rattle.rs_mean.specs.RowStatements as statements;
 
 use crate::bound_effect::rows_of_query;
 use crate::row_changes::{inserted, met, updated};
@@ -108,7 +108,7 @@ fn lent(alloc: Global, tables: &[StoredRows]) -> Result<Vec<RowRun<'_>>, NoMemor
 }
 
 fn denial(tables: &[PlainTable], name: &Swn) -> Option<Denial>
-    ensures { result ≡ first_denial (spec.plain_test tables.now name.now ∷ []) }
+    ensures { result ≡ first_denial (spec.plain_tests tables.now name.now) }
 {
     if table_named(tables, name).is_none() {
         Some(Denial::NoTable)
@@ -118,7 +118,7 @@ fn denial(tables: &[PlainTable], name: &Swn) -> Option<Denial>
 }
 
 fn first_missing(tables: &[PlainTable], names: &[Swn]) -> Option<Denial>
-    ensures { result ≡ first_denial (map (spec.plain_test tables.now) names.now) }
+    ensures { result ≡ first_denial (flat_map (spec.plain_tests tables.now) names.now) }
 {
     for name in names {
         if let Some(cause) = denial(tables, name) {
@@ -139,7 +139,7 @@ fn names_of(alloc: Global, tables: &[TableRef], user: Ident, site: SiteNo) -> Re
 }
 
 fn told_rows(rows: Result<Rows, Denial>) -> Told
-    ensures { spec.outcome_of result ≡ (answering rows).outcome }
+    ensures { spec.outcome_of result ≡ (statements.answering rows).outcome }
 {
     match rows {
         Ok(rows) => Ok(Answer::Rows(rows)),
@@ -148,7 +148,7 @@ fn told_rows(rows: Result<Rows, Denial>) -> Told
 }
 
 fn told_count(rows: Result<StoredRows, Denial>, count: usize) -> Told
-    ensures { (name : Swn) → spec.outcome_of result ≡ (updating name count rows).outcome }
+    ensures { (name : Swn) → spec.outcome_of result ≡ (statements.updating name count rows).outcome }
 {
     match rows {
         Ok(_) => Ok(Answer::Changed(count as u64)),
@@ -157,7 +157,7 @@ fn told_count(rows: Result<StoredRows, Denial>, count: usize) -> Told
 }
 
 fn told_length(rows: Result<StoredRows, Denial>) -> Told
-    ensures { (name : Swn) → spec.outcome_of result ≡ (inserting name rows).outcome }
+    ensures { (name : Swn) → spec.outcome_of result ≡ (statements.inserting name rows).outcome }
 {
     match rows {
         Ok(rows) => Ok(Answer::Changed(rows.len() as u64)),
@@ -167,7 +167,7 @@ fn told_length(rows: Result<StoredRows, Denial>) -> Told
 
 /// What a bound statement answers over the rows of one table.
 fn answer_over(alloc: Global, bound: &Bound, rows: &StoredRows) -> Result<Told, NoMemory>
-    ensures { IfOk result (λ told. spec.outcome_of told ≡ (effect_of_bound (rows.now ∷ []) bound.now).outcome) }
+    ensures { IfOk result (λ told. spec.outcome_of told ≡ (statements.effect_of_bound (rows.now ∷ []) bound.now).outcome) }
 {
     match bound {
         Bound::Select { clauses, shape, .. } => Ok(told_rows(selected(
@@ -198,7 +198,7 @@ fn answer_once_bound(
     tables: &[PlainTable],
     name: &Swn,
 ) -> Result<Told, NoMemory>
-    ensures { IfOk result (λ told. spec.outcome_of told ≡ (once_bound (spec.plain_rows tables.now name.now ∷ []) outcome).outcome) }
+    ensures { IfOk result (λ told. spec.outcome_of told ≡ (statements.once_bound (spec.plain_rows tables.now name.now ∷ []) outcome).outcome) }
 {
     match outcome {
         Ok(bound) => answer_over(alloc, &bound, &rows(alloc, tables, name)?),
@@ -214,7 +214,7 @@ fn answer_query(
     names: &[Swn],
 ) -> Result<Told, NoMemory>
     requires { IsSelect bound.now }
-    ensures { IfOk result (λ told. spec.outcome_of told ≡ (effect_of_bound (map (spec.plain_rows tables.now) names.now) bound.now).outcome) }
+    ensures { IfOk result (λ told. spec.outcome_of told ≡ (statements.effect_of_bound (map (spec.plain_rows tables.now) names.now) bound.now).outcome) }
 {
     let found = all_rows(alloc, tables, names)?;
     let lent = lent(alloc, found.as_slice())?;
@@ -227,7 +227,7 @@ fn select(
     names: &[Swn],
     query: &Select,
 ) -> Result<Told, NoMemory>
-    ensures { IfOk result (λ told. spec.outcome_of told ≡ (spec.plain_select tables.now names.now query.now).outcome) }
+    ensures { IfOk result (λ told. spec.outcome_of told ≡ (statements.select (spec.plain_tables tables.now) names.now query.now).outcome) }
 {
     if let Some(cause) = first_missing(tables, names) {
         return Ok(Err(cause));
@@ -246,7 +246,7 @@ fn query(
     site: SiteNo,
     query: &Select,
 ) -> Result<Told, NoMemory>
-    ensures { IfOk result (λ told. spec.outcome_of told ≡ (spec.plain_query tables.now user site query.now).outcome) }
+    ensures { IfOk result (λ told. spec.outcome_of told ≡ (statements.query (spec.plain_tables tables.now) (λ written. resolve written user site) query.now).outcome) }
 {
     let names = names_of(alloc, query.from.as_slice(), user, site)?;
     select(alloc, tables, names.as_slice(), query)
@@ -258,7 +258,7 @@ fn insert(
     name: &Swn,
     given: &[TermRow],
 ) -> Result<Told, NoMemory>
-    ensures { IfOk result (λ told. spec.outcome_of told ≡ (spec.plain_insert tables.now name.now given.now).outcome) }
+    ensures { IfOk result (λ told. spec.outcome_of told ≡ (statements.insert (spec.plain_tables tables.now) name.now given.now).outcome) }
 {
     if let Some(cause) = denial(tables, name) {
         return Ok(Err(cause));
@@ -275,7 +275,7 @@ fn update(
     sets: &[Set],
     clauses: &[Clause],
 ) -> Result<Told, NoMemory>
-    ensures { IfOk result (λ told. spec.outcome_of told ≡ (spec.plain_update tables.now name.now sets.now clauses.now).outcome) }
+    ensures { IfOk result (λ told. spec.outcome_of told ≡ (statements.update (spec.plain_tables tables.now) name.now sets.now clauses.now).outcome) }
 {
     if let Some(cause) = denial(tables, name) {
         return Ok(Err(cause));
@@ -291,7 +291,7 @@ fn delete(
     name: &Swn,
     clauses: &[Clause],
 ) -> Result<Told, NoMemory>
-    ensures { IfOk result (λ told. spec.outcome_of told ≡ (spec.plain_delete tables.now name.now clauses.now).outcome) }
+    ensures { IfOk result (λ told. spec.outcome_of told ≡ (statements.delete (spec.plain_tables tables.now) name.now clauses.now).outcome) }
 {
     if let Some(cause) = denial(tables, name) {
         return Ok(Err(cause));

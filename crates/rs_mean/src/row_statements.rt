@@ -83,7 +83,7 @@ impl Database {
     }
 
     fn select(&self, alloc: Global, names: &[Swn], query: &Select) -> Result<Effect, NoMemory>
-        ensures { IfOk result (λ effect. effect ≡ spec.select self.now names.now query.now) }
+        ensures { IfOk result (λ effect. effect ≡ spec.select (spec.tables_in self.now) names.now query.now) }
     {
         if let Some(cause) = self.tables_denial(names) {
             return Ok(Effect::denied(cause));
@@ -102,7 +102,7 @@ impl Database {
         execution: &Execution,
         query: &Select,
     ) -> Result<Effect, NoMemory>
-        ensures { IfOk result (λ effect. effect ≡ spec.query self.now execution.now query.now) }
+        ensures { IfOk result (λ effect. effect ≡ spec.query (spec.tables_in self.now) (name_of self.now execution.now) query.now) }
     {
         let names = self.names_of(alloc, execution, query.from.as_slice())?;
         self.select(alloc, names.as_slice(), query)
@@ -133,7 +133,7 @@ impl Database {
     }
 
     fn insert(&self, alloc: Global, name: &Swn, rows: &[TermRow]) -> Result<Effect, NoMemory>
-        ensures { IfOk result (λ effect. effect ≡ spec.insert self.now name.now rows.now) }
+        ensures { IfOk result (λ effect. effect ≡ spec.insert (spec.tables_in self.now) name.now rows.now) }
     {
         if let Some(cause) = self.table_denial(name) {
             return Ok(Effect::denied(cause));
@@ -150,7 +150,7 @@ impl Database {
         sets: &[Set],
         clauses: &[Clause],
     ) -> Result<Effect, NoMemory>
-        ensures { IfOk result (λ effect. effect ≡ spec.update self.now name.now sets.now clauses.now) }
+        ensures { IfOk result (λ effect. effect ≡ spec.update (spec.tables_in self.now) name.now sets.now clauses.now) }
     {
         if let Some(cause) = self.table_denial(name) {
             return Ok(Effect::denied(cause));
@@ -161,7 +161,7 @@ impl Database {
     }
 
     fn delete(&self, alloc: Global, name: &Swn, clauses: &[Clause]) -> Result<Effect, NoMemory>
-        ensures { IfOk result (λ effect. effect ≡ spec.delete self.now name.now clauses.now) }
+        ensures { IfOk result (λ effect. effect ≡ spec.delete (spec.tables_in self.now) name.now clauses.now) }
     {
         if let Some(cause) = self.table_denial(name) {
             return Ok(Effect::denied(cause));

@@ -97,6 +97,15 @@ fn put_arm(
     put_number(out, bytes)
 }
 
+fn put_noise(out: &mut Bytes, site: SiteNo, bytes: &[u8]) -> Result<(), NoMemory>
+    ensures { OnOk result (out.new ≡ out.old ++ spec.line_of (Event.Noise site bytes.now)) }
+{
+    out.extend(b"noise")?;
+    put_site(out, site)?;
+    out.extend(b" ")?;
+    put_hex(out, bytes)
+}
+
 fn put_event(out: &mut Bytes, event: &Event) -> Result<(), NoMemory>
     ensures { OnOk result (out.new ≡ out.old ++ spec.line_of event.now) }
 {
@@ -131,12 +140,7 @@ fn put_event(out: &mut Bytes, event: &Event) -> Result<(), NoMemory>
             put_site(out, *site)
         }
         Event::Settle(count) => put_settle(out, *count),
-        Event::Noise(site, bytes) => {
-            out.extend(b"noise")?;
-            put_site(out, *site)?;
-            out.extend(b" ")?;
-            put_hex(out, bytes.as_slice())
-        }
+        Event::Noise(site, bytes) => put_noise(out, *site, bytes.as_slice()),
     }
 }
 
