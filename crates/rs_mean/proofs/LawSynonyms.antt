@@ -1,5 +1,5 @@
 -- What changes leave of synonyms.
-use Rattle.std.proofs.Common.{◌≡◌, ◌≢◌, false, Option, Some, None, is_eq, sym, ap, ◌∙◌, subst}
+use Rattle.std.proofs.Common.{◌≡◌, ◌≢◌, false, Option, Some, is_eq, sym, ap, ◌∙◌, subst}
 use Rattle.std.specs.BTreeMap.{is_at}
 use Rattle.std.specs.List.Sorted.{IsStrictlySortedBy}
 use Rattle.std.specs.Map.{lookup, keys_of}

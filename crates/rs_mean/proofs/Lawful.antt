@@ -187,9 +187,18 @@ index_is_made db execution name written column given is e =
     let named : has_name old.columns column ≡ true = subst (λ table. has_name (columns_of table) column ≡ true) found.1 so.named in
     let new_name : has_index old.indexes name ≡ false = subst (λ table. has_index (indexes_of table) name ≡ false) found.1 so.new_name in
     let new_column : is_indexed old.indexes index.column ≡ false
-    = subst (λ table. is_indexed (indexes_of table) (column_place (columns_of table) column) ≡ false) found.1 so.new_column in
-    (old, new, index, so.answers, refl, refl, λ few. name_at column old.columns few named, found.1, put,
-    record { fresh = all_differ index old.indexes new_name new_column; is = refl })
+    = subst (λ table. is_indexed (indexes_of table) (column_place (columns_of table) column) ≡ false) found.1 so.new_column in (
+      old,
+      new,
+      index,
+      so.answers,
+      refl,
+      refl,
+      λ few. name_at column old.columns few named,
+      found.1,
+      put,
+      record { fresh = all_differ index old.indexes new_name new_column; is = refl },
+    )
 
 pub index_is_dropped : IndexIsDropped
 unfolding meaning
