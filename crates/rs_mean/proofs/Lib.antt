@@ -2,12 +2,14 @@ mod Counts
 pub mod Entries
 mod LawEffects
 mod LawKept
+mod LawKinds
 mod LawRows
 mod LawStatements
 mod LawStays
 mod LawTables
 mod LawTests
 mod LawTouches
+mod LawTyped
 pub mod Lawful
 mod Meeting
 pub mod Orders
