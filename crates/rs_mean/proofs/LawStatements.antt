@@ -20,10 +20,11 @@ use Rattle.rs_ast.specs.declared.stmt.Dml.TheVariants as dmls
 use Rattle.rs_plan.specs.declared.bound.Bound.TheVariants as bounds
 use Rattle.rs_bind.specs.Binding.{select_bound, bound_select, bound_rows, bound_set, bound_clauses, insert_bound, update_bound, delete_bound}
 use Rattle.rs_bind.specs.Binding as binding
-use Rattle.rs_bind.specs.Denials.{Test, test, first_denial, select_tests, insert_tests, update_tests, delete_tests}
+use Rattle.rs_bind.specs.Denials.{Test, test, first_denial, select_tests, insert_tests, update_tests, delete_tests, sets_tests, clauses_tests}
 use Rattle.rs_bind.specs.Scope.{table_scope}
 use Rattle.rs_bind.specs.declared.heading.Heading.{Heading}
 use Rattle.rs_bind.specs.declared.scope.ScopeColumn.{ScopeColumn}
+use Rattle.rs_bind.proofs.OverTests.{both_pass}
 use Rattle.rs_mean.specs.declared.built.Stmt.{Stmt}
 use Rattle.rs_mean.specs.declared.built.Stmt.TheVariants as stmts
 use Rattle.rs_mean.specs.declared.change.Change.{Change}
@@ -182,19 +183,25 @@ scope_in db name = table_scope (heading_in db name)
 abbrev pub rows_given : Database → Swn → List (List Term) → List (List Value)
 rows_given db name rows = given_rows (bound_rows (scope_in db name) [] rows)
 
+-- no test of kinds denies the rows
+abbrev pub RowsFit : Database → Swn → List (List Term) → Type 0
+RowsFit db name rows = first_denial (insert_tests rows (scope_in db name) []) ≡ None
+
 pub record Inserts (db : Database) (name : Swn) (rows : List (List Term)) (change : Change) (given : List Answer) : Type 0 where
   pub is : change ≡ changes.AppendRows name (rows_given db name rows)
   pub answers : given ≡ answers.Changed (length (rows_given db name rows)) ∷ []
   pub there : IsThere db name
+  pub fit : RowsFit db name rows
   pub room : has_room (rows_in db name) (rows_given db name rows) ≡ true
 
-module _ (db : Database) (name : Swn) (rows : List (List Term)) (is_there : IsThere db name) where
+module _ (db : Database) (name : Swn) (rows : List (List Term)) (is_there : IsThere db name) (fit : RowsFit db name rows) where
   inserting_so : IsSo (Inserts db name rows) (inserting name (inserted (bound_rows (scope_in db name) [] rows) (rows_in db name)))
   inserting_so =
       let new : List (List Value) = rows_given db name rows in
       let Claim : Bool → Type 0 = λ room. has_room (rows_in db name) new ≡ room → IsSo (Inserts db name rows) (inserting name (cond {A = Result (List (List Value)) Denial} room (Ok new) (Err denials.TableFull))) in
       let at : (room : Bool) → Claim room = λ room. elim room as Claim [
-        | true ↦ λ e. so_done (Inserts db name rows) (changes.AppendRows name new) (answers.Changed (length new)) (record { is = refl; answers = refl; there = is_there; room = e })
+        | true ↦ λ e. so_done (Inserts db name rows) (changes.AppendRows name new) (answers.Changed (length new))
+            (record { is = refl; answers = refl; there = is_there; fit = fit; room = e })
         | false ↦ λ e. so_denied (Inserts db name rows) denials.TableFull
       ] in
       at (has_room (rows_in db name) new) refl
@@ -203,53 +210,72 @@ insert_so : (db : Database) (name : Swn) (rows : List (List Term)) → IsSo (Ins
 unfolding insert_bound
 insert_so db name rows =
     let tables : List (List (List Value)) = rows_in db name ∷ [] in
-    let Claim : Option Denial → Type 0 = λ denial. IsSo (Inserts db name rows) (once_bound tables (binding.unless_denied denial (bounds.Insert name (bound_rows (scope_in db name) [] rows)))) in
-    let at : IsThere db name → (denial : Option Denial) → Claim denial = λ is_there denial. elim denial as Claim [ None ↦ inserting_so db name rows is_there | Some cause ↦ so_denied (Inserts db name rows) cause ] in
+    let Claim : Option Denial → Type 0 = λ denial. first_denial (insert_tests rows (scope_in db name) []) ≡ denial
+    → IsSo (Inserts db name rows) (once_bound tables (binding.unless_denied denial (bounds.Insert name (bound_rows (scope_in db name) [] rows)))) in
+    let at : IsThere db name → (denial : Option Denial) → Claim denial = λ is_there denial. elim denial as Claim [
+      | None ↦ λ fit. inserting_so db name rows is_there fit
+      | Some cause ↦ λ e. so_denied (Inserts db name rows) cause
+    ] in
     so_unless (Inserts db name rows) (first_denial (table_tests db name)) (once_bound tables (insert_bound rows (heading_in db name) []))
-    (λ e. at (there db name [] e).0 (first_denial (insert_tests rows (scope_in db name) [])))
+    (λ e. at (there db name [] e).0 (first_denial (insert_tests rows (scope_in db name) [])) refl)
 
 -- ---- UPDATE
 
-pub record Updates (db : Database) (name : Swn) (change : Change) (given : List Answer) : Type 0 where
-  pub sets : List BoundSet
+-- no test of names and kinds denies the sets
+abbrev pub SetsFit : Database → Swn → List Set → Type 0
+SetsFit db name sets = first_denial (sets_tests (scope_in db name) [] [] sets) ≡ None
+
+-- the sets of an UPDATE
+abbrev pub sets_in : Database → Swn → List Set → List BoundSet
+sets_in db name sets = map (bound_set (scope_in db name) []) sets
+
+pub record Updates (db : Database) (name : Swn) (sets : List Set) (change : Change) (given : List Answer) : Type 0 where
   pub clauses : List (List BoundCmp)
   pub new : List (List Value)
   pub is : change ≡ changes.SetRows name new
   pub answers : given ≡ answers.Changed (met clauses (rows_in db name)) ∷ []
   pub there : IsThere db name
-  pub made : updated_rows sets clauses (rows_in db name) ≡ Ok new
+  pub fit : SetsFit db name sets
+  pub made : updated_rows (sets_in db name sets) clauses (rows_in db name) ≡ Ok new
   pub within : may_be_rows new ≡ true
 
-module _ (db : Database) (name : Swn) (sets : List BoundSet) (clauses : List (List BoundCmp)) (is_there : IsThere db name) where
-  within_so : (new : List (List Value)) → updated_rows sets clauses (rows_in db name) ≡ Ok new
-      → IsSo (Updates db name) (updating name (met clauses (rows_in db name)) (within_limits (Ok new)))
+module _ (db : Database) (name : Swn) (sets : List Set) (clauses : List (List BoundCmp)) (is_there : IsThere db name) (fit : SetsFit db name sets) where
+  within_so : (new : List (List Value)) → updated_rows (sets_in db name sets) clauses (rows_in db name) ≡ Ok new
+      → IsSo (Updates db name sets) (updating name (met clauses (rows_in db name)) (within_limits (Ok new)))
   within_so new made =
       let Claim : Bool → Type 0 = λ within. may_be_rows new ≡ within
-      → IsSo (Updates db name) (updating name (met clauses (rows_in db name)) (cond {A = Result (List (List Value)) Denial} within (Ok new) (Err denials.TableFull))) in
+      → IsSo (Updates db name sets) (updating name (met clauses (rows_in db name)) (cond {A = Result (List (List Value)) Denial} within (Ok new) (Err denials.TableFull))) in
       let at : (within : Bool) → Claim within = λ within. elim within as Claim [
-        | true ↦ λ e. so_done (Updates db name) (changes.SetRows name new) (answers.Changed (met clauses (rows_in db name)))
-            (record { sets = sets; clauses = clauses; new = new; is = refl; answers = refl; there = is_there; made = made; within = e })
-        | false ↦ λ e. so_denied (Updates db name) denials.TableFull
+        | true ↦ λ e. so_done (Updates db name sets) (changes.SetRows name new) (answers.Changed (met clauses (rows_in db name)))
+            (record { clauses = clauses; new = new; is = refl; answers = refl; there = is_there; fit = fit; made = made; within = e })
+        | false ↦ λ e. so_denied (Updates db name sets) denials.TableFull
       ] in
       at (may_be_rows new) refl
 
-  updating_so : IsSo (Updates db name) (updating name (met clauses (rows_in db name)) (updated sets clauses (rows_in db name)))
+  updating_so : IsSo (Updates db name sets) (updating name (met clauses (rows_in db name)) (updated (sets_in db name sets) clauses (rows_in db name)))
   updating_so =
-      let Claim : Result (List (List Value)) Denial → Type 0 = λ rows. updated_rows sets clauses (rows_in db name) ≡ rows
-      → IsSo (Updates db name) (updating name (met clauses (rows_in db name)) (within_limits rows)) in
-      let at : (rows : Result (List (List Value)) Denial) → Claim rows = λ rows. elim rows as Claim [ Ok new ↦ λ e. within_so new e | Err cause ↦ λ e. so_denied (Updates db name) cause ] in
-      at (updated_rows sets clauses (rows_in db name)) refl
+      let Claim : Result (List (List Value)) Denial → Type 0 = λ rows. updated_rows (sets_in db name sets) clauses (rows_in db name) ≡ rows
+      → IsSo (Updates db name sets) (updating name (met clauses (rows_in db name)) (within_limits rows)) in
+      let at : (rows : Result (List (List Value)) Denial) → Claim rows = λ rows. elim rows as Claim [
+        | Ok new ↦ λ e. within_so new e
+        | Err cause ↦ λ e. so_denied (Updates db name sets) cause
+      ] in
+      at (updated_rows (sets_in db name sets) clauses (rows_in db name)) refl
 
-update_so : (db : Database) (name : Swn) (sets : List Set) (clauses : List Clause) → IsSo (Updates db name) (update (tables_in db) name sets clauses)
+update_so : (db : Database) (name : Swn) (sets : List Set) (clauses : List Clause) → IsSo (Updates db name sets) (update (tables_in db) name sets clauses)
 unfolding update_bound
 update_so db name sets clauses =
     let tables : List (List (List Value)) = rows_in db name ∷ [] in
-    let bound_sets : List BoundSet = map (bound_set (scope_in db name) []) sets in
     let bound : List (List BoundCmp) = bound_clauses (scope_in db name) [] clauses in
-    let Claim : Option Denial → Type 0 = λ denial. IsSo (Updates db name) (once_bound tables (binding.unless_denied denial (bounds.Update name bound_sets bound))) in
-    let at : IsThere db name → (denial : Option Denial) → Claim denial = λ is_there denial. elim denial as Claim [ None ↦ updating_so db name bound_sets bound is_there | Some cause ↦ so_denied (Updates db name) cause ] in
-    so_unless (Updates db name) (first_denial (table_tests db name)) (once_bound tables (update_bound sets clauses (heading_in db name) []))
-    (λ e. at (there db name [] e).0 (first_denial (update_tests sets clauses (scope_in db name) [])))
+    let tests : List Test = update_tests sets clauses (scope_in db name) [] in
+    let Claim : Option Denial → Type 0 = λ denial. first_denial tests ≡ denial
+    → IsSo (Updates db name sets) (once_bound tables (binding.unless_denied denial (bounds.Update name (sets_in db name sets) bound))) in
+    let at : IsThere db name → (denial : Option Denial) → Claim denial = λ is_there denial. elim denial as Claim [
+      | None ↦ λ e. updating_so db name sets bound is_there (both_pass (sets_tests (scope_in db name) [] [] sets) (clauses_tests (scope_in db name) [] clauses) e).0
+      | Some cause ↦ λ e. so_denied (Updates db name sets) cause
+    ] in
+    so_unless (Updates db name sets) (first_denial (table_tests db name)) (once_bound tables (update_bound sets clauses (heading_in db name) []))
+    (λ e. at (there db name [] e).0 (first_denial tests) refl)
 
 -- ---- DELETE
 
@@ -278,7 +304,7 @@ delete_so db name clauses =
 abbrev pub DoesOfDml : Database → Execution → Dml → Change → List Answer → Type 0
 DoesOfDml db execution (dmls.Select query) = Selects
 DoesOfDml db execution (dmls.Insert written rows) = Inserts db (name_of db execution written) rows
-DoesOfDml db execution (dmls.Update written sets clauses) = Updates db (name_of db execution written)
+DoesOfDml db execution (dmls.Update written sets clauses) = Updates db (name_of db execution written) sets
 DoesOfDml db execution (dmls.Delete written clauses) = Deletes db (name_of db execution written)
 
 -- what the statement changes and answers where it is done

@@ -9,11 +9,12 @@ use Rattle.rs_mean.specs.declared.built.Stmt.TheVariants as stmts
 use Rattle.rs_mean.specs.declared.change.Change.{Change}
 use Rattle.rs_mean.specs.declared.execution.Execution.{Execution}
 use Rattle.rs_mean.specs.Database.{Database, table_named}
-use Rattle.rs_mean.specs.Laws.{EachTable, IsWithin, HasDistinctColumns, HasDistinctIndexes}
+use Rattle.rs_mean.specs.Laws.{EachTable, IsWithin, HasDistinctColumns, HasDistinctIndexes, IsTyped, MakesFewColumns}
 use Rattle.rs_mean.specs.Names.{name_of}
 use Rattle.rs_mean.specs.TableStatements.{new_index}
 use Rattle.rs_mean.proofs.LawKept.{Keeps, each_named, empty_within, indexed_within, longer_within, set_within, kept_within, columns_distinct, added_distinct, left_distinct}
 use Rattle.rs_mean.proofs.LawStatements.{DoesOfDml, Does, place_in}
+use Rattle.rs_mean.proofs.LawTyped.{empty_typed, indexed_typed, longer_typed, updated_typed, kept_typed}
 
 module _ (db : Database) (execution : Execution) (change : Change) (given : List Answer) where
   module _ (each : EachTable IsWithin db) where
@@ -75,3 +76,27 @@ module _ (db : Database) (execution : Execution) (change : Change) (given : List
     indexes_stay (stmts.CreateSynonym synonym written) so = subst (Keeps HasDistinctIndexes db) (sym so.is) tt
     indexes_stay (stmts.DropSynonym synonym) so = subst (Keeps HasDistinctIndexes db) (sym so.is) tt
     indexes_stay (stmts.Dml dml) so = dml_indexes dml so
+
+  module _ (each : EachTable IsTyped db) where
+    dml_typed : (dml : Dml) → DoesOfDml db execution dml change given → Keeps IsTyped db change
+    dml_typed (dmls.Select query) so = subst (Keeps IsTyped db) (sym so.is) tt
+    dml_typed (dmls.Insert written rows) so =
+        let name : Swn = name_of db execution written in
+        subst (Keeps IsTyped db) (sym so.is) (longer_typed name.object (table_named name db) rows (each_named IsTyped db each name) so.fit)
+    dml_typed (dmls.Update written sets clauses) so =
+        let name : Swn = name_of db execution written in
+        subst (Keeps IsTyped db) (sym so.is) (updated_typed name.object (table_named name db) sets so.clauses so.new (each_named IsTyped db each name) so.fit so.made)
+    dml_typed (dmls.Delete written clauses) so =
+        let name : Swn = name_of db execution written in
+        subst (Keeps IsTyped db) (sym so.is) (kept_typed (table_named name db) so.clauses (each_named IsTyped db each name))
+
+    pub stays_typed : (stmt : Stmt) → MakesFewColumns stmt → Does db execution stmt change given → Keeps IsTyped db change
+    stays_typed (stmts.CreateTable written columns) few so = subst (Keeps IsTyped db) (sym so.is) (empty_typed execution.txn (name_of db execution written) columns few)
+    stays_typed (stmts.DropTable written) few so = subst (Keeps IsTyped db) (sym so.is) tt
+    stays_typed (stmts.CreateIndex index written column) few so =
+        let name : Swn = name_of db execution written in subst (Keeps IsTyped db) (sym so.is) (indexed_typed (table_named name db) _ (each_named IsTyped db each name))
+    stays_typed (stmts.DropIndex index written) few so =
+        let name : Swn = name_of db execution written in subst (Keeps IsTyped db) (sym so.is) (indexed_typed (table_named name db) _ (each_named IsTyped db each name))
+    stays_typed (stmts.CreateSynonym synonym written) few so = subst (Keeps IsTyped db) (sym so.is) tt
+    stays_typed (stmts.DropSynonym synonym) few so = subst (Keeps IsTyped db) (sym so.is) tt
+    stays_typed (stmts.Dml dml) few so = dml_typed dml so

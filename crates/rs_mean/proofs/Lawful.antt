@@ -20,7 +20,7 @@ use Rattle.rs_mean.specs.declared.table.Table.{Table}
 use Rattle.rs_mean.specs.Changes.{changed, with_rows}
 use Rattle.rs_mean.specs.Columns.{has_name}
 use Rattle.rs_mean.specs.Database.{Database, table_named, target_of}
-use Rattle.rs_mean.specs.Laws.{DeniedChangesNothing, SelectChangesNothing, SitesStay, NamesStayInOrder, SynonymsStayInOrder, OthersStay, SynonymsStay, OtherSynonymsStay, IndexIsMade, IndexIsDropped, SynonymIsMade, SynonymIsDropped, TableIsMade, TableIsDropped, RowsAreAppended, RowsAreTakenOut, RowsAreChanged, EachTable, IsWithin, TablesStayWithin, HasDistinctColumns, ColumnsStayDistinct, HasDistinctIndexes, IndexesStayDistinct, written_of, synonym_of}
+use Rattle.rs_mean.specs.Laws.{DeniedChangesNothing, SelectChangesNothing, SitesStay, NamesStayInOrder, SynonymsStayInOrder, OthersStay, SynonymsStay, OtherSynonymsStay, IndexIsMade, IndexIsDropped, SynonymIsMade, SynonymIsDropped, TableIsMade, TableIsDropped, RowsAreAppended, RowsAreTakenOut, RowsAreChanged, EachTable, IsWithin, TablesStayWithin, HasDistinctColumns, ColumnsStayDistinct, HasDistinctIndexes, IndexesStayDistinct, IsTyped, RowsStayTyped, written_of, synonym_of}
 use Rattle.rs_mean.specs.Meaning.{effect_of, meaning}
 use Rattle.rs_mean.specs.Names.{name_of, own_synonym}
 use Rattle.rs_mean.specs.RowChanges.{kept, met}
@@ -33,8 +33,8 @@ use Rattle.rs_mean.proofs.LawKept.{Keeps, each_changed, all_differ}
 use Rattle.rs_mean.proofs.LawRows.{given_as_written, as_many_updated, met_at_most, kept_and_met}
 use Rattle.rs_mean.proofs.LawSynonyms.{TouchesSynonym, other_synonyms_at, synonyms_in_order}
 use Rattle.rs_mean.proofs.LawTouches.{touches, of_tables, touches_synonym}
-use Rattle.rs_mean.proofs.LawStays.{stays_within, columns_stay, indexes_stay}
-use Rattle.rs_mean.proofs.LawStatements.{Does, does, effect_so, scope_in}
+use Rattle.rs_mean.proofs.LawStays.{stays_within, columns_stay, indexes_stay, stays_typed}
+use Rattle.rs_mean.proofs.LawStatements.{Does, does, effect_so, scope_in, sets_in}
 use Rattle.rs_mean.proofs.LawTables.{sites_stay_at, change_in_order, TouchesOnly, others_stay_at, IsOfTables, synonyms_stay_at, named_put, named_dropped, named_changing}
 use Rattle.rs_mean.proofs.Orders.{synonym_total}
 
@@ -163,7 +163,7 @@ rows_are_changed db execution written sets clauses given is e =
     let put : table_named name (changed (effect_of db execution).change db) ≡ Some new
     = ap (λ change. table_named name (changed change db)) so.is ∙ set_table name so.new db old found.1 in
     let tells : given ≡ answers.Changed (met so.clauses old.rows) ∷ [] = so.answers ∙ ap (λ (all : List (List Value)). answers.Changed (met so.clauses all) ∷ []) rows in
-    let as_many : length so.new ≡ length old.rows = as_many_updated so.sets so.clauses (rows_of (table_named name db)) so.new so.made ∙ ap (λ (all : List (List Value)). length all) rows in
+    let as_many : length so.new ≡ length old.rows = as_many_updated (sets_in db name sets) so.clauses (rows_of (table_named name db)) so.new so.made ∙ ap (λ (all : List (List Value)). length all) rows in
     (met so.clauses old.rows, old, new, tells, met_at_most so.clauses old.rows, found.1, put, record { made = refl; columns = refl; indexes = refl; rows = omega arith })
 
 -- the table that was there, and the one with these indexes
@@ -263,4 +263,12 @@ indexes_stay_distinct = (
   λ sites. All-nil HasDistinctIndexes,
   λ db execution each.
       each_after HasDistinctIndexes db execution each (λ given so. indexes_stay db execution (effect_of db execution).change given each execution.stmt so),
+)
+
+pub rows_stay_typed : RowsStayTyped
+unfolding meaning
+rows_stay_typed = (
+  λ sites. All-nil IsTyped,
+  λ db execution few each.
+      each_after IsTyped db execution each (λ given so. stays_typed db execution (effect_of db execution).change given each execution.stmt few so),
 )

@@ -3,6 +3,7 @@ pub mod Entries
 mod LawEffects
 mod LawIndexes
 mod LawKept
+mod LawKinds
 mod LawRows
 mod LawStatements
 mod LawStays
@@ -10,6 +11,7 @@ mod LawSynonyms
 mod LawTables
 mod LawTests
 mod LawTouches
+mod LawTyped
 pub mod Lawful
 mod Meeting
 pub mod Orders

@@ -9,6 +9,7 @@ use Rattle.rs_base.specs.declared.reply.Answer.TheVariants as answers
 use Rattle.rs_base.specs.declared.reply.Denial.{Denial}
 use Rattle.rs_base.specs.declared.value.Value.{Value}
 use Rattle.rs_base.specs.Sizes.{row_size}
+use Rattle.rs_base.specs.Value.{kind_of}
 use Rattle.rs_ast.specs.declared.change.Set.{Set}
 use Rattle.rs_ast.specs.declared.change.Term.TheVariants as terms
 use Rattle.rs_ast.specs.declared.clause.Clause.{Clause}
@@ -238,3 +239,26 @@ HasDistinctIndexes table = AllPairs (λ one other. (one.name ≢ other.name) × 
 -- no table has two indexes of one name, or on one column
 abbrev pub IndexesStayDistinct : Type 0
 IndexesStayDistinct = StaysInEachTable HasDistinctIndexes
+
+-- ---- kinds
+
+-- The table has at most 16 columns, and each of its rows has a value for each, of its kind.
+pub record IsTyped (table : Table) : Type 0 where
+  pub few : length table.columns ≤ 16
+  pub kinds : All (λ row. map kind_of row ≡ map (λ column. column.kind) table.columns) table.rows
+
+-- the statement makes no table of more than 16 columns; none that is written does
+abbrev pub MakesFewColumns : Stmt → Type 0
+MakesFewColumns (stmts.CreateTable written columns) = length columns ≤ 16
+MakesFewColumns (stmts.DropTable written) = Unit {0}
+MakesFewColumns (stmts.CreateIndex index written column) = Unit {0}
+MakesFewColumns (stmts.DropIndex index written) = Unit {0}
+MakesFewColumns (stmts.CreateSynonym synonym written) = Unit {0}
+MakesFewColumns (stmts.DropSynonym synonym) = Unit {0}
+MakesFewColumns (stmts.Dml dml) = Unit {0}
+
+-- each row of each table has a value for each column, of its kind, at first and after each execution
+abbrev pub RowsStayTyped : Type 0
+RowsStayTyped =
+    ((sites : ℕ) → EachTable IsTyped (empty sites))
+    × ((db : Database) (execution : Execution) → MakesFewColumns execution.stmt → EachTable IsTyped db → EachTable IsTyped (after db execution))

@@ -1,7 +1,7 @@
 //! What holds of every execution, whatever the database. Each function here is a law: its contract says it, and its
 //! body does nothing.
 
-ghost use Rattle.rs_mean.specs.Laws.{ColumnsStayDistinct, DeniedChangesNothing, IndexIsDropped, IndexIsMade, IndexesStayDistinct, NamesStayInOrder, OtherSynonymsStay, OthersStay, RowsAreAppended, RowsAreChanged, RowsAreTakenOut, SelectChangesNothing, SitesStay, SynonymIsDropped, SynonymIsMade, SynonymsStay, SynonymsStayInOrder, TableIsDropped, TableIsMade, TablesStayWithin};
+ghost use Rattle.rs_mean.specs.Laws.{ColumnsStayDistinct, DeniedChangesNothing, IndexIsDropped, IndexIsMade, IndexesStayDistinct, NamesStayInOrder, OtherSynonymsStay, OthersStay, RowsAreAppended, RowsAreChanged, RowsAreTakenOut, RowsStayTyped, SelectChangesNothing, SitesStay, SynonymIsDropped, SynonymIsMade, SynonymsStay, SynonymsStayInOrder, TableIsDropped, TableIsMade, TablesStayWithin};
 
 /// A denied execution changes nothing.
 pub fn denied_changes_nothing()
@@ -103,4 +103,10 @@ pub fn columns_stay_distinct()
 /// No table has two indexes of one name, or on one column, at first and after each execution.
 pub fn indexes_stay_distinct()
     ensures { IndexesStayDistinct }
+{}
+
+/// Each row of each table has a value for each column, of its kind, at first and after each execution. No table has more
+/// than 16 columns, as no CREATE TABLE that is written has.
+pub fn rows_stay_typed()
+    ensures { RowsStayTyped }
 {}
