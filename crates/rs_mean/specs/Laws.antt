@@ -167,7 +167,8 @@ pub record HasGained (index : IndexOf) (old new : Table) : Type 0 where
   pub fresh : All (λ other. (other.name ≢ index.name) × (other.column ≢ index.column)) old.indexes
   pub is : new ≡ record old { indexes = old.indexes ++ index ∷ [] }
 
--- after a CREATE INDEX that was done its table has the index, of this name, on the column of that name, made by the execution
+-- after a CREATE INDEX that was done its table has the index, of this name, made by the execution, and on the column of that name where it
+-- has at most 16 columns
 abbrev pub IndexIsMade : Type 0
 IndexIsMade = (db : Database) (execution : Execution) (name : List ℕ) (written : NameText) (column : List ℕ) (given : List Answer)
     → execution.stmt ≡ stmts.CreateIndex name written column → (meaning db execution).1 ≡ Ok given

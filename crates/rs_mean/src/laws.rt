@@ -68,8 +68,8 @@ pub fn rows_are_changed()
     ensures { RowsAreChanged }
 {}
 
-/// After a CREATE INDEX that was done its table has the index, of this name and on the column of that name, at the end of
-/// those that it had.
+/// After a CREATE INDEX that was done its table has the index, of this name, at the end of those that it had; it is on the
+/// column of that name where the table has at most 16 columns.
 pub fn index_is_made()
     ensures { IndexIsMade }
 {}
