@@ -20,7 +20,7 @@ use Rattle.rs_parse.specs.Phrases.{Phrase, IsList}
 use Rattle.rs_parse.specs.Read.{begins, all_at}
 use Rattle.rs_parse.specs.Grammar.{IsColRef, IsColRefOf, IsLiteral, IsParam, IsOp, IsOperand, IsCmp, IsClause, IsWhere}
 use Rattle.rs_parse.specs.Reader.{is_ident_token, op_of, op_of_mark, op_at, operand_at, cmp_at, bracketed_clause_at, clause_at, clauses_at, where_at}
-use Rattle.rs_parse.proofs.Laws.{IsReader, One, Then, Made, Either, Empty, IsToken, Begins, never, or_left, or_right, gives_before, reads_one, then_reads, behind_reads, made_reads, either_reads, as_reads, before_reads, token_begins, alone_begins, empty_begins, begins_made, begins_either}
+use Rattle.rs_parse.proofs.Readers.{IsReader, One, Then, Made, Either, Empty, IsToken, Begins, never, or_left, or_right, gives_before, reads_one, then_reads, behind_reads, made_reads, either_reads, as_reads, before_reads, token_begins, alone_begins, empty_begins, begins_made, begins_either}
 use Rattle.rs_parse.proofs.Series.{begins_apart}
 use Rattle.rs_parse.proofs.Lists.{reads_all}
 use Rattle.rs_parse.proofs.NameRules.{mark_reads, word_reads, ident_of_free, on_column, col_ref_reads}

@@ -15,7 +15,7 @@ use Rattle.rs_parse.specs.Phrases.{Phrase, IsSeries, AtMost}
 use Rattle.rs_parse.specs.Read.{begins, all_at}
 use Rattle.rs_parse.specs.Grammar.{IsName, IsTuple, IsSet, IsWhere, IsSelect, IsListed, IsDml, IsDmlEnded, IsBody}
 use Rattle.rs_parse.specs.Reader.{tuple_at, insert_at, update_at, delete_at, dml_at, begins_dml, dml_ended_at, body_at}
-use Rattle.rs_parse.proofs.Laws.{IsReader, Then, Made, Either, IsToken, Begins, never, or_left, or_right, then_reads, behind_reads, made_reads, either_reads, as_reads, before_reads, token_begins, alone_begins, begins_fewer, begins_made, begins_either, behind_begins}
+use Rattle.rs_parse.proofs.Readers.{IsReader, Then, Made, Either, IsToken, Begins, never, or_left, or_right, then_reads, behind_reads, made_reads, either_reads, as_reads, before_reads, token_begins, alone_begins, begins_fewer, begins_made, begins_either, behind_begins}
 use Rattle.rs_parse.proofs.Series.{reads_more}
 use Rattle.rs_parse.proofs.Lists.{reads_all}
 use Rattle.rs_parse.proofs.NameRules.{mark_reads, word_reads, on_name, name_reads}

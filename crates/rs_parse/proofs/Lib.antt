@@ -1,4 +1,4 @@
-pub mod Laws
+pub mod Readers
 pub mod Series
 pub mod Lists
 pub mod NameRules
@@ -12,3 +12,15 @@ pub mod Options
 pub mod Loops
 pub mod Scans
 pub mod Splits
+pub mod TokenForms
+pub mod Respelling
+pub mod RespelledTerms
+pub mod RespelledSelect
+pub mod Respelled
+pub mod PrintedWords
+pub mod PrintedNumbers
+pub mod PrintedTexts
+pub mod PrintedMarks
+pub mod PrintedTokens
+pub mod OnceLaws
+pub mod PrintedLaws

@@ -4,7 +4,7 @@ use Rattle.std.proofs.lemmas.List.{length-append}
 use Rattle.rs_ast.specs.declared.token.Token.{Token}
 use Rattle.rs_parse.specs.Phrases.{Phrase, Behind, IsSeries, IsList, AtMost}
 use Rattle.rs_parse.specs.Read.{Read, Got, Fault, ◌>>=◌, begins, pass_at, series_at, behind_at, separated_at, all_at}
-use Rattle.rs_parse.proofs.Laws.{IsReader, got_value, got-fault, got_both, fault_of_both, Then, Made, IsToken, never, begins_never, reads_token, reads_then, reads_as}
+use Rattle.rs_parse.proofs.Readers.{IsReader, got_value, got-fault, got_both, fault_of_both, Then, Made, IsToken, never, begins_never, reads_token, reads_then, reads_as}
 use Rattle.rs_parse.proofs.Series.{reads_more}
 
 module _ {A : Type 0} (P : Phrase A) (separator : Token) (is_separator goes_on : Token → Bool) (item : List Token → Read A)

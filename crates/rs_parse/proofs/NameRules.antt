@@ -22,7 +22,7 @@ use Rattle.rs_parse.specs.Grammar.{IsIdent, IsSite, IsKind, IsAtSite, IsName, Is
 use Rattle.rs_parse.specs.Reader.{word_at, mark_at, ident_of, ident_at, site_of, site_at, kind_of, kind_at, at_site_at, optional_site_at, created_at, object_alone, name_at, column_of_at, column_alone, col_ref_at, column_at}
 use Rattle.std.proofs.lemmas.List.{append-nil}
 use Rattle.rs_parse.proofs.Options.{barred}
-use Rattle.rs_parse.proofs.Laws.{IsReader, One, Then, Made, Either, Empty, IsToken, never, or_left, or_right, gives_before, reads_one, reads_token, reads_optional, then_reads, behind_reads, made_reads, either_reads, as_reads, before_reads, token_begins, empty_begins, front_alone}
+use Rattle.rs_parse.proofs.Readers.{IsReader, One, Then, Made, Either, Empty, IsToken, never, or_left, or_right, gives_before, reads_one, reads_token, reads_optional, then_reads, behind_reads, made_reads, either_reads, as_reads, before_reads, token_begins, empty_begins, front_alone}
 
 -- ---- single tokens
 

@@ -15,7 +15,7 @@ use Rattle.rs_parse.specs.Grammar.{IsRequest}
 use Rattle.rs_parse.specs.Read.{Read, Got, Fault, ◌>>=◌}
 use Rattle.rs_parse.specs.Reader.{request_at, alone_at, request_of}
 use Rattle.rs_parse.specs.Parsing.{Spells, SomeBegins, IsOffending, IsFault, AtToken, NoToken, AtEnd, Parsed, Statement, FaultAt, place_of, judged, parsed_of, ParseGives}
-use Rattle.rs_parse.proofs.Laws.{Finds, got_value, got_rest, fault_rest, got-fault, fault-got, got_both, fault_of_both, nil-cons, front_alone}
+use Rattle.rs_parse.proofs.Readers.{Finds, got_value, got_rest, fault_rest, got-fault, fault-got, got_both, fault_of_both, nil-cons, front_alone}
 use Rattle.rs_parse.proofs.StmtRules.{request_reads}
 use Rattle.rs_parse.proofs.Splits.{length-starts, end_of_whole}
 

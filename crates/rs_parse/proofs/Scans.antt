@@ -112,7 +112,7 @@ mark_left : (b : ℕ) (bytes : List ℕ) → Left bytes (mark_at b bytes)
 unfolding mark_at
 mark_left b bytes = search (either, here, next, nothing) depth 20
 
-abbrev mark_token : Mark × List ℕ → Option (Token × List ℕ)
+abbrev pub mark_token : Mark × List ℕ → Option (Token × List ℕ)
 mark_token mark = Some (tokens.Mark mark.0, mark.1)
 
 mark_leaves : (b : ℕ) (bytes : List ℕ) (t : Token) (rest : List ℕ) → (mark_at b bytes >>= mark_token) ≡ Some (t, rest) → Leaves bytes rest
@@ -151,7 +151,7 @@ abbrev pub split_here : ℕ → List ℕ → Split
 split_here at [] = ends_at at true
 split_here at (b ∷ bytes) = taken_at at (token_here (b ∷ bytes)) (λ token. split_behind (at + (length (b ∷ bytes) - length token.1)) 0 token.1)
 
-same_behind : (at b : ℕ) (bytes : List ℕ) (read : Option (Token × List ℕ)) → token_at b bytes ≡ read
+pub same_behind : (at b : ℕ) (bytes : List ℕ) (read : Option (Token × List ℕ)) → token_at b bytes ≡ read
     → taken_at at read (λ token. split_behind (at + 1) (length bytes - length token.1) bytes)
     ≡ taken_at at read (λ token. split_behind (at + (length (b ∷ bytes) - length token.1)) 0 token.1)
 same_behind at b bytes None e = refl

@@ -24,7 +24,7 @@ use Rattle.rs_parse.specs.Phrases.{Phrase, Is, Optional, AtMost}
 use Rattle.rs_parse.specs.Read.{Got, ◌>>=◌, begins, either_at, optional_at}
 use Rattle.rs_parse.specs.Grammar.{IsIdent, IsColRef, IsListed, IsOfColumn, IsItem, IsItems, IsDistinct, IsTableRef, IsGroup, IsKeyBy, IsDirection, IsKey, IsOrder, IsWhere, IsSelect}
 use Rattle.rs_parse.specs.Reader.{word_at, ident_at, is_ident_token, place_of, place_at, count_at, of_column_at, item_at, items_at, distinct_at, table_ref_at, group_by_at, group_at, key_by_at, direction_at, key_at, order_by_at, order_at, select_at, listed_at, where_at}
-use Rattle.rs_parse.proofs.Laws.{IsReader, Then, Made, Either, Empty, IsToken, Begins, never, or_left, or_right, gives_before, reads_one, reads_optional, then_reads, behind_reads, made_reads, either_reads, as_reads, before_reads, token_begins, alone_begins, empty_begins, begins_fewer, begins_made, begins_either, behind_begins}
+use Rattle.rs_parse.proofs.Readers.{IsReader, Then, Made, Either, Empty, IsToken, Begins, never, or_left, or_right, gives_before, reads_one, reads_optional, then_reads, behind_reads, made_reads, either_reads, as_reads, before_reads, token_begins, alone_begins, empty_begins, begins_fewer, begins_made, begins_either, behind_begins}
 use Rattle.rs_parse.proofs.Series.{begins_apart}
 use Rattle.rs_parse.proofs.NameRules.{mark_reads, word_reads, ident_reads, on_column, col_ref_reads, on_name, name_reads}
 use Rattle.rs_parse.proofs.TermRules.{ident_begins, on_listed, listed_reads}

@@ -3,7 +3,7 @@ use Rattle.std.proofs.Common.{◌≡◌, ℕ, zero, suc, Bool, true, false, ◌|
 use Rattle.rs_ast.specs.declared.token.Token.{Token}
 use Rattle.rs_parse.specs.Phrases.{Phrase, IsSeries, AtMost}
 use Rattle.rs_parse.specs.Read.{Read, Got, ◌>>=◌, begins, series_at, more_at}
-use Rattle.rs_parse.proofs.Laws.{IsReader, Empty, Then, Either, Made, begins_fewer, or_left, or_right, give, gives_before, reads_then, reads_either, reads_as, reads_made}
+use Rattle.rs_parse.proofs.Readers.{IsReader, Empty, Then, Either, Made, begins_fewer, or_left, or_right, give, gives_before, reads_then, reads_either, reads_as, reads_made}
 
 pub begins_apart : (is goes_on : Token → Bool) → ((t : Token) → is t ≡ true → goes_on t ≡ false) → (ts : List Token) → begins is ts ≡ true → begins goes_on ts ≡ false
 begins_apart is goes_on apart [] e = refl

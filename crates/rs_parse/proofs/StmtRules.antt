@@ -18,7 +18,7 @@ use Rattle.rs_parse.specs.Phrases.{Phrase, AtMost}
 use Rattle.rs_parse.specs.Read.{Read, Got, ◌>>=◌, begins, either_at}
 use Rattle.rs_parse.specs.Grammar.{IsIdent, IsSite, IsName, IsColumn, IsLiteral, IsListed, IsListedOrNone, IsSelect, IsDml, IsBody, IsStmt, IsRequest}
 use Rattle.rs_parse.specs.Reader.{ident_at, is_ident_token, begins_literal, literal_at, listed_or_none_at, dml_at, create_table_at, create_index_at, create_synonym_at, create_at, drop_table_at, drop_index_at, drop_synonym_at, drop_program_at, drop_at, migrate_at, compile_at, execute_at, explain_at, show_at, stmt_at, end_at, request_at}
-use Rattle.rs_parse.proofs.Laws.{IsReader, Then, Made, Either, Empty, IsToken, Begins, never, or_left, or_right, gives_before, then_reads, behind_reads, made_reads, either_reads, as_reads, before_reads, token_begins, alone_begins, empty_begins, begins_either}
+use Rattle.rs_parse.proofs.Readers.{IsReader, Then, Made, Either, Empty, IsToken, Begins, never, or_left, or_right, gives_before, then_reads, behind_reads, made_reads, either_reads, as_reads, before_reads, token_begins, alone_begins, empty_begins, begins_either}
 use Rattle.rs_parse.proofs.NameRules.{mark_reads, word_reads, ident_reads, site_reads, on_name, name_reads, column_reads}
 use Rattle.rs_parse.proofs.TermRules.{literal_reads, ident_begins, on_listed, listed_reads}
 use Rattle.rs_parse.proofs.SelectRules.{on_select, select_reads, listed_begins}

@@ -21,7 +21,7 @@ use Rattle.rs_parse.specs.Phrases.{Phrase, Optional, AtMost}
 use Rattle.rs_parse.specs.Read.{Read, begins, optional_at}
 use Rattle.rs_parse.specs.Grammar.{IsIdent, IsLiteral, IsParam, IsTerm, IsVal, IsTuple, IsArith, IsMoreTerm, IsExpr, IsSet, IsListed}
 use Rattle.rs_parse.specs.Reader.{is_ident_token, unsigned_of, unsigned_at, negated_of, negated_at, negative_at, literal_at, param_at, val_at, term_at, arith_of, arith_of_mark, is_arith_token, arith_at, more_term_at, expr_at, set_at, listed_at, tuple_at}
-use Rattle.rs_parse.proofs.Laws.{IsReader, One, Then, Made, Either, IsToken, never, reads_one, reads_optional, then_reads, behind_reads, made_reads, either_reads, as_reads, token_begins, alone_begins}
+use Rattle.rs_parse.proofs.Readers.{IsReader, One, Then, Made, Either, IsToken, never, reads_one, reads_optional, then_reads, behind_reads, made_reads, either_reads, as_reads, token_begins, alone_begins}
 use Rattle.rs_parse.proofs.Lists.{reads_list}
 use Rattle.rs_parse.proofs.NameRules.{mark_reads, ident_reads, ident_of_free}
 

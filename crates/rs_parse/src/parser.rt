@@ -67,7 +67,9 @@ fn read(alloc: Global, text: &[u8]) -> Result<Stmt, ParseFault>
     }
 }
 
-/// The statement that a text spells, with a semicolon or none behind it. Words are read in either case.
+/// The statement that a text spells, with a semicolon or none behind it. Words are read in either case. A statement has at
+/// most 16 columns, items, columns of a group, keys, parameters, values of a tuple and sets, a query at most 6 tables, and a
+/// program at most 8 statements; a word has at most 24 bytes, a text value at most 255, and a number is at most 2^63 - 1.
 ///
 /// `Syntax` says that no request has this text, and the first byte, counted from 0, of the first token such that no request
 /// begins with the tokens up to it; where no token begins at a byte that is reached before that, it is that byte; and where
