@@ -129,6 +129,10 @@ module _ {X : Type 0} (R : X → X → Ordering) where
       elim (R x y) as (λ o. AllByRecursion P (match_ordering o (x ∷ y ∷ ys) (x ∷ y ∷ ys) (y ∷ put_in_order R x ys)))
       [ Less ↦ (here, all) | Equal ↦ (here, all) | Greater ↦ onward ]
 
+  pub all_sorted : (P : X → Type 0) (xs : List X) → AllByRecursion P xs → AllByRecursion P (sorted_by R xs)
+  all_sorted P [] all = tt
+  all_sorted P (x ∷ xs) all = all_put P x (sorted_by R xs) all.0 (all_sorted P xs all.1)
+
 module _ {X : Type 0} {R : X → X → Ordering} (total : IsTotalOrder R) where
   pub none_below_before : (x y : X) (ys : List X) → is_gt (R x y) ≡ false → NoneBelow R y ys → NoneBelow R x ys
   none_below_before x y [] e h = tt

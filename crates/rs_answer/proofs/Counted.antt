@@ -123,7 +123,7 @@ module _ {X : Type 0} (same : X → X → Bool) (is : Decides same) where
       let here : cond (not (same x z)) (times same z (once same xs)) 0 ≡ cond (not (same z x)) (times same z (once same xs)) 0 = ap (λ b. cond (not b) (times same z (once same xs)) 0) turned in
       ap (λ n. one_like same z x + n) (kept ∙ here) ∙ once_step (same z x) (times same z xs) (times same z (once same xs)) (times_once z xs)
 
-all_filter : {X : Type 0} (P : X → Type 0) (p : X → Bool) (xs : List X) → AllByRecursion P xs → AllByRecursion P (filter p xs)
+pub all_filter : {X : Type 0} (P : X → Type 0) (p : X → Bool) (xs : List X) → AllByRecursion P xs → AllByRecursion P (filter p xs)
 all_filter P p [] all = tt
 all_filter P p (x ∷ xs) all =
     let rest = all_filter P p xs all.1 in

@@ -55,10 +55,10 @@ lt_no_gt Greater e = cc
 itself_low : (v : Value) → is_gt (value_cmp v v) ≡ false
 itself_low v = ap is_gt (tied_itself value_total v)
 
-lesser_chosen : (v w : Value) → (lesser v w ≡ v) ⊎ (lesser v w ≡ w)
+pub lesser_chosen : (v w : Value) → (lesser v w ≡ v) ⊎ (lesser v w ≡ w)
 lesser_chosen v w = elim (is_lt (value_cmp w v)) as (λ b. (cond b w v ≡ v) ⊎ (cond b w v ≡ w)) [ true ↦ inr refl | false ↦ inl refl ]
 
-greater_chosen : (v w : Value) → (greater v w ≡ v) ⊎ (greater v w ≡ w)
+pub greater_chosen : (v w : Value) → (greater v w ≡ v) ⊎ (greater v w ≡ w)
 greater_chosen v w = elim (is_gt (value_cmp w v)) as (λ b. (cond b w v ≡ v) ⊎ (cond b w v ≡ w)) [ true ↦ inr refl | false ↦ inl refl ]
 
 lesser_low : (v w : Value) → is_gt (value_cmp (lesser v w) v) ≡ false

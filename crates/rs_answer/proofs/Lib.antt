@@ -12,3 +12,4 @@ pub mod Progress
 pub mod Regrouped
 pub mod Rows
 pub mod Runs
+pub mod Typed

@@ -5,5 +5,6 @@ pub mod Given
 pub mod Groups
 pub mod ItemLaws
 pub mod Items
+pub mod Kinds
 pub mod Laws
 pub mod Sorting

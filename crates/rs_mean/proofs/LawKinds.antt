@@ -30,12 +30,9 @@ use Rattle.rs_bind.proofs.OverScope.{kinds_in, kind_known, place_kind, place_wit
 use Rattle.rs_bind.proofs.OverTests.{both_pass}
 use Rattle.rs_eval.specs.Clauses.{holds}
 use Rattle.rs_eval.specs.Setting.{term_value, combined, set_value, is_stored, with_sets, row_set}
+use Rattle.rs_answer.specs.Kinds.{HasKinds}
 use Rattle.rs_mean.specs.RowChanges.{given_rows, updated_row, with_first, and_others, updated_rows}
 use Rattle.rs_mean.proofs.LawTests.{passed, holds_if, both}
-
--- the row has a value of each of these kinds, in order
-abbrev pub HasKinds : List Kind → List Value → Type 0
-HasKinds these row = map kind_of row ≡ these
 
 -- kinds that are the same are equal
 same_kinds : (one other : Kind) → same_kind one other ≡ true → one ≡ other
@@ -92,7 +89,7 @@ fits_itself kind None there fits = absurd (there refl)
 fits_itself kind (Some other) there fits = ap Some (sym (same_kinds kind other fits))
 
 -- the kind that is known
-the_known : (known : Option Kind) → (known ≡ None → ⊥) → (kind : Kind) × (known ≡ Some kind)
+pub the_known : (known : Option Kind) → (known ≡ None → ⊥) → (kind : Kind) × (known ≡ Some kind)
 the_known None there = absurd (there refl)
 the_known (Some kind) there = (kind, refl)
 

@@ -1,5 +1,5 @@
 -- The kinds of what a query answers.
-use Rattle.std.proofs.Common.{◌≡◌, ℕ, ◌+◌, ◌*◌, ◌≤◌, zero, suc, Bool, true, false, cond, not, ◌==◌, List, [], ◌∷◌, ◌++◌, map, length, All, Option, Some, None, IfSome, Result, Ok, Err, flat_map, slice_get, nat_lt, refl, sym, ap, ap₂, ◌∙◌, subst, arith, length-append}
+use Rattle.std.proofs.Common.{◌≡◌, ℕ, ◌+◌, ◌*◌, ◌≤◌, suc, Bool, true, false, cond, not, ◌==◌, List, [], ◌∷◌, ◌++◌, map, length, All, Option, Some, None, IfSome, Result, Ok, Err, flat_map, slice_get, nat_lt, refl, sym, ap, ap₂, ◌∙◌, subst, arith, length-append}
 use Rattle.std.specs.List.{range_with_len}
 use Rattle.std.proofs.lemmas.List.{length-map, map-append}
 use Rattle.std.proofs.lemmas.List.Elements.{All-nil, All-cons, All-head, All-tail, All-append, All-filter}
@@ -129,27 +129,27 @@ module _ (scope : List ScopeColumn) (small : length scope ≤ 96) where
   ShowsOne item kind = (kind_shown scope item ≡ Some kind) × (item_kind (kinds_in scope) (shape_item scope item) ≡ Some kind)
 
   column_shows : (written : ColRef) → first_denial (column_tests scope written) ≡ None
-      → (kind : Kind) × (column_kind scope written ≡ Some kind) × (slice_get (kinds_in scope) (place_of scope written) ≡ Some kind)
+      → (kind : Kind) × ((column_kind scope written ≡ Some kind) × (slice_get (kinds_in scope) (place_of scope written) ≡ Some kind))
   column_shows written passes =
       let named = (passed (test (named_count scope written == 0) denials.NoColumn) (test (nat_lt 1 (named_count scope written)) denials.TwoColumns ∷ []) passes).0 in
       let known = the_known (column_kind scope written) (kind_known scope small written named) in
-      (known.0, known.1, place_kind scope small written ∙ known.1)
+      (known.0, (known.1, place_kind scope small written ∙ known.1))
 
   item_shows : (item : Item) → first_denial (item_tests scope item) ≡ None → (kind : Kind) × ShowsOne item kind
   item_shows (items.Col written) passes = column_shows written passes
-  item_shows items.Count passes = (kinds.Int, refl, refl)
-  item_shows (items.Sum written) passes = (kinds.Int, refl, refl)
+  item_shows items.Count passes = (kinds.Int, (refl, refl))
+  item_shows (items.Sum written) passes = (kinds.Int, (refl, refl))
   item_shows (items.Min written) passes = column_shows written passes
   item_shows (items.Max written) passes = column_shows written passes
 
   listed_show : (listed : List Item) → first_denial (flat_map (item_tests scope) listed) ≡ None → (known : List Kind) × Show (Some listed) known
-  listed_show [] passes = ([], refl, refl)
+  listed_show [] passes = ([], (refl, refl))
   listed_show (item ∷ listed) passes =
       let parts = both_pass (item_tests scope item) (flat_map (item_tests scope) listed) passes in
       let first = item_shows item parts.0 in
       let rest = listed_show listed parts.1 in
       let join : Option Kind → List (Option Kind) → List (Option Kind) = λ one others. one ∷ others in
-      (first.0 ∷ rest.0, ap₂ join first.1 rest.1, ap₂ join first.2 rest.2)
+      (first.0 ∷ rest.0, (ap₂ join first.1.0 rest.1.0, ap₂ join first.1.1 rest.1.1))
 
   all_shown : (given : List ScopeColumn) → AreKindsOf (map (λ (column : ScopeColumn). Some column.kind) given) (kinds_in given)
   all_shown [] = refl
@@ -159,7 +159,7 @@ module _ (scope : List ScopeColumn) (small : length scope ≤ 96) where
   every_shows =
       let mapped : length (kinds_in scope) ≡ length scope = length-map scope (λ (column : ScopeColumn). column.kind) in
       let range : AreKindsOf (map (item_kind (kinds_in scope)) (map (column_at (kinds_in scope)) (range_with_len 0 (length (kinds_in scope))))) (kinds_in scope)
-      = range_kinds (kinds_in scope) 0 (kinds_in scope) (omega arith) (λ i. refl) in
+      = range_kinds (kinds_in scope) 0 (kinds_in scope) (omega arith) (λ i. (let same : 0 + i ≡ i = omega arith in ap (slice_get (kinds_in scope)) same)) in
       (all_shown scope, ap (λ (n : ℕ). map (item_kind (kinds_in scope)) (map (column_at (kinds_in scope)) (range_with_len 0 n))) (sym mapped) ∙ range)
 
   -- what a query shows that isn't denied has a kind, each
@@ -219,4 +219,4 @@ module _ (db : Database) (each : EachTable IsTyped db) (name : TableRef → Swn)
       let shown = shown_show columns small query.items (items_pass query (map (heading_in db) (map name query.from)) passes) in
       let found = answered shape (joined_within clauses tables) rows e in
       let typed = joined_so (HasKinds (kinds_in columns)) clauses tables found.0 (choices_typed db each name query.from) found.1 in
-      (shown.0, shown.1, answers_have_kinds shape (kinds_in columns) shown.0 found.0 rows shown.2 typed found.2)
+      (shown.0, shown.1.0, answers_have_kinds shape (kinds_in columns) shown.0 found.0 rows shown.1.1 typed found.2)

@@ -18,10 +18,10 @@ use Rattle.rs_ast.specs.declared.select.Select.{Select}
 use Rattle.rs_ast.specs.declared.stmt.Dml.{Dml}
 use Rattle.rs_ast.specs.declared.stmt.Dml.TheVariants as dmls
 use Rattle.rs_plan.specs.declared.bound.Bound.TheVariants as bounds
-use Rattle.rs_bind.specs.Binding.{select_bound, bound_select, bound_rows, bound_set, bound_clauses, insert_bound, update_bound, delete_bound}
+use Rattle.rs_bind.specs.Binding.{select_bound, bound_select, shape_of, bound_rows, bound_set, bound_clauses, insert_bound, update_bound, delete_bound}
 use Rattle.rs_bind.specs.Binding as binding
 use Rattle.rs_bind.specs.Denials.{Test, test, first_denial, select_tests, insert_tests, update_tests, delete_tests, sets_tests, clauses_tests}
-use Rattle.rs_bind.specs.Scope.{table_scope}
+use Rattle.rs_bind.specs.Scope.{query_scope, table_scope}
 use Rattle.rs_bind.specs.declared.heading.Heading.{Heading}
 use Rattle.rs_bind.specs.declared.scope.ScopeColumn.{ScopeColumn}
 use Rattle.rs_bind.proofs.OverTests.{both_pass}
@@ -36,7 +36,7 @@ use Rattle.rs_mean.specs.Effects.{done}
 use Rattle.rs_mean.specs.Meaning.{effect_of_stmt, effect_of, meaning}
 use Rattle.rs_mean.specs.Names.{name_of, own_synonym, site_test, table_tests}
 use Rattle.rs_mean.specs.RowChanges.{given_rows, has_room, inserted, updated_rows, may_be_rows, within_limits, updated, kept, met}
-use Rattle.rs_mean.specs.RowStatements.{rows_in, heading_in, answering, inserting, updating, once_bound, tables_in, select, insert, update, delete, effect_of_dml}
+use Rattle.rs_mean.specs.RowStatements.{rows_in, heading_in, selected, answering, inserting, updating, once_bound, tables_in, select, insert, update, delete, effect_of_dml}
 use Rattle.rs_mean.specs.TableStatements.{create_tests, new_table, create_table, drop_table, columns_of, indexes_of, column_place, has_index, is_indexed, create_index_tests, new_index, create_index, drop_index_tests, without_index, drop_index, create_synonym_tests, create_synonym, drop_synonym_tests, drop_synonym}
 use Rattle.rs_mean.proofs.LawTests.{passed, holds_if, absent_if, neither}
 use Rattle.rs_mean.proofs.LawEffects.{IsSo, so_denied, so_done, so_unless}
@@ -157,22 +157,42 @@ drop_synonym_so db execution synonym =
 
 -- ---- SELECT
 
-pub record Selects (change : Change) (given : List Answer) : Type 0 where
+-- the columns that a query may name, over tables of these names
+abbrev pub scope_among : Database → List Swn → Select → List ScopeColumn
+scope_among db names query = query_scope query.from (map (heading_in db) names)
+
+pub record Selects (db : Database) (names : List Swn) (query : Select) (change : Change) (given : List Answer) : Type 0 where
+  pub rows : List (List Value)
   pub is : change ≡ changes.Nothing
+  pub answers : given ≡ answers.Rows rows ∷ []
+  pub fit : first_denial (select_tests query (map (heading_in db) names) []) ≡ None
+  pub found : selected (bound_clauses (scope_among db names query) [] query.clauses) (shape_of (scope_among db names query) query) (map (rows_in db) names) ≡ Ok rows
 
-answering_so : (rows : Result (List (List Value)) Denial) → IsSo Selects (answering rows)
-answering_so (Ok rows) = so_done Selects changes.Nothing (answers.Rows rows) (record { is = refl })
-answering_so (Err cause) = so_denied Selects cause
+module _ (db : Database) (names : List Swn) (query : Select) where
+  abbrev scope : List ScopeColumn
+  scope = scope_among db names query
 
-select_so : (db : Database) (names : List Swn) (query : Select) → IsSo Selects (select (tables_in db) names query)
-unfolding select_bound
-select_so db names query =
-    let headings : List Heading = map (heading_in db) names in
-    let tables : List (List (List Value)) = map (rows_in db) names in
-    let Claim : Option Denial → Type 0 = λ denial. IsSo Selects (once_bound tables (binding.unless_denied denial (bound_select query headings []))) in
-    let at : (denial : Option Denial) → Claim denial = λ denial. elim denial as Claim [ None ↦ answering_so _ | Some cause ↦ so_denied Selects cause ] in
-    so_unless Selects (first_denial (flat_map (table_tests db) names)) (once_bound tables (select_bound query headings []))
-    (λ e. at (first_denial (select_tests query headings [])))
+  abbrev tests : List Test
+  tests = select_tests query (map (heading_in db) names) []
+
+  answering_so : first_denial tests ≡ None → (rows : Result (List (List Value)) Denial)
+      → selected (bound_clauses scope [] query.clauses) (shape_of scope query) (map (rows_in db) names) ≡ rows → IsSo (Selects db names query) (answering rows)
+  answering_so fit (Ok rows) e = so_done (Selects db names query) changes.Nothing (answers.Rows rows) (record { rows = rows; is = refl; answers = refl; fit = fit; found = e })
+  answering_so fit (Err cause) e = so_denied (Selects db names query) cause
+
+  select_so : IsSo (Selects db names query) (select (tables_in db) names query)
+  unfolding select_bound
+  select_so =
+      let headings : List Heading = map (heading_in db) names in
+      let tables : List (List (List Value)) = map (rows_in db) names in
+      let Claim : Option Denial → Type 0 = λ denial. first_denial tests ≡ denial
+      → IsSo (Selects db names query) (once_bound tables (binding.unless_denied denial (bound_select query headings []))) in
+      let at : (denial : Option Denial) → Claim denial = λ denial. elim denial as Claim [
+        | None ↦ λ fit. answering_so fit (selected (bound_clauses scope [] query.clauses) (shape_of scope query) tables) refl
+        | Some cause ↦ λ e. so_denied (Selects db names query) cause
+      ] in
+      so_unless (Selects db names query) (first_denial (flat_map (table_tests db) names)) (once_bound tables (select_bound query headings []))
+      (λ e. at (first_denial tests) refl)
 
 -- ---- INSERT
 
@@ -302,7 +322,7 @@ delete_so db name clauses =
 -- ---- every statement
 
 abbrev pub DoesOfDml : Database → Execution → Dml → Change → List Answer → Type 0
-DoesOfDml db execution (dmls.Select query) = Selects
+DoesOfDml db execution (dmls.Select query) = Selects db (map (λ table. name_of db execution table.name) query.from) query
 DoesOfDml db execution (dmls.Insert written rows) = Inserts db (name_of db execution written) rows
 DoesOfDml db execution (dmls.Update written sets clauses) = Updates db (name_of db execution written) sets
 DoesOfDml db execution (dmls.Delete written clauses) = Deletes db (name_of db execution written)

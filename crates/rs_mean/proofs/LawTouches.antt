@@ -1,5 +1,5 @@
 -- What each statement may change.
-use Rattle.std.proofs.Common.{ℕ, List, Option, Some, None, refl, sym, subst}
+use Rattle.std.proofs.Common.{◌≡◌, ℕ, List, Option, Some, None, refl, sym, subst}
 use Rattle.std.specs.Option.{option_map}
 use Rattle.rs_base.specs.declared.name.NameText.{NameText}
 use Rattle.rs_base.specs.declared.name.Swn.{Swn}
@@ -12,7 +12,7 @@ use Rattle.rs_mean.specs.declared.change.Change.{Change}
 use Rattle.rs_mean.specs.declared.execution.Execution.{Execution}
 use Rattle.rs_mean.specs.declared.synonym.Synonym.{Synonym}
 use Rattle.rs_mean.specs.Database.{Database}
-use Rattle.rs_mean.specs.Laws.{LeavesSynonyms, written_of_dml, written_of, synonym_of}
+use Rattle.rs_mean.specs.Laws.{written_of_dml, written_of, synonym_of}
 use Rattle.rs_mean.specs.Names.{name_of, own_synonym}
 use Rattle.rs_mean.proofs.LawStatements.{DoesOfDml, Does}
 use Rattle.rs_mean.proofs.LawSynonyms.{TouchesSynonym}
@@ -43,13 +43,13 @@ module _ (db : Database) (execution : Execution) (change : Change) (given : List
   dml_of_tables (dmls.Update written sets clauses) so = subst IsOfTables (sym so.is) tt
   dml_of_tables (dmls.Delete written clauses) so = subst IsOfTables (sym so.is) tt
 
-  pub of_tables : (stmt : Stmt) → LeavesSynonyms stmt → Does db execution stmt change given → IsOfTables change
+  pub of_tables : (stmt : Stmt) → synonym_of stmt ≡ None → Does db execution stmt change given → IsOfTables change
   of_tables (stmts.CreateTable written columns) leaves so = subst IsOfTables (sym so.is) tt
   of_tables (stmts.DropTable written) leaves so = subst IsOfTables (sym so.is) tt
   of_tables (stmts.CreateIndex index written column) leaves so = subst IsOfTables (sym so.is) tt
   of_tables (stmts.DropIndex index written) leaves so = subst IsOfTables (sym so.is) tt
-  of_tables (stmts.CreateSynonym synonym written) leaves so = absurd leaves
-  of_tables (stmts.DropSynonym synonym) leaves so = absurd leaves
+  of_tables (stmts.CreateSynonym synonym written) leaves so = absurd cc
+  of_tables (stmts.DropSynonym synonym) leaves so = absurd cc
   of_tables (stmts.Dml dml) leaves so = dml_of_tables dml so
 
   abbrev own : Option (List ℕ) → Option Synonym

@@ -18,6 +18,7 @@ use Rattle.rs_bind.specs.Scope.{scope_column, columns_as}
 use Rattle.rs_bind.specs.declared.scope.ScopeColumn.{ScopeColumn}
 use Rattle.rs_bind.proofs.OverScope.{kinds_in}
 use Rattle.rs_eval.specs.Clauses.{holds}
+use Rattle.rs_answer.specs.Kinds.{HasKinds}
 use Rattle.rs_mean.specs.declared.table.Table.{Table}
 use Rattle.rs_mean.specs.Changes.{with_rows}
 use Rattle.rs_mean.specs.Laws.{IsTyped}
@@ -25,7 +26,7 @@ use Rattle.rs_mean.specs.RowChanges.{given_rows, updated_rows, kept}
 use Rattle.rs_mean.specs.RowStatements.{rows_of}
 use Rattle.rs_mean.specs.TableStatements.{columns_of, new_table}
 use Rattle.rs_mean.proofs.LawKept.{KeepsIn}
-use Rattle.rs_mean.proofs.LawKinds.{HasKinds, kinds_as, given_typed, row_typed, updated_so}
+use Rattle.rs_mean.proofs.LawKinds.{kinds_as, given_typed, row_typed, updated_so}
 
 -- the kinds of the columns
 abbrev kinds_of : List ColDef → List Kind

@@ -20,7 +20,7 @@ use Rattle.rs_mean.specs.declared.table.Table.{Table}
 use Rattle.rs_mean.specs.Changes.{changed, with_rows}
 use Rattle.rs_mean.specs.Columns.{has_name}
 use Rattle.rs_mean.specs.Database.{Database, table_named, target_of}
-use Rattle.rs_mean.specs.Laws.{DeniedChangesNothing, SelectChangesNothing, SitesStay, NamesStayInOrder, SynonymsStayInOrder, OthersStay, SynonymsStay, OtherSynonymsStay, IndexIsMade, IndexIsDropped, SynonymIsMade, SynonymIsDropped, TableIsMade, TableIsDropped, RowsAreAppended, RowsAreTakenOut, RowsAreChanged, EachTable, IsWithin, TablesStayWithin, HasDistinctColumns, ColumnsStayDistinct, HasDistinctIndexes, IndexesStayDistinct, IsTyped, RowsStayTyped, written_of, synonym_of}
+use Rattle.rs_mean.specs.Laws.{AnswersAreTyped, DeniedChangesNothing, SelectChangesNothing, SitesStay, NamesStayInOrder, SynonymsStayInOrder, OthersStay, SynonymsStay, OtherSynonymsStay, IndexIsMade, IndexIsDropped, SynonymIsMade, SynonymIsDropped, TableIsMade, TableIsDropped, RowsAreAppended, RowsAreTakenOut, RowsAreChanged, EachTable, IsWithin, TablesStayWithin, HasDistinctColumns, ColumnsStayDistinct, HasDistinctIndexes, IndexesStayDistinct, IsTyped, RowsStayTyped, written_of, synonym_of}
 use Rattle.rs_mean.specs.Meaning.{effect_of, meaning}
 use Rattle.rs_mean.specs.Names.{name_of, own_synonym}
 use Rattle.rs_mean.specs.RowChanges.{kept, met}
@@ -31,6 +31,7 @@ use Rattle.rs_mean.proofs.LawEffects.{holds_of_change}
 use Rattle.rs_mean.proofs.LawIndexes.{name_at, none_of_name}
 use Rattle.rs_mean.proofs.LawKept.{Keeps, each_changed, all_differ}
 use Rattle.rs_mean.proofs.LawRows.{given_as_written, as_many_updated, met_at_most, kept_and_met}
+use Rattle.rs_mean.proofs.LawShown.{rows_shown}
 use Rattle.rs_mean.proofs.LawSynonyms.{TouchesSynonym, other_synonyms_at, synonyms_in_order}
 use Rattle.rs_mean.proofs.LawTouches.{touches, of_tables, touches_synonym}
 use Rattle.rs_mean.proofs.LawStays.{stays_within, columns_stay, indexes_stay, stays_typed}
@@ -272,3 +273,12 @@ rows_stay_typed = (
   λ db execution few each.
       each_after IsTyped db execution each (λ given so. stays_typed db execution (effect_of db execution).change given each execution.stmt few so),
 )
+
+-- ---- what a query answers
+
+pub answers_are_typed : AnswersAreTyped
+unfolding meaning
+answers_are_typed db execution query given each few is e =
+    let so = does db execution (stmts.Dml (dmls.Select query)) given is e in
+    let shown = rows_shown db each (λ table. name_of db execution table.name) query few so.rows so.fit so.found in
+    (so.rows, shown.0, so.answers, shown.1, shown.2)

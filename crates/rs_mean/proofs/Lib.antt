@@ -5,6 +5,7 @@ mod LawIndexes
 mod LawKept
 mod LawKinds
 mod LawRows
+mod LawShown
 mod LawStatements
 mod LawStays
 mod LawSynonyms

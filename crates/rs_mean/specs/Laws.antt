@@ -7,17 +7,23 @@ use Rattle.rs_base.specs.declared.name.Swn.{Swn}
 use Rattle.rs_base.specs.declared.reply.Answer.{Answer}
 use Rattle.rs_base.specs.declared.reply.Answer.TheVariants as answers
 use Rattle.rs_base.specs.declared.reply.Denial.{Denial}
+use Rattle.rs_base.specs.declared.value.Kind.{Kind}
+use Rattle.rs_base.specs.declared.value.Kind.TheVariants as kinds
 use Rattle.rs_base.specs.declared.value.Value.{Value}
 use Rattle.rs_base.specs.Sizes.{row_size}
-use Rattle.rs_base.specs.Value.{kind_of}
 use Rattle.rs_ast.specs.declared.change.Set.{Set}
 use Rattle.rs_ast.specs.declared.change.Term.TheVariants as terms
 use Rattle.rs_ast.specs.declared.clause.Clause.{Clause}
 use Rattle.rs_ast.specs.declared.column.ColDef.{ColDef}
 use Rattle.rs_ast.specs.declared.entry.IndexOf.{IndexOf}
+use Rattle.rs_ast.specs.declared.select.Item.{Item}
+use Rattle.rs_ast.specs.declared.select.Item.TheVariants as items
 use Rattle.rs_ast.specs.declared.select.Select.{Select}
 use Rattle.rs_ast.specs.declared.stmt.Dml.{Dml}
 use Rattle.rs_ast.specs.declared.stmt.Dml.TheVariants as dmls
+use Rattle.rs_bind.specs.declared.scope.ScopeColumn.{ScopeColumn}
+use Rattle.rs_bind.specs.Scope.{column_kind, query_scope}
+use Rattle.rs_answer.specs.Kinds.{HasKinds, AreKindsOf}
 use Rattle.rs_mean.specs.declared.built.Stmt.{Stmt}
 use Rattle.rs_mean.specs.declared.built.Stmt.TheVariants as stmts
 use Rattle.rs_mean.specs.declared.execution.Execution.{Execution}
@@ -29,6 +35,7 @@ use Rattle.rs_rows.specs.Sizes.{rows_size}
 use Rattle.rs_mean.specs.Limits.{max_row_bytes, max_rows, max_table_bytes}
 use Rattle.rs_mean.specs.Meaning.{meaning}
 use Rattle.rs_mean.specs.Names.{name_of, own_synonym}
+use Rattle.rs_mean.specs.RowStatements.{heading_in}
 
 -- the database after the execution
 abbrev pub after : Database → Execution → Database
@@ -80,21 +87,7 @@ target_table db execution = option_map (name_of db execution) (written_of execut
 abbrev pub OthersStay : Type 0
 OthersStay = (db : Database) (execution : Execution) (name : Swn) → target_table db execution ≢ Some name → table_named name (after db execution) ≡ table_named name db
 
--- the statement is one on tables or on rows
-abbrev pub LeavesSynonyms : Stmt → Type 0
-LeavesSynonyms (stmts.CreateTable written columns) = Unit {0}
-LeavesSynonyms (stmts.DropTable written) = Unit {0}
-LeavesSynonyms (stmts.CreateIndex index written column) = Unit {0}
-LeavesSynonyms (stmts.DropIndex index written) = Unit {0}
-LeavesSynonyms (stmts.CreateSynonym synonym written) = ⊥
-LeavesSynonyms (stmts.DropSynonym synonym) = ⊥
-LeavesSynonyms (stmts.Dml dml) = Unit {0}
-
--- only statements on synonyms change what synonyms stand for
-abbrev pub SynonymsStay : Type 0
-SynonymsStay = (db : Database) (execution : Execution) → LeavesSynonyms execution.stmt → (after db execution).synonyms ≡ db.synonyms
-
--- the synonym that a statement may change, and the user's own of this name at the asked site
+-- the name of the synonym that a statement may change
 abbrev pub synonym_of : Stmt → Option (List ℕ)
 synonym_of (stmts.CreateTable written columns) = None
 synonym_of (stmts.DropTable written) = None
@@ -104,8 +97,13 @@ synonym_of (stmts.CreateSynonym synonym written) = Some synonym
 synonym_of (stmts.DropSynonym synonym) = Some synonym
 synonym_of (stmts.Dml dml) = None
 
+-- the user's own synonym of this name at the asked site
 abbrev pub target_synonym : Execution → Option Synonym
 target_synonym execution = option_map (own_synonym execution) (synonym_of execution.stmt)
+
+-- only statements on synonyms change what synonyms stand for
+abbrev pub SynonymsStay : Type 0
+SynonymsStay = (db : Database) (execution : Execution) → synonym_of execution.stmt ≡ None → (after db execution).synonyms ≡ db.synonyms
 
 -- an execution touches no synonym but its own: none of another user, and none at another site
 abbrev pub OtherSynonymsStay : Type 0
@@ -246,7 +244,7 @@ IndexesStayDistinct = StaysInEachTable HasDistinctIndexes
 -- The table has at most 16 columns, and each of its rows has a value for each, of its kind.
 pub record IsTyped (table : Table) : Type 0 where
   pub few : length table.columns ≤ 16
-  pub kinds : All (λ row. map kind_of row ≡ map (λ column. column.kind) table.columns) table.rows
+  pub kinds : All (HasKinds (map (λ column. column.kind) table.columns)) table.rows
 
 -- the statement makes no table of more than 16 columns; none that is written does
 abbrev pub MakesFewColumns : Stmt → Type 0
@@ -263,3 +261,29 @@ abbrev pub RowsStayTyped : Type 0
 RowsStayTyped =
     ((sites : ℕ) → EachTable IsTyped (empty sites))
     × ((db : Database) (execution : Execution) → MakesFewColumns execution.stmt → EachTable IsTyped db → EachTable IsTyped (after db execution))
+
+-- ---- what a query answers
+
+-- the columns that a query may name
+abbrev pub columns_named : Database → Execution → Select → List ScopeColumn
+columns_named db execution query = query_scope query.from (map (heading_in db) (map (λ table. name_of db execution table.name) query.from))
+
+-- the kind of what an item answers, if its column is there
+abbrev pub kind_shown : List ScopeColumn → Item → Option Kind
+kind_shown columns (items.Col written) = column_kind columns written
+kind_shown columns items.Count = Some kinds.Int
+kind_shown columns (items.Sum written) = Some kinds.Int
+kind_shown columns (items.Min written) = column_kind columns written
+kind_shown columns (items.Max written) = column_kind columns written
+
+-- the kinds of what a query answers; `*` shows every column
+abbrev pub kinds_shown : List ScopeColumn → Option (List Item) → List (Option Kind)
+kinds_shown columns None = map (λ column. Some column.kind) columns
+kinds_shown columns (Some shown) = map (kind_shown columns) shown
+
+-- a query of at most 6 tables that is answered has a kind for each item, and each row that it answers a value for each, of its kind
+abbrev pub AnswersAreTyped : Type 0
+AnswersAreTyped = (db : Database) (execution : Execution) (query : Select) (given : List Answer)
+    → EachTable IsTyped db → length query.from ≤ 6 → execution.stmt ≡ stmts.Dml (dmls.Select query) → (meaning db execution).1 ≡ Ok given
+    → (rows : List (List Value)) × (known : List Kind) × (given ≡ answers.Rows rows ∷ [])
+    × AreKindsOf (kinds_shown (columns_named db execution query) query.items) known × All (HasKinds known) rows

@@ -49,10 +49,12 @@ impl Database {
         }
     }
 
-    /// What an execution changes and answers. It changes nothing before the change is applied.
+    /// What an execution changes and answers. It changes nothing before the change is applied; applied to this database it
+    /// makes the one that the execution means. A denied execution has no change. `NoMemory` says nothing of it.
     #[tactic(auto, unfolding(crate::specs::Meaning::meaning))]
     pub fn effect_of(&self, alloc: Global, execution: &Execution) -> Result<Effect, NoMemory>
-        ensures { IfOk result (λ effect. spec.meaning self.now execution.now ≡ (changed effect.change self.now, effect.outcome)) }
+        ensures effect { IfOk result (λ effect. effect ≡ spec.effect_of self.now execution.now) }
+        ensures meaning { IfOk result (λ effect. spec.meaning self.now execution.now ≡ (changed effect.change self.now, effect.outcome)) }
     {
         self.effect(alloc, execution)
     }

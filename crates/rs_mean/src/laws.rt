@@ -1,7 +1,7 @@
 //! What holds of every execution, whatever the database. Each function here is a law: its contract says it, and its
 //! body does nothing.
 
-ghost use Rattle.rs_mean.specs.Laws.{ColumnsStayDistinct, DeniedChangesNothing, IndexIsDropped, IndexIsMade, IndexesStayDistinct, NamesStayInOrder, OtherSynonymsStay, OthersStay, RowsAreAppended, RowsAreChanged, RowsAreTakenOut, RowsStayTyped, SelectChangesNothing, SitesStay, SynonymIsDropped, SynonymIsMade, SynonymsStay, SynonymsStayInOrder, TableIsDropped, TableIsMade, TablesStayWithin};
+ghost use Rattle.rs_mean.specs.Laws.{AnswersAreTyped, ColumnsStayDistinct, DeniedChangesNothing, IndexIsDropped, IndexIsMade, IndexesStayDistinct, NamesStayInOrder, OtherSynonymsStay, OthersStay, RowsAreAppended, RowsAreChanged, RowsAreTakenOut, RowsStayTyped, SelectChangesNothing, SitesStay, SynonymIsDropped, SynonymIsMade, SynonymsStay, SynonymsStayInOrder, TableIsDropped, TableIsMade, TablesStayWithin};
 
 /// A denied execution changes nothing.
 pub fn denied_changes_nothing()
@@ -109,4 +109,10 @@ pub fn indexes_stay_distinct()
 /// than 16 columns, as no CREATE TABLE that is written has.
 pub fn rows_stay_typed()
     ensures { RowsStayTyped }
+{}
+
+/// A SELECT of at most 6 tables, as one that is written has, that is answered has a kind for each item: that of its column,
+/// and INT for COUNT and SUM. Each row that it answers has a value for each, of its kind.
+pub fn answers_are_typed()
+    ensures { AnswersAreTyped }
 {}
