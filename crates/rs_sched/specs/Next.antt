@@ -50,6 +50,17 @@ next_in sites before (line ∷ lines) =
 unfoldable pub next_of : Left → Result (Option Event × Left) SchedFault
 next_of left = next_in left.sites left.before left.lines
 
+-- what is left behind the first line that is no comment
+abbrev pub passed_in : Option ℕ → ℕ → List (List ℕ) → Left
+passed_in sites before [] = record { sites = sites; before = before; lines = [] }
+passed_in sites before (line ∷ lines) =
+    if is_comment (without_returns line) then passed_in sites (before + 1) lines
+    else record { sites = sites; before = before + 1; lines = lines }
+
+-- What is left where the next line gave no event: it was passed over.
+unfoldable pub passed_of : Left → Left
+passed_of left = passed_in left.sites left.before left.lines
+
 abbrev pub FailsNext : SchedFault → Result (Option Event × Left) SchedFault → Type 0
 FailsNext (faults.BadLine line why) read = read ≡ Err (faults.BadLine line why)
 FailsNext faults.NoMemory read = Unit {0}

@@ -1,6 +1,6 @@
 //! The events of a schedule, read one after the other.
 
-ghost use Rattle.std.specs.Prelude.{◌≡◌, ◌≤◌, ◌^◌, false};
+ghost use Rattle.std.specs.Prelude.{◌≡◌, ◌≤◌, ◌^◌, false, OnErr};
 ghost use Rattle.rs_sched.specs.Lines.{without_returns};
 ghost use Rattle.rs_sched.specs.Reader.{line_at, sites_after};
 ghost use Rattle.rs_sched.specs.Next as spec;
@@ -55,7 +55,7 @@ fn sites_after(sites: Option<SiteNo>, event: &Event) -> Option<SiteNo>
 }
 
 impl<'a> EventLines<'a> {
-    /// All lines of these bytes.
+    /// All lines of these bytes, however many there are.
     pub fn new(bytes: &'a [u8]) -> EventLines<'a>
         ensures { result ≡ spec.all_of bytes.now }
     {
@@ -92,7 +92,8 @@ impl<'a> EventLines<'a> {
     }
 
     fn event(&mut self, alloc: Global, line: &[u8]) -> Result<Option<Event>, SchedFault>
-        ensures { spec.GivesNext result (spec.event_by self.old (line_at self.old.sites line.now)) self.new }
+        ensures event { spec.GivesNext result (spec.event_by self.old (line_at self.old.sites line.now)) self.new }
+        ensures error { OnErr result (self.new ≡ self.old) }
     {
         match event_of_line(alloc, self.sites, line) {
             Ok(event) => {
@@ -110,11 +111,12 @@ impl<'a> EventLines<'a> {
     /// The next event, or `None` at the end of the lines.
     ///
     /// `BadLine` says the line, from 1, that should give the next event and doesn't, and the first cause that fits it.
-    /// `NoMemory` says nothing of the lines. After an error what is left is not told. The time goes with the bytes of
-    /// the lines that are read.
-    #[tactic(auto, unfolding(crate::specs::Next::next_of))]
+    /// `NoMemory` says nothing of the lines. After an error that line is passed over. The time goes with the bytes of the
+    /// lines that are read.
+    #[tactic(auto, unfolding(crate::specs::Next::next_of, crate::specs::Next::passed_of))]
     pub fn next(&mut self, alloc: Global) -> Result<Option<Event>, SchedFault>
-        ensures { spec.GivesNext result (spec.next_of self.old) self.new }
+        ensures event { spec.GivesNext result (spec.next_of self.old) self.new }
+        ensures error { OnErr result (self.new ≡ spec.passed_of self.old) }
     {
         while !self.is_at_end() {
             let line = self.take_line();
