@@ -69,7 +69,7 @@ executed site from origin text stmt =
 abbrev pub last_number : ℕ
 last_number = 18446744073709551615
 
--- the text says no statement that is executed, and goes wrong at this place
+-- the text says no statement that is executed, and this place is told
 abbrev pub no_request : SiteState → Peer → Origin → ℕ → SiteState × Outs
 no_request site from origin place = (remembering site origin (replies.Syntax place), tells from origin 0 (replies.Syntax place))
 

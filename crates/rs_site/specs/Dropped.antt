@@ -1,4 +1,4 @@
--- Datagrams that a site drops: they change nothing, and nothing is sent.
+-- Datagrams that a site drops, whatever its sessions and transactions: they change nothing, and nothing is sent.
 use Rattle.std.specs.Prelude.{◌≡◌, ℕ, ◌<◌, List, length, Some, IsTrue, ◌⊎◌}
 use Rattle.rs_base.specs.declared.reply.Reply.{Reply}
 use Rattle.rs_msg.specs.declared.message.Ask.{Ask}

@@ -89,7 +89,7 @@ impl Sessions {
     }
 
     /// Takes back what was put last, where this was kept before. It takes no memory.
-    pub fn put_back(&mut self, user: &Ident, before: Option<Session>)
+    pub(crate) fn put_back(&mut self, user: &Ident, before: Option<Session>)
         ensures { (book : spec.Book) (session : Session) → spec.IsInOrder book → self.old ≡ spec.with_session user.now session book → before ≡ spec.kept_of user.now book → self.new ≡ book }
     {
         match before {

@@ -143,7 +143,7 @@ impl Site {
         self.execute(alloc, from, origin, text, stmt)
     }
 
-    /// Takes a text that says no statement that is executed, and goes wrong at this place.
+    /// Takes a text that says no statement that is executed, and tells this place.
     fn take_no_request(
         &mut self,
         alloc: Global,

@@ -10,7 +10,7 @@ use Rattle.rs_world.specs.declared.report.Report.{Report}
 use Rattle.rs_world.specs.declared.world.World.{World}
 use Rattle.rs_world.proofs.HistoryFields as history
 use Rattle.rs_world.proofs.Played.{playable}
-use Rattle.rs_world.proofs.Refusals.{refusals_true, syntax_true}
+use Rattle.rs_world.proofs.Refusals.{replies_given_truly, syntax_true}
 use Rattle.rs_world.proofs.Reported.{after_what_was_reported}
 use Rattle.rs_world.proofs.Replied.{entries_told}
 use Rattle.rs_world.proofs.ToldAgain.{told_again_the_same}
@@ -24,13 +24,15 @@ explains given valid are =
       entries_asked = history.entries_asked given can;
       entries_told = entries_told given can;
       history_grows = history.history_grows given;
+      history_is_last = history.history_is_last given;
       answers_are_meaning = history.answers_are_meaning given can;
       denied_changes_nothing = history.denied_changes_nothing (course given).history;
-      after_what_was_reported = after_what_was_reported given valid are (history.entries_distinct given can) (history.history_grows given);
-      refusals_true = refusals_true given valid are;
+      after_what_was_reported = after_what_was_reported given valid are (history.entries_distinct given can) (history.grows_to_last given);
+      replies_given_truly = replies_given_truly given valid are;
       syntax_true = syntax_true given valid are;
       told_again_the_same = told_again_the_same given valid are;
       runs_stand = refl;
+      stores_follow = history.stores_follow given can;
       stores_agree = history.stores_agree given can;
       tables_in_order = history.tables_in_order given can;
     }

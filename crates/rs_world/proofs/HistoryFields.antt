@@ -1,5 +1,5 @@
 -- What the report's history, its committed replies and its site explain.
-use Rattle.std.proofs.Common.{◌≡◌, ◌≢◌, ℕ, ◌+◌, ◌<◌, List, [], ◌∷◌, ◌++◌, map, take, Option, Some, None, Err, sym, ap, subst, ◌∙◌, arith}
+use Rattle.std.proofs.Common.{◌≡◌, ◌≢◌, ℕ, zero, suc, ◌+◌, ◌<◌, List, [], ◌∷◌, ◌++◌, map, take, Option, Some, None, Err, sym, ap, subst, ◌∙◌, arith}
 use Rattle.std.specs.List.{slice_get}
 use Rattle.std.proofs.lemmas.List.{append-nil}
 use Rattle.rs_base.specs.declared.txn.Txn.{Txn}
@@ -50,11 +50,27 @@ pub denied_changes_nothing : (history : List Decided) (i : ℕ) (entry : Decided
 denied_changes_nothing history i entry cause at denied =
     ap database_of (take-get history i entry at) ∙ database_of-push (take i history) entry ∙ denied_at (database_of (take i history)) entry (statement_of entry.text) cause denied
 
+-- the history at each moment is a front of that at each later one
+pub history_grows : (given : List Event) (before between behind : List Happening) → happenings given ≡ before ++ between ++ behind
+    → (more : List Decided) × ((world_after (before ++ between)).history ≡ (world_after before).history ++ more)
+history_grows given before between behind parted = let on = grows before between in (on.entries, on.history)
+
+-- the history in the end is that of the last moment
+pub history_is_last : (given : List Event) → (course given).history ≡ (world_after (happenings given)).history
+history_is_last given = ap (λ (w : World). w.history) (course_is given)
+
 -- the history at each moment is a front of the last
-pub history_grows : (given : List Event) (before behind : List Happening) → happenings given ≡ before ++ behind → (more : List Decided) × ((course given).history ≡ (world_after before).history ++ more)
-history_grows given before behind parted =
+pub grows_to_last : (given : List Event) (before behind : List Happening) → happenings given ≡ before ++ behind → (more : List Decided) × ((course given).history ≡ (world_after before).history ++ more)
+grows_to_last given before behind parted =
     let on = grows before behind in
     (on.entries, ap (λ (w : World). w.history) (course_is given ∙ ap world_after parted) ∙ on.history)
+
+-- a site that stands among the one is that one
+the_one : (sites : List SiteState) (state site : SiteState) (number : ℕ) → sites ≡ state ∷ [] → slice_get sites number ≡ Some site → site ≡ state
+the_one [] state site number e at = absurd cc
+the_one (first ∷ []) state site zero e at = cc
+the_one (first ∷ []) state site (suc number) e at = absurd cc
+the_one (first ∷ next ∷ sites) state site number e at = absurd cc
 
 module _ (given : List Event) (can : Playable given) where
   end : Moment (λ before state givens history. Entered given state givens history) (happenings given) (course given)
@@ -73,6 +89,19 @@ module _ (given : List Event) (can : Playable given) where
 
   pub answers_are_meaning : (k : ℕ) (told : Given) → slice_get (course given).replies k ≡ Some told → IsCommitted told.reply → (i : ℕ) × IsMeaningAt (course given).history i told
   answers_are_meaning k told at committed = end.holds.answers k told at committed
+
+  -- at each moment a site's database is that of the history so far
+  pub stores_follow : (before behind : List Happening) (number : ℕ) (site : SiteState) → happenings given ≡ before ++ behind
+      → slice_get (world_after before).sites number ≡ Some site → site.database ≡ database_of (world_after before).history
+  stores_follow [] behind number site parted at = absurd cc
+  stores_follow (first ∷ done) behind number site parted at =
+      let heads : Open 1 ∷ can.others ≡ first ∷ (done ++ behind) = sym can.parted ∙ parted in
+      let opens : first ≡ Open 1 = cc in
+      let rest : can.others ≡ done ++ behind = cc in
+      let now = at_each given can (λ before state givens history. Entered given state givens history) (entered_law given) done behind rest in
+      let there : slice_get (after done).sites number ≡ Some site = subst (λ (h : Happening). slice_get (world_after (h ∷ done)).sites number ≡ Some site) opens at in
+      let is : site ≡ now.site = the_one (after done).sites now.site site number now.stands.one.sites there in
+      subst (λ (h : Happening). site.database ≡ database_of (world_after (h ∷ done)).history) (sym opens) (ap (λ (s : SiteState). s.database) is ∙ now.holds.database)
 
   pub stores_agree : (report_of (course given)).sites ≡ (record { site = 1; epoch = 1; tables = database_of (course given).history }) ∷ []
   stores_agree =

@@ -10,8 +10,8 @@ use Rattle.rs_world.specs.Course.{course, report_of}
 use Rattle.rs_world.specs.Explains.{IsGivenTruly, IsNoRequest}
 use Rattle.rs_world.proofs.Holding.{holds_last}
 
-pub refusals_true : (all : List Event) → IsValid all → IsTrue (are_accepted false all) → (k : ℕ) (given : Given) → slice_get (report_of (course all)).replies k ≡ Some given → IsGivenTruly all k given
-refusals_true all valid are = (holds_last all valid are).holds.kept.truly
+pub replies_given_truly : (all : List Event) → IsValid all → IsTrue (are_accepted false all) → (k : ℕ) (given : Given) → slice_get (report_of (course all)).replies k ≡ Some given → IsGivenTruly all k given
+replies_given_truly all valid are = (holds_last all valid are).holds.kept.truly
 
 pub syntax_true : (all : List Event) → IsValid all → IsTrue (are_accepted false all)
     → (k place : ℕ) (given : Given) → slice_get (report_of (course all)).replies k ≡ Some given → given.reply ≡ replies.Syntax place → IsNoRequest all given.origin place

@@ -60,7 +60,7 @@ pub data Happening : Type 0 where
   Open : (last : ℕ) → Happening  -- sites 1 to this one are opened
   Post : (origin : Origin) → (text : List ℕ) → Happening  -- a client's ask is sent
   Deliver : Happening  -- the first datagram that wasn't delivered yet is, if there is one
-  Noise : (site : ℕ) → (bytes : List ℕ) → Happening  -- a site is given bytes that are no message
+  Noise : (site : ℕ) → (bytes : List ℕ) → Happening  -- a site is given bytes, where they are no message
 
 -- the datagram of a client's ask of a first part
 abbrev pub ask_datagram : Origin → List ℕ → Datagram

@@ -72,7 +72,7 @@ pub record IsGivenTruly (events : List Event) (place : ℕ) (given : Given) : Ty
   pub gives : slice_get (world_after (before ++ Deliver ∷ [])).replies place ≡ Some given
   pub true : IsTrueReply site given.origin given.reply
 
--- the request was taken with a text that says no statement that is executed, and goes wrong at this place
+-- The request was taken with a text that says no statement that is executed, and for which this place is told.
 pub record IsNoRequest (events : List Event) (origin : Origin) (place : ℕ) : Type 0 where
   pub text : List ℕ
   pub takes : Takes events origin text
@@ -88,8 +88,10 @@ pub record Explains (events : List Event) (report : Report) : Type 0 where
   pub entries_asked : (i : ℕ) (entry : Decided) → slice_get report.history i ≡ Some entry → Takes events entry.origin entry.text
   -- each entry has its reply
   pub entries_told : (i : ℕ) (entry : Decided) → slice_get report.history i ≡ Some entry → IsTold report.replies entry
-  -- the history at each moment is a front of the last
-  pub history_grows : (before behind : List Happening) → happenings events ≡ before ++ behind → (more : List Decided) × (report.history ≡ (world_after before).history ++ more)
+  -- the history at each moment is a front of that at each later one, and the last is the report's
+  pub history_grows : (before between behind : List Happening) → happenings events ≡ before ++ between ++ behind
+      → (more : List Decided) × ((world_after (before ++ between)).history ≡ (world_after before).history ++ more)
+  pub history_is_last : report.history ≡ (world_after (happenings events)).history
   -- each reply that tells of a committed request is the meaning of its entry over the database of the entries before it
   pub answers_are_meaning : (k : ℕ) (given : Given) → slice_get report.replies k ≡ Some given → IsCommitted given.reply → (i : ℕ) × IsMeaningAt report.history i given
   -- an entry that was denied changed nothing
@@ -102,13 +104,16 @@ pub record Explains (events : List Event) (report : Report) : Type 0 where
       → slice_get report.history j ≡ Some b → ((text : List ℕ) → Contains before (Post b.origin text) → ⊥)
       → i < j
   -- each reply was true when it was given
-  pub refusals_true : (k : ℕ) (given : Given) → slice_get report.replies k ≡ Some given → IsGivenTruly events k given
+  pub replies_given_truly : (k : ℕ) (given : Given) → slice_get report.replies k ≡ Some given → IsGivenTruly events k given
   -- a text that was told to be no request says no statement that is executed, and its fault stands at the place that was told
   pub syntax_true : (k place : ℕ) (given : Given) → slice_get report.replies k ≡ Some given → given.reply ≡ replies.Syntax place → IsNoRequest events given.origin place
   -- what a request is told again is what it was told first
   pub told_again_the_same : (k l : ℕ) (a b : Given) → slice_get report.replies k ≡ Some a → slice_get report.replies l ≡ Some b → a.origin ≡ b.origin → IsFinal a.reply → IsFinal b.reply → a.reply ≡ b.reply
   -- no stored section ran
   pub runs_stand : report.runs ≡ 0
+  -- at each moment a site's database is that of the history so far
+  pub stores_follow : (before behind : List Happening) (number : ℕ) (site : SiteState) → happenings events ≡ before ++ behind
+      → slice_get (world_after before).sites number ≡ Some site → site.database ≡ database_of (world_after before).history
   -- the one site shows the database of the whole history, its tables in order of names
   pub stores_agree : report.sites ≡ (record { site = 1; epoch = 1; tables = database_of report.history }) ∷ []
   pub tables_in_order : IsInOrder (database_of report.history)

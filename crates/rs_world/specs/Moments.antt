@@ -21,7 +21,8 @@ pub record Hears (given : List Event) (before : List Happening) (site : SiteStat
   pub next : slice_get (world_after before).sent (world_after before).delivered ≡ Some (ask_datagram origin text)
   pub at : slice_get (world_after before).sites (origin.site - 1) ≡ Some site
 
--- The ask is heard, and the site takes it: it is of the site's epoch, and has the number behind the user's last.
+-- The ask is heard, is of the site's epoch, and has the number behind the user's last: the site takes it, where the last request is
+-- answered and the epoch has a transaction left.
 pub record Takes (given : List Event) (origin : Origin) (text : List ℕ) : Type 0 where
   pub before : List Happening
   pub site : SiteState

@@ -50,7 +50,7 @@ impl World {
     }
 
     /// What becomes of the world by an event. The time goes with the bytes of the event and of the datagrams that it
-    /// delivers. After `NoMemory` the world is used no more.
+    /// delivers, and with the rows that the statements in these look at. After `NoMemory` the world is used no more.
     pub fn step(&mut self, alloc: Global, event: &Event) -> Result<(), NoMemory>
         ensures { OnOk result (self.new ≡ spec.world_step self.old event.now) }
     {
