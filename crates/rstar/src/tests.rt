@@ -48,14 +48,48 @@ fn gives(alloc: Global, bytes: &[u8], status: u8, text: &[u8]) -> bool {
     }
 }
 
+/// Puts these pieces at the end of the text, one behind the other.
+fn put_all(pieces: &[&[u8]], text: &mut Bytes) -> Result<(), NoMemory> {
+    for piece in pieces {
+        text.extend(piece)?;
+    }
+    Ok(())
+}
+
+/// These pieces, one behind the other.
+fn joined(alloc: Global, pieces: &[&[u8]]) -> Result<Bytes, NoMemory> {
+    let mut text = Bytes::new(alloc);
+    put_all(pieces, &mut text)?;
+    Ok(text)
+}
+
+/// A front, a piece so often, and what stands behind.
+fn filled(
+    alloc: Global,
+    front: &[u8],
+    piece: &[u8],
+    count: u64,
+    back: &[u8],
+) -> Result<Bytes, NoMemory> {
+    let mut text = Bytes::from_slice(alloc, front)?;
+    for _ in 0..count {
+        text.extend(piece)?;
+    }
+    text.extend(back)?;
+    Ok(text)
+}
+
+/// A number in decimal.
+fn decimal(alloc: Global, number: u64) -> Result<Bytes, NoMemory> {
+    let mut text = Bytes::new(alloc);
+    print_number(alloc, number, &mut text)?;
+    Ok(text)
+}
+
 /// The text of a refusal at this line for this cause.
 fn refusal(alloc: Global, line: u64, cause: &[u8]) -> Result<Bytes, NoMemory> {
-    let mut text = Bytes::from_slice(alloc, b"line ")?;
-    print_number(alloc, line, &mut text)?;
-    text.extend(b" ")?;
-    text.extend(cause)?;
-    text.extend(b"\n")?;
-    Ok(text)
+    let line = decimal(alloc, line)?;
+    joined(alloc, &[b"line ", line.as_slice(), b" ", cause, b"\n"])
 }
 
 /// A run by `replay` over these bytes refuses them at this line for this cause.
@@ -64,12 +98,4 @@ fn refuses(alloc: Global, bytes: &[u8], line: u64, cause: &[u8]) -> bool {
         Ok(text) => gives(alloc, bytes, 2, text.as_slice()),
         Err(_) => false,
     }
-}
-
-/// Puts the byte at the end of the text, so often.
-fn fill(text: &mut Bytes, byte: u8, count: u64) -> Result<(), NoMemory> {
-    for _ in 0..count {
-        text.push(byte)?;
-    }
-    Ok(())
 }

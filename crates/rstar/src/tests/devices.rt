@@ -1,4 +1,4 @@
-use super::{fill, run_by};
+use super::{filled, run_by};
 use rs_base::{Bytes, MemSink, MemSource, NoMemory};
 use std::alloc::Global;
 use std::test::*;
@@ -95,9 +95,7 @@ fn other_words_are_no_command(rt: HostRuntime) {
 
 /// A source longer than the 4,096 bytes that one read gives at most.
 fn long_source(alloc: Global) -> Result<Bytes, NoMemory> {
-    let mut bytes = Bytes::from_slice(alloc, b"sites 1\n")?;
-    fill(&mut bytes, b'#', 5000)?;
-    Ok(bytes)
+    filled(alloc, b"sites 1\n", b"#", 5000, b"")
 }
 
 #[test]

@@ -1,4 +1,4 @@
-use super::{fill, gives};
+use super::{filled, gives, joined};
 use rs_base::{Bytes, NoMemory};
 use std::alloc::Global;
 use std::test::*;
@@ -34,49 +34,32 @@ const NO_ROWS: &[u8] = b")\n\
 
 /// Three texts of 255 bytes and one of so many, from 128 to 255. Each is spelled by three bytes more than it has.
 fn row_of(alloc: Global, last: u64) -> Result<Bytes, NoMemory> {
-    let mut row = Bytes::from_slice(alloc, b"'")?;
-    for count in [255, 255, 255] {
-        fill(&mut row, b'x', count)?;
-        row.extend(b"','")?;
-    }
-    fill(&mut row, b'x', last)?;
-    row.extend(b"'")?;
-    Ok(row)
+    let text = filled(alloc, b"'", b"x", 255, b"',")?;
+    let texts = filled(alloc, b"", text.as_slice(), 3, b"'")?;
+    filled(alloc, texts.as_slice(), b"x", last, b"'")
 }
 
 fn source_of(alloc: Global, row: &Bytes) -> Result<Bytes, NoMemory> {
-    let mut source = Bytes::from_slice(alloc, SOURCE)?;
-    source.extend(row.as_slice())?;
-    source.extend(b")\nsettle\n")?;
-    Ok(source)
-}
-
-/// The replies and the history with this row.
-fn history_of(alloc: Global, replies: &[u8], row: &Bytes) -> Result<Bytes, NoMemory> {
-    let mut report = Bytes::from_slice(alloc, replies)?;
-    report.extend(HISTORY)?;
-    report.extend(row.as_slice())?;
-    Ok(report)
+    joined(alloc, &[SOURCE, row.as_slice(), b")\nsettle\n"])
 }
 
 #[test]
 fn a_row_of_1024_bytes_fits(rt: HostRuntime) -> Result<(), Fail> {
-    let row = row_of(rt.alloc(), 247)?;
-    let source = source_of(rt.alloc(), &row)?;
-    let mut report = history_of(rt.alloc(), DONE, &row)?;
-    report.extend(TWO_ROWS)?;
-    report.extend(row.as_slice())?;
-    report.extend(b"\n")?;
-    assert!(rt; gives(rt.alloc(), source.as_slice(), 0, report.as_slice()));
+    let alloc = rt.alloc();
+    let row = row_of(alloc, 247)?;
+    let source = source_of(alloc, &row)?;
+    let values = row.as_slice();
+    let report = joined(alloc, &[DONE, HISTORY, values, TWO_ROWS, values, b"\n"])?;
+    assert!(rt; gives(alloc, source.as_slice(), 0, report.as_slice()));
     Ok(())
 }
 
 #[test]
 fn a_row_of_1025_bytes_is_denied(rt: HostRuntime) -> Result<(), Fail> {
-    let row = row_of(rt.alloc(), 248)?;
-    let source = source_of(rt.alloc(), &row)?;
-    let mut report = history_of(rt.alloc(), FULL, &row)?;
-    report.extend(NO_ROWS)?;
-    assert!(rt; gives(rt.alloc(), source.as_slice(), 0, report.as_slice()));
+    let alloc = rt.alloc();
+    let row = row_of(alloc, 248)?;
+    let source = source_of(alloc, &row)?;
+    let report = joined(alloc, &[FULL, HISTORY, row.as_slice(), NO_ROWS])?;
+    assert!(rt; gives(alloc, source.as_slice(), 0, report.as_slice()));
     Ok(())
 }

@@ -1,25 +1,11 @@
-use super::{fill, gives, refuses};
+use super::{filled, gives, refuses};
 use rs_base::{Bytes, NoMemory};
 use std::alloc::Global;
 use std::test::*;
 
-/// A front, a byte so often, and what stands behind.
-fn filled(
-    alloc: Global,
-    front: &[u8],
-    byte: u8,
-    count: u64,
-    back: &[u8],
-) -> Result<Bytes, NoMemory> {
-    let mut text = Bytes::from_slice(alloc, front)?;
-    fill(&mut text, byte, count)?;
-    text.extend(back)?;
-    Ok(text)
-}
-
 /// A source of one ask with a text of so many bytes, and these behind the text.
 fn ask_of(alloc: Global, count: u64, back: &[u8]) -> Result<Bytes, NoMemory> {
-    filled(alloc, b"sites 1\nask 1 ann 1 1 ", b'x', count, back)
+    filled(alloc, b"sites 1\nask 1 ann 1 1 ", b"x", count, back)
 }
 
 #[test]
@@ -40,17 +26,17 @@ fn texts_have_8192_bytes(rt: HostRuntime) -> Result<(), Fail> {
 #[test]
 fn noise_has_any_length(rt: HostRuntime) -> Result<(), Fail> {
     let front = b"sites 1\nnoise 1 -\nnoise 1 5203\nnoise 1 ";
-    let source = filled(rt.alloc(), front, b'0', 65538, b"\n")?;
+    let source = filled(rt.alloc(), front, b"0", 65538, b"\n")?;
     let report = b"history 0\nruns 0\nsite 1 up 1\n";
     assert!(rt; gives(rt.alloc(), source.as_slice(), 0, report));
-    let odd = filled(rt.alloc(), front, b'0', 65537, b"\n")?;
+    let odd = filled(rt.alloc(), front, b"0", 65537, b"\n")?;
     assert!(rt; refuses(rt.alloc(), odd.as_slice(), 4, b"bad fields"));
     Ok(())
 }
 
 /// A source of so many bytes, at least 8: one site, and a long comment.
 fn source_of(alloc: Global, count: u64) -> Result<Bytes, NoMemory> {
-    filled(alloc, b"sites 1\n", b'#', count.saturating_sub(8), b"")
+    filled(alloc, b"sites 1\n", b"#", count.saturating_sub(8), b"")
 }
 
 #[test]

@@ -2,7 +2,6 @@
 
 mod change_denials;
 mod column_denials;
-mod course;
 mod denials;
 mod edges;
 mod expressions;
@@ -39,4 +38,4 @@ mod wide_tables;
 mod words;
 mod wrong;
 
-use super::{fill, gives, refuses};
+use super::{decimal, filled, gives, joined, put_all, refuses};

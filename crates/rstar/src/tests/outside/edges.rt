@@ -1,6 +1,6 @@
-use super::course::Course;
-use super::{gives, refuses};
-use rs_base::{Bytes, NoMemory, print_number};
+use super::script::{NO_TABLE, OK, Script};
+use super::{decimal, filled, gives, joined, put_all, refuses};
+use rs_base::{Bytes, NoMemory};
 use std::alloc::Global;
 use std::test::*;
 
@@ -108,88 +108,86 @@ const NO_REQUESTS: [(&[u8], &[u8], u64, &[u8], u64); 14] = [
     (FRONT, b"INSERT INTO t VALUES (1),", 327, b"\nsettle\n", 25),
 ];
 
-/// A front, a piece so often, and what stands behind.
-fn filled(
-    alloc: Global,
-    front: &[u8],
-    piece: &[u8],
-    count: u64,
-    back: &[u8],
-) -> Result<Bytes, NoMemory> {
-    let mut text = Bytes::from_slice(alloc, front)?;
-    for _ in 0..count {
-        text.extend(piece)?;
-    }
-    text.extend(back)?;
-    Ok(text)
-}
-
 /// The report where ann's first request is told to go wrong at this place, and nothing else is asked.
 fn told_place(alloc: Global, place: u64) -> Result<Bytes, NoMemory> {
-    let mut report = Bytes::from_slice(alloc, b"reply 1 ann 1 1 syntax ")?;
-    print_number(alloc, place, &mut report)?;
-    report.extend(b"\n")?;
-    report.extend(NOTHING)?;
-    Ok(report)
+    let place = decimal(alloc, place)?;
+    let reply: &[u8] = b"reply 1 ann 1 1 syntax ";
+    joined(alloc, &[reply, place.as_slice(), b"\n", NOTHING])
 }
 
 /// Puts each longest text as a row, and isn't taken with one byte more.
-fn put_longest(alloc: Global, course: &mut Course, rows: &mut Bytes) -> Result<(), NoMemory> {
+fn put_longest(alloc: Global, script: &mut Script, rows: &mut Bytes) -> Result<(), NoMemory> {
     let insert = b"INSERT INTO t VALUES (";
     for case in &LONGEST {
-        let mut value = filled(alloc, b"'", case.0, case.1, case.2)?;
-        let longer = filled(alloc, insert, value.as_slice(), 1, b"y')")?;
-        course.ask(alloc, longer.as_slice(), b"syntax 22")?;
-        value.extend(b"'")?;
-        let longest = filled(alloc, insert, value.as_slice(), 1, b")")?;
-        course.execute(alloc, longest.as_slice(), b"done 1\nchanged 1")?;
-        rows.extend(value.as_slice())?;
-        rows.extend(b"\n")?;
+        let text = filled(alloc, b"'", case.0, case.1, case.2)?;
+        let longer = filled(alloc, insert, text.as_slice(), 1, b"y')")?;
+        script.ask(alloc, b"ann", longer.as_slice(), b"syntax 22")?;
+        let longest = filled(alloc, insert, text.as_slice(), 1, b"')")?;
+        script.execute(alloc, b"ann", longest.as_slice(), b"done 1\nchanged 1")?;
+        put_all(&[text.as_slice(), b"'\n"], rows)?;
     }
     Ok(())
 }
 
-/// A text has 255 bytes at most, however it is spelled.
-fn texts_have_255_bytes(alloc: Global) -> Result<bool, NoMemory> {
-    let mut course = Course::new(alloc)?;
-    course.execute(alloc, b"CREATE TABLE t (a TEXT)", b"done 1\nok")?;
+#[test]
+fn texts_have_255_bytes(rt: HostRuntime) -> Result<(), Fail> {
+    let alloc = rt.alloc();
+    let mut script = Script::new(alloc)?;
+    script.execute(alloc, b"ann", b"CREATE TABLE t (a TEXT)", OK)?;
     let mut shown = Bytes::from_slice(alloc, b"table ann@1.t@1 made 1.1.1 rows 5\n")?;
-    put_longest(alloc, &mut course, &mut shown)?;
-    course.ends(alloc, shown.as_slice())
+    put_longest(alloc, &mut script, &mut shown)?;
+    let line = script.wrong_line(alloc, shown.as_slice())?;
+    assert_eq!(rt; line, 0, "a line of the report");
+    Ok(())
 }
 
-/// Requests of 8,192 bytes are executed, and stand whole in the history.
-fn requests_have_8192_bytes(alloc: Global) -> Result<bool, NoMemory> {
-    let mut course = Course::new(alloc)?;
+/// Requests of 8,192 bytes, which are executed.
+fn put_longest_requests(alloc: Global, script: &mut Script) -> Result<(), NoMemory> {
     let create = filled(alloc, b"CREATE TABLE t", b" ", 8170, b"(a TEXT)")?;
-    course.execute(alloc, create.as_slice(), b"done 1\nok")?;
+    script.execute(alloc, b"ann", create.as_slice(), OK)?;
     let insert = filled(alloc, b"INSERT INTO t VALUES ('x')", b",('x')", 1361, b"")?;
-    course.execute(alloc, insert.as_slice(), b"done 1\nchanged 1362")?;
+    script.execute(alloc, b"ann", insert.as_slice(), b"done 1\nchanged 1362")?;
     let select = filled(alloc, b"", b"\t", 8177, b"SELECT * FROM u")?;
-    course.execute(alloc, select.as_slice(), b"denied 1 NoTable")?;
+    script.execute(alloc, b"ann", select.as_slice(), NO_TABLE)
+}
+
+#[test]
+fn requests_have_8192_bytes(rt: HostRuntime) -> Result<(), Fail> {
+    let alloc = rt.alloc();
+    let mut script = Script::new(alloc)?;
+    put_longest_requests(alloc, &mut script)?;
     let table = b"table ann@1.t@1 made 1.1.1 rows 1362\n";
     let shown = filled(alloc, table, b"'x'\n", 1362, b"")?;
-    course.ends(alloc, shown.as_slice())
+    let line = script.wrong_line(alloc, shown.as_slice())?;
+    assert_eq!(rt; line, 0, "a line of the report");
+    Ok(())
 }
 
-/// The bytes of an ask are given to nobody where its text has 8,192 bytes, and are no message where it has one more.
-fn long_asks_are_noise(alloc: Global) -> Result<bool, NoMemory> {
-    let mut course = Course::new(alloc)?;
-    let most = filled(alloc, ASK, b"8040", 1, b"")?;
+// The bytes of an ask are given to nobody where its text has 8,192 bytes, and are no message where it has one more.
+#[test]
+fn long_asks_are_noise(rt: HostRuntime) -> Result<(), Fail> {
+    let alloc = rt.alloc();
+    let mut script = Script::new(alloc)?;
+    let most = joined(alloc, &[ASK, b"8040"])?;
     let longest = filled(alloc, most.as_slice(), b"78", 8192, b"")?;
-    course.line(longest.as_slice())?;
-    let more = filled(alloc, ASK, b"8140", 1, b"")?;
+    script.line(longest.as_slice())?;
+    let more = joined(alloc, &[ASK, b"8140"])?;
     let longer = filled(alloc, more.as_slice(), b"78", 8193, b"")?;
-    course.line(longer.as_slice())?;
-    course.execute(alloc, b"SELECT * FROM t", b"denied 1 NoTable")?;
-    course.ends(alloc, b"")
+    script.line(longer.as_slice())?;
+    script.execute(alloc, b"ann", b"SELECT * FROM t", NO_TABLE)?;
+    let line = script.wrong_line(alloc, b"")?;
+    assert_eq!(rt; line, 0, "a line of the report");
+    Ok(())
 }
 
-/// More than 16,777,216 bytes are too many, wrong as they are besides: 65,281 times 257 are one more.
-fn long_sources_are_too_long(alloc: Global) -> Result<bool, NoMemory> {
+// More than 16,777,216 bytes are too many, wrong as they are besides: 65,281 times 257 are one more.
+#[test]
+fn long_sources_are_too_long(rt: HostRuntime) -> Result<(), Fail> {
+    let alloc = rt.alloc();
     let piece = filled(alloc, b"", b"x", 257, b"")?;
     let source = filled(alloc, b"", piece.as_slice(), 65281, b"")?;
-    Ok(refuses(alloc, source.as_slice(), 0, b"too long"))
+    assert!(rt; refuses(alloc, source.as_slice(), 0, b"too long"));
+    Ok(())
 }
 
 #[test]
@@ -215,13 +213,6 @@ fn limits_are_reached_and_kept(rt: HostRuntime) -> Result<(), Fail> {
             case.3
         );
     }
-    assert!(rt; texts_have_255_bytes(alloc)?, "texts of 255 bytes");
-    assert!(rt; requests_have_8192_bytes(alloc)?, "requests of 8,192 bytes");
-    assert!(rt;
-        long_sources_are_too_long(alloc)?,
-        "sources that are too long"
-    );
-    assert!(rt; long_asks_are_noise(alloc)?, "asks as noise");
     Ok(())
 }
 

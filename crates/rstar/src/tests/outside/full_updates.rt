@@ -1,5 +1,6 @@
+use super::filled;
 use super::script::{OK, Script, TABLE_FULL, with_texts};
-use rs_base::{Bytes, NoMemory};
+use rs_base::NoMemory;
 use std::alloc::Global;
 use std::test::*;
 
@@ -28,23 +29,14 @@ const ASKS: [(&[u8], &[u8]); 16] = [
     (b"DELETE FROM t", b"done 1\nchanged 65536"),
 ];
 
-/// An INSERT of 1,024 rows, the first with this integer.
-fn insert(alloc: Global, first: &[u8]) -> Result<Bytes, NoMemory> {
-    let mut text = Bytes::from_slice(alloc, b"INSERT INTO t VALUES (")?;
-    text.extend(first)?;
-    text.extend(b",'')")?;
-    for _ in 0..1023 {
-        text.extend(b",(0,'')")?;
-    }
-    Ok(text)
-}
-
 /// Makes a table of 64 times 1,024 rows.
 fn make_table(alloc: Global, script: &mut Script) -> Result<(), NoMemory> {
     script.execute(alloc, b"ann", b"CREATE TABLE t (n INT, b TEXT)", OK)?;
-    let text = insert(alloc, b"1")?;
+    let front = b"INSERT INTO t VALUES (1,'')";
+    let text = filled(alloc, front, b",(0,'')", 1023, b"")?;
     script.execute(alloc, b"ann", text.as_slice(), b"done 1\nchanged 1024")?;
-    let text = insert(alloc, b"0")?;
+    let front = b"INSERT INTO t VALUES (0,'')";
+    let text = filled(alloc, front, b",(0,'')", 1023, b"")?;
     for _ in 0..63 {
         script.execute(alloc, b"ann", text.as_slice(), b"done 1\nchanged 1024")?;
     }

@@ -1,5 +1,6 @@
 use super::script::{NO_COLUMN, NO_TABLE, OK, OVERFLOW, Script, TOO_MANY_ROWS, WRONG_TYPE};
-use rs_base::{Bytes, NoMemory, print_number};
+use super::{decimal, joined, put_all};
+use rs_base::{Bytes, NoMemory};
 use std::alloc::Global;
 use std::test::*;
 
@@ -57,13 +58,10 @@ const ASKS: [(&[u8], &[u8]); 25] = [
 
 /// An INSERT into the table of the integers below this.
 fn insert(alloc: Global, table: &[u8], count: u64) -> Result<Bytes, NoMemory> {
-    let mut text = Bytes::from_slice(alloc, b"INSERT INTO ")?;
-    text.extend(table)?;
-    text.extend(b" VALUES (0)")?;
+    let mut text = joined(alloc, &[b"INSERT INTO ", table, b" VALUES (0)"])?;
     for number in 1..count {
-        text.extend(b",(")?;
-        print_number(alloc, number, &mut text)?;
-        text.extend(b")")?;
+        let number = decimal(alloc, number)?;
+        put_all(&[b",(", number.as_slice(), b")"], &mut text)?;
     }
     Ok(text)
 }

@@ -1,5 +1,5 @@
-use super::course::Course;
-use super::fill;
+use super::script::{OK, Script, TABLE_FULL};
+use super::{filled, joined};
 use rs_base::{Bytes, NoMemory};
 use std::alloc::Global;
 use std::test::*;
@@ -70,69 +70,67 @@ const BESIDE: [(&[u8], &[u8], &[u8], &[u8]); 7] = [
 
 /// Texts of so many bytes, parted by commas.
 fn texts_of(alloc: Global, counts: &[u64]) -> Result<Bytes, NoMemory> {
-    let mut texts = Bytes::from_slice(alloc, b"")?;
-    let mut comma: &[u8] = b"'";
+    let mut texts = Bytes::new(alloc);
+    let mut quote: &[u8] = b"'";
     for count in counts {
-        texts.extend(comma)?;
-        fill(&mut texts, b'x', *count)?;
-        texts.extend(b"'")?;
-        comma = b",'";
+        let text = filled(alloc, quote, b"x", *count, b"'")?;
+        texts.extend(text.as_slice())?;
+        quote = b",'";
     }
     Ok(texts)
 }
 
 /// Four texts and an integer, parted by commas.
 fn row_of(alloc: Global, case: &([u64; 4], &[u8])) -> Result<Bytes, NoMemory> {
-    let mut row = texts_of(alloc, &case.0)?;
-    row.extend(b",")?;
-    row.extend(case.1)?;
-    Ok(row)
+    let texts = texts_of(alloc, &case.0)?;
+    joined(alloc, &[texts.as_slice(), b",", case.1])
 }
 
-/// A table is made, and then this row put into it, with this reply, and these rows are there.
-fn comes(
+/// The first wrong line where a table is made, and then this text executed with this reply, and the table is shown so.
+fn wrong_line(
     alloc: Global,
     create: &[u8],
-    row: &Bytes,
+    text: &[u8],
     reply: &[u8],
     shown: &[u8],
-) -> Result<bool, NoMemory> {
-    let mut course = Course::new(alloc)?;
-    course.execute(alloc, create, b"done 1\nok")?;
-    let mut text = Bytes::from_slice(alloc, b"INSERT INTO t VALUES (")?;
-    text.extend(row.as_slice())?;
-    text.extend(b")")?;
-    course.execute(alloc, text.as_slice(), reply)?;
-    course.ends(alloc, shown)
+) -> Result<u64, NoMemory> {
+    let mut script = Script::new(alloc)?;
+    script.execute(alloc, b"ann", create, OK)?;
+    script.execute(alloc, b"ann", text, reply)?;
+    script.wrong_line(alloc, shown)
 }
 
-/// A table with these columns takes the row.
-fn fits(alloc: Global, create: &[u8], row: &Bytes) -> Result<bool, NoMemory> {
-    let mut shown = Bytes::from_slice(alloc, b"table ann@1.t@1 made 1.1.1 rows 1\n")?;
-    shown.extend(row.as_slice())?;
-    shown.extend(b"\n")?;
-    comes(alloc, create, row, b"done 1\nchanged 1", shown.as_slice())
+/// The first wrong line where a table with these columns takes the row.
+fn fits(alloc: Global, create: &[u8], row: &Bytes) -> Result<u64, NoMemory> {
+    let text = joined(alloc, &[b"INSERT INTO t VALUES (", row.as_slice(), b")"])?;
+    let table: &[u8] = b"table ann@1.t@1 made 1.1.1 rows 1\n";
+    let shown = joined(alloc, &[table, row.as_slice(), b"\n"])?;
+    let reply = b"done 1\nchanged 1";
+    wrong_line(alloc, create, text.as_slice(), reply, shown.as_slice())
 }
 
-/// A table with these columns denies the row.
-fn is_too_long(alloc: Global, create: &[u8], row: &Bytes) -> Result<bool, NoMemory> {
-    comes(alloc, create, row, b"denied 16 TableFull", EMPTY)
+/// The first wrong line where a table with these columns denies the row.
+fn is_too_long(alloc: Global, create: &[u8], row: &Bytes) -> Result<u64, NoMemory> {
+    let text = joined(alloc, &[b"INSERT INTO t VALUES (", row.as_slice(), b")"])?;
+    wrong_line(alloc, create, text.as_slice(), TABLE_FULL, EMPTY)
 }
 
-/// A row that is too long is denied so between these.
-fn is_denied(alloc: Global, case: &(&[u8], &[u8], &[u8], &[u8])) -> Result<bool, NoMemory> {
+/// The first wrong line where a row that is too long is denied so between these.
+fn is_denied(alloc: Global, case: &(&[u8], &[u8], &[u8], &[u8])) -> Result<u64, NoMemory> {
     let long = row_of(alloc, &([255, 255, 255, 246], b"63"))?;
-    let mut text = Bytes::from_slice(alloc, b"INSERT INTO ")?;
-    text.extend(case.0)?;
-    text.extend(b" VALUES (")?;
-    text.extend(case.1)?;
-    text.extend(long.as_slice())?;
-    text.extend(case.2)?;
-    text.extend(b")")?;
-    let mut course = Course::new(alloc)?;
-    course.execute(alloc, FOUR, b"done 1\nok")?;
-    course.execute(alloc, text.as_slice(), case.3)?;
-    course.ends(alloc, EMPTY)
+    let text = joined(
+        alloc,
+        &[
+            b"INSERT INTO ",
+            case.0,
+            b" VALUES (",
+            case.1,
+            long.as_slice(),
+            case.2,
+            b")",
+        ],
+    )?;
+    wrong_line(alloc, FOUR, text.as_slice(), case.3, EMPTY)
 }
 
 #[test]
@@ -140,22 +138,22 @@ fn rows_have_1024_bytes(rt: HostRuntime) -> Result<(), Fail> {
     let alloc = rt.alloc();
     for case in &FIT {
         let row = row_of(alloc, case)?;
-        assert!(rt; fits(alloc, FOUR, &row)?, "{:?}", row.as_slice());
+        assert_eq!(rt; fits(alloc, FOUR, &row)?, 0, "{:?}", row.as_slice());
     }
     for case in &TOO_LONG {
         let row = row_of(alloc, case)?;
-        assert!(rt; is_too_long(alloc, FOUR, &row)?, "{:?}", row.as_slice());
+        assert_eq!(rt; is_too_long(alloc, FOUR, &row)?, 0, "{:?}", row.as_slice());
     }
     for counts in &TEXTS_FIT {
         let row = texts_of(alloc, counts)?;
-        assert!(rt; fits(alloc, FIVE, &row)?, "{:?}", row.as_slice());
+        assert_eq!(rt; fits(alloc, FIVE, &row)?, 0, "{:?}", row.as_slice());
     }
     for counts in &TEXTS_TOO_LONG {
         let row = texts_of(alloc, counts)?;
-        assert!(rt; is_too_long(alloc, FIVE, &row)?, "{:?}", row.as_slice());
+        assert_eq!(rt; is_too_long(alloc, FIVE, &row)?, 0, "{:?}", row.as_slice());
     }
     for case in &BESIDE {
-        assert!(rt; is_denied(alloc, case)?, "{:?} {:?}", case.1, case.2);
+        assert_eq!(rt; is_denied(alloc, case)?, 0, "{:?} {:?}", case.1, case.2);
     }
     Ok(())
 }

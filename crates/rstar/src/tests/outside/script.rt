@@ -1,6 +1,6 @@
 use super::super::replay;
-use super::fill;
-use rs_base::{Bytes, NoMemory, print_number};
+use super::{decimal, filled, joined, put_all};
+use rs_base::{Bytes, NoMemory};
 use std::alloc::Global;
 
 pub const OK: &[u8] = b"done 1\nok";
@@ -33,7 +33,7 @@ pub const TOO_MANY_ROWS: &[u8] = b"denied 15 TooManyRows";
 
 pub const TABLE_FULL: &[u8] = b"denied 16 TableFull";
 
-/// Asks of ann and bob, each with its settle and executed with its reply, and what the report has of them.
+/// Asks of ann and bob, each with its settle and its reply, and what the report has of them.
 #[derive(Drop)]
 pub struct Script {
     source: Bytes,
@@ -49,23 +49,61 @@ impl Script {
     pub fn new(alloc: Global) -> Result<Script, NoMemory> {
         Ok(Script {
             source: Bytes::from_slice(alloc, b"sites 1\n")?,
-            replies: Bytes::from_slice(alloc, b"")?,
-            entries: Bytes::from_slice(alloc, b"")?,
+            replies: Bytes::new(alloc),
+            entries: Bytes::new(alloc),
             executed: 0,
             of_ann: 0,
             of_bob: 0,
         })
     }
 
-    /// The number of the user's next request.
-    fn take_number(&mut self, user: &[u8]) -> u64 {
+    /// The number of the user's last request.
+    fn number(&self, user: &[u8]) -> u64 {
         if user == b"ann".as_slice() {
-            self.of_ann = self.of_ann.saturating_add(1);
             self.of_ann
         } else {
-            self.of_bob = self.of_bob.saturating_add(1);
             self.of_bob
         }
+    }
+
+    /// The user's next request has the next number.
+    fn count(&mut self, user: &[u8]) {
+        if user == b"ann".as_slice() {
+            self.of_ann = self.of_ann.saturating_add(1);
+        } else {
+            self.of_bob = self.of_bob.saturating_add(1);
+        }
+    }
+
+    /// Puts a line of the source.
+    pub fn line(&mut self, line: &[u8]) -> Result<(), NoMemory> {
+        put_all(&[line, b"\n"], &mut self.source)
+    }
+
+    /// The user asks this by the last number, and gets this reply.
+    pub fn ask_again(
+        &mut self,
+        alloc: Global,
+        user: &[u8],
+        text: &[u8],
+        reply: &[u8],
+    ) -> Result<(), NoMemory> {
+        let number = decimal(alloc, self.number(user))?;
+        put_ask(b"ask 1 ", user, &number, text, &mut self.source)?;
+        self.source.extend(b"settle\n")?;
+        put_ask(b"reply 1 ", user, &number, reply, &mut self.replies)
+    }
+
+    /// The user asks this next, and gets this reply.
+    pub fn ask(
+        &mut self,
+        alloc: Global,
+        user: &[u8],
+        text: &[u8],
+        reply: &[u8],
+    ) -> Result<(), NoMemory> {
+        self.count(user);
+        self.ask_again(alloc, user, text, reply)
     }
 
     /// The user asks this next, and it is executed with this reply.
@@ -76,27 +114,32 @@ impl Script {
         text: &[u8],
         reply: &[u8],
     ) -> Result<(), NoMemory> {
-        let number = self.take_number(user);
-        put_ask(alloc, b"ask ", user, number, text, &mut self.source)?;
-        self.source.extend(b"settle\n")?;
-        put_ask(alloc, b"reply ", user, number, reply, &mut self.replies)?;
+        self.ask(alloc, user, text, reply)?;
         self.executed = self.executed.saturating_add(1);
-        print_number(alloc, self.executed, &mut self.entries)?;
-        self.entries.extend(b" 1.1.")?;
-        print_number(alloc, self.executed, &mut self.entries)?;
-        put_ask(alloc, b" ", user, number, text, &mut self.entries)
+        let place = decimal(alloc, self.executed)?;
+        let front = joined(
+            alloc,
+            &[place.as_slice(), b" 1.1.", place.as_slice(), b" 1 "],
+        )?;
+        let number = decimal(alloc, self.number(user))?;
+        put_ask(front.as_slice(), user, &number, text, &mut self.entries)
     }
 
     /// The report of these requests, with these tables at its end.
     fn report(&self, alloc: Global, tables: &[u8]) -> Result<Bytes, NoMemory> {
-        let mut report = Bytes::from_slice(alloc, self.replies.as_slice())?;
-        report.extend(b"history ")?;
-        print_number(alloc, self.executed, &mut report)?;
-        report.extend(b"\n")?;
-        report.extend(self.entries.as_slice())?;
-        report.extend(b"runs 0\nsite 1 up 1\n")?;
-        report.extend(tables)?;
-        Ok(report)
+        let executed = decimal(alloc, self.executed)?;
+        joined(
+            alloc,
+            &[
+                self.replies.as_slice(),
+                b"history ",
+                executed.as_slice(),
+                b"\n",
+                self.entries.as_slice(),
+                b"runs 0\nsite 1 up 1\n",
+                tables,
+            ],
+        )
     }
 
     /// The first line of what is written for these requests that isn't as the report with these tables at its end has it;
@@ -111,23 +154,18 @@ impl Script {
     }
 }
 
-/// Puts a line: a word, the origin of the user's request of this number, and a text.
+/// Puts a line: a front, the user's request of this number, and a text.
 fn put_ask(
-    alloc: Global,
-    word: &[u8],
+    front: &[u8],
     user: &[u8],
-    number: u64,
+    number: &Bytes,
     text: &[u8],
     out: &mut Bytes,
 ) -> Result<(), NoMemory> {
-    out.extend(word)?;
-    out.extend(b"1 ")?;
-    out.extend(user)?;
-    out.extend(b" 1 ")?;
-    print_number(alloc, number, out)?;
-    out.extend(b" ")?;
-    out.extend(text)?;
-    out.extend(b"\n")
+    put_all(
+        &[front, user, b" 1 ", number.as_slice(), b" ", text, b"\n"],
+        out,
+    )
 }
 
 /// The line, counted from 1, in which the two texts part; 0 where they are the same.
@@ -174,20 +212,15 @@ pub fn wrong_line_of_users(
     script.wrong_line(alloc, tables)
 }
 
-/// Puts a text value of so many bytes.
-fn put_text(count: u64, out: &mut Bytes) -> Result<(), NoMemory> {
-    out.push(b'\'')?;
-    fill(out, b'x', count)?;
-    out.push(b'\'')
-}
-
 /// The text with a text value of `count` bytes in the place of each `#`, and one of `other` bytes in that of each `%`.
 pub fn with_texts(alloc: Global, text: &[u8], count: u64, other: u64) -> Result<Bytes, NoMemory> {
-    let mut out = Bytes::from_slice(alloc, b"")?;
+    let long = filled(alloc, b"'", b"x", count, b"'")?;
+    let short = filled(alloc, b"'", b"x", other, b"'")?;
+    let mut out = Bytes::new(alloc);
     for byte in text {
         match *byte {
-            b'#' => put_text(count, &mut out)?,
-            b'%' => put_text(other, &mut out)?,
+            b'#' => out.extend(long.as_slice())?,
+            b'%' => out.extend(short.as_slice())?,
             byte => out.push(byte)?,
         }
     }

@@ -1,5 +1,6 @@
-use super::course::Course;
-use rs_base::{Bytes, NoMemory, print_number};
+use super::script::{OK, Script};
+use super::{decimal, joined, put_all};
+use rs_base::{Bytes, NoMemory};
 use std::alloc::Global;
 use std::test::*;
 
@@ -254,76 +255,75 @@ const FREE: [&[u8]; 36] = [
     b"view",
 ];
 
-/// The text behind a table's making is told to go wrong at this place.
-fn goes_wrong_at(alloc: Global, place: u64, text: &[u8]) -> Result<bool, NoMemory> {
-    let mut reply = Bytes::from_slice(alloc, b"syntax ")?;
-    print_number(alloc, place, &mut reply)?;
-    let mut course = Course::new(alloc)?;
-    course.execute(alloc, b"CREATE TABLE t (a INT)", b"done 1\nok")?;
-    course.ask(alloc, text, reply.as_slice())?;
-    course.ends(alloc, b"table ann@1.t@1 made 1.1.1 rows 0\n")
+/// The first wrong line where the text behind a table's making is told to go wrong at this place.
+fn goes_wrong_at(alloc: Global, place: u64, text: &[u8]) -> Result<u64, NoMemory> {
+    let place = decimal(alloc, place)?;
+    let reply = joined(alloc, &[b"syntax ", place.as_slice()])?;
+    let mut script = Script::new(alloc)?;
+    script.execute(alloc, b"ann", b"CREATE TABLE t (a INT)", OK)?;
+    script.ask(alloc, b"ann", text, reply.as_slice())?;
+    script.wrong_line(alloc, b"table ann@1.t@1 made 1.1.1 rows 0\n")
 }
 
 /// The word is refused as a table's name in each statement, and as a column's.
 fn is_reserved(alloc: Global, word: &[u8]) -> Result<bool, NoMemory> {
-    let mut refused = true;
     for place in &PLACES {
-        let mut text = Bytes::from_slice(alloc, place.1)?;
-        text.extend(word)?;
-        text.extend(place.2)?;
-        refused = refused && goes_wrong_at(alloc, place.0, text.as_slice())?;
+        let text = joined(alloc, &[place.1, word, place.2])?;
+        if goes_wrong_at(alloc, place.0, text.as_slice())? != 0 {
+            return Ok(false);
+        }
     }
-    Ok(refused)
+    Ok(true)
 }
 
 /// Makes a table of each word that is free, the last one first, with one column of that name.
-fn make_free(alloc: Global, course: &mut Course) -> Result<(), NoMemory> {
+fn make_free(alloc: Global, script: &mut Script) -> Result<(), NoMemory> {
     for word in FREE.iter().rev() {
-        let mut text = Bytes::from_slice(alloc, b"CREATE TABLE ")?;
-        text.extend(word)?;
-        text.extend(b" (")?;
-        text.extend(word)?;
-        text.extend(b" TEXT)")?;
-        course.execute(alloc, text.as_slice(), b"done 1\nok")?;
+        let text = joined(alloc, &[b"CREATE TABLE ", word, b" (", word, b" TEXT)"])?;
+        script.execute(alloc, b"ann", text.as_slice(), OK)?;
     }
     Ok(())
 }
 
 /// The lines of these tables in order; the first was made by the last of 36 requests.
 fn shown_free(alloc: Global) -> Result<Bytes, NoMemory> {
-    let mut shown = Bytes::from_slice(alloc, b"")?;
+    let mut shown = Bytes::new(alloc);
     let mut made = 36u64;
     for word in &FREE {
-        shown.extend(b"table ann@1.")?;
-        shown.extend(word)?;
-        shown.extend(b"@1 made 1.1.")?;
-        print_number(alloc, made, &mut shown)?;
-        shown.extend(b" rows 0\n")?;
+        let number = decimal(alloc, made)?;
+        let front: &[u8] = b"table ann@1.";
+        let back: &[u8] = b"@1 made 1.1.";
+        put_all(
+            &[front, word, back, number.as_slice(), b" rows 0\n"],
+            &mut shown,
+        )?;
         made = made.saturating_sub(1);
     }
     Ok(shown)
 }
 
-/// Words that are free name tables and columns.
-fn free_words_are_names(alloc: Global) -> Result<bool, NoMemory> {
-    let mut course = Course::new(alloc)?;
-    make_free(alloc, &mut course)?;
+#[test]
+fn free_words_are_names(rt: HostRuntime) -> Result<(), Fail> {
+    let alloc = rt.alloc();
+    let mut script = Script::new(alloc)?;
+    make_free(alloc, &mut script)?;
     let shown = shown_free(alloc)?;
-    course.ends(alloc, shown.as_slice())
+    let line = script.wrong_line(alloc, shown.as_slice())?;
+    assert_eq!(rt; line, 0, "a line of the report");
+    Ok(())
 }
 
 #[test]
 fn texts_are_requests_or_not(rt: HostRuntime) -> Result<(), Fail> {
     let alloc = rt.alloc();
     for case in &NO_REQUESTS {
-        assert!(rt; goes_wrong_at(alloc, case.0, case.1)?, "{:?}", case.1);
+        assert_eq!(rt; goes_wrong_at(alloc, case.0, case.1)?, 0, "{:?}", case.1);
     }
     for text in &NOT_BUILT {
-        assert!(rt; goes_wrong_at(alloc, 0, text)?, "{:?}", text);
+        assert_eq!(rt; goes_wrong_at(alloc, 0, text)?, 0, "{:?}", text);
     }
     for word in &RESERVED {
         assert!(rt; is_reserved(alloc, word)?, "{:?}", word);
     }
-    assert!(rt; free_words_are_names(alloc)?, "words that are free");
     Ok(())
 }
