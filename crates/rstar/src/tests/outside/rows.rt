@@ -118,18 +118,13 @@ fn is_too_long(alloc: Global, create: &[u8], row: &Bytes) -> Result<u64, NoMemor
 /// The first wrong line where a row that is too long is denied so between these.
 fn is_denied(alloc: Global, case: &(&[u8], &[u8], &[u8], &[u8])) -> Result<u64, NoMemory> {
     let long = row_of(alloc, &([255, 255, 255, 246], b"63"))?;
-    let text = joined(
-        alloc,
-        &[
-            b"INSERT INTO ",
-            case.0,
-            b" VALUES (",
-            case.1,
-            long.as_slice(),
-            case.2,
-            b")",
-        ],
-    )?;
+    let mut text = Bytes::from_slice(alloc, b"INSERT INTO ")?;
+    text.extend(case.0)?;
+    text.extend(b" VALUES (")?;
+    text.extend(case.1)?;
+    text.extend(long.as_slice())?;
+    text.extend(case.2)?;
+    text.extend(b")")?;
     wrong_line(alloc, FOUR, text.as_slice(), case.3, EMPTY)
 }
 

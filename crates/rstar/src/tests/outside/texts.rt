@@ -1,6 +1,6 @@
 use super::script::{OK, Script};
-use super::{decimal, joined, put_all};
-use rs_base::{Bytes, NoMemory};
+use super::{decimal, joined};
+use rs_base::{Bytes, NoMemory, print_number};
 use std::alloc::Global;
 use std::test::*;
 
@@ -290,13 +290,11 @@ fn shown_free(alloc: Global) -> Result<Bytes, NoMemory> {
     let mut shown = Bytes::new(alloc);
     let mut made = 36u64;
     for word in &FREE {
-        let number = decimal(alloc, made)?;
-        let front: &[u8] = b"table ann@1.";
-        let back: &[u8] = b"@1 made 1.1.";
-        put_all(
-            &[front, word, back, number.as_slice(), b" rows 0\n"],
-            &mut shown,
-        )?;
+        shown.extend(b"table ann@1.")?;
+        shown.extend(word)?;
+        shown.extend(b"@1 made 1.1.")?;
+        print_number(alloc, made, &mut shown)?;
+        shown.extend(b" rows 0\n")?;
         made = made.saturating_sub(1);
     }
     Ok(shown)
