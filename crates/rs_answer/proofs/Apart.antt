@@ -24,14 +24,14 @@ module _ {X : Type 0} (same : X → X → Bool) (is : Decides same) where
   pub times_from_Contains : (z : X) (xs : List X) → Contains xs z → 0 < times same z xs
   times_from_Contains z xs has = times_at z xs has.0 has.1 has.2
 
-  behind : (z x : X) (xs : List X) → Contains xs z → Contains (x ∷ xs) z
-  behind z x xs has = (suc has.0, omega (arith, has.1), has.2)
+  suffix : (z x : X) (xs : List X) → Contains xs z → Contains (x ∷ xs) z
+  suffix z x xs has = (suc has.0, omega (arith, has.1), has.2)
 
   pub Contains-from_times : (z : X) (xs : List X) → 0 < times same z xs → Contains xs z
   Contains-from_times z [] h = absurd (omega (arith, h))
   Contains-from_times z (x ∷ xs) h =
       ⊎_elim (λ (e : same z x ≡ true). (0, omega arith, sym (is.exact z x e)))
-      (λ (e : same z x ≡ false). let here : one_like same z x ≡ 0 = ap (λ b. cond b 1 0) e in behind z x xs (Contains-from_times z xs (omega (arith, h, here))))
+      (λ (e : same z x ≡ false). let here : one_like same z x ≡ 0 = ap (λ b. cond b 1 0) e in suffix z x xs (Contains-from_times z xs (omega (arith, h, here))))
       (cases_Bool (same z x))
 
   -- each element of a list is in it

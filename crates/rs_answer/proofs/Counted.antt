@@ -75,11 +75,11 @@ tests_agree {X} same alike is also x y =
     (λ e. ap (alike x) (sym (is.exact x y e)) ∙ also.itself x)
     (λ e. ap (same x) (sym (also.exact x y e)) ∙ is.itself x)
 
-turned_decides : {X : Type 0} (same : X → X → Bool) → Decides same → Decides (λ x y. same y x)
-turned_decides same is = record { itself = is.itself; exact = λ x y e. sym (is.exact y x e) }
+reversed_decides : {X : Type 0} (same : X → X → Bool) → Decides same → Decides (λ x y. same y x)
+reversed_decides same is = record { itself = is.itself; exact = λ x y e. sym (is.exact y x e) }
 
 pub test_turns : {X : Type 0} (same : X → X → Bool) → Decides same → (x y : X) → same x y ≡ same y x
-test_turns same is x y = tests_agree same (λ x y. same y x) is (turned_decides same is) x y
+test_turns same is x y = tests_agree same (λ x y. same y x) is (reversed_decides same is) x y
 
 -- ---- after a filter
 
@@ -119,8 +119,8 @@ module _ {X : Type 0} (same : X → X → Bool) (is : Decides same) where
   times_once z (x ∷ xs) =
       let kept : times same z (filter (λ other. not (same x other)) (once same xs)) ≡ cond (not (same x z)) (times same z (once same xs)) 0
       = times_filter (λ other. not (same x other)) z (once same xs) in
-      let turned : same x z ≡ same z x = test_turns same is x z in
-      let here : cond (not (same x z)) (times same z (once same xs)) 0 ≡ cond (not (same z x)) (times same z (once same xs)) 0 = ap (λ b. cond (not b) (times same z (once same xs)) 0) turned in
+      let reversed : same x z ≡ same z x = test_turns same is x z in
+      let here : cond (not (same x z)) (times same z (once same xs)) 0 ≡ cond (not (same z x)) (times same z (once same xs)) 0 = ap (λ b. cond (not b) (times same z (once same xs)) 0) reversed in
       ap (λ n. one_like same z x + n) (kept ∙ here) ∙ once_step (same z x) (times same z xs) (times same z (once same xs)) (times_once z xs)
 
 pub all_filter : {X : Type 0} (P : X → Type 0) (p : X → Bool) (xs : List X) → AllByRecursion P xs → AllByRecursion P (filter p xs)

@@ -57,25 +57,25 @@ module _ (places : List ℕ) where
 
   -- ---- a run and what stands behind it
 
-  keys_behind : (k : List (Option Value)) (run others : List (List Value)) → AllByRecursion (IsOf k true) run → AllByRecursion (IsOf k false) others
+  keys_after : (k : List (Option Value)) (run others : List (List Value)) → AllByRecursion (IsOf k true) run → AllByRecursion (IsOf k false) others
       → filter (λ other. not (same_group k other)) (once same_group (map (group_values places) (run ++ others))) ≡ once same_group (map (group_values places) others)
-  keys_behind k [] others all none =
+  keys_after k [] others all none =
       filter_all (λ other. not (same_group k other)) (once same_group (map (group_values places) others))
       (all_once same_group (λ v. not (same_group k v) ≡ true) (map (group_values places) others)
       (all_map (λ v. not (same_group k v) ≡ true) (group_values places) others
       (all_weaker (IsOf k false) (λ row. not (same_group k (group_values places row)) ≡ true) (λ row e. ap not e) others none)))
-  keys_behind k (row ∷ run) others all none =
+  keys_after k (row ∷ run) others all none =
       let values = once same_group (map (group_values places) (run ++ others)) in
       let alike : k ≡ group_values places row = group_decides.exact k (group_values places row) all.0 in
       let dropped : not (same_group k (group_values places row)) ≡ false = ap not all.0 in
       cond-false (not (same_group k (group_values places row))) _ _ dropped
       ∙ ap (λ v. filter (λ other. not (same_group k other)) (filter (λ other. not (same_group v other)) values)) (sym alike)
       ∙ filter_all (λ other. not (same_group k other)) (filter (λ other. not (same_group k other)) values) (passes (λ other. not (same_group k other)) values)
-      ∙ keys_behind k run others all.1 none
+      ∙ keys_after k run others all.1 none
 
-  members_behind : (k v : List (Option Value)) (run others : List (List Value)) → AllByRecursion (IsOf k true) run → same_group k v ≡ false
+  members_after : (k v : List (Option Value)) (run others : List (List Value)) → AllByRecursion (IsOf k true) run → same_group k v ≡ false
       → members_of places (run ++ others) v ≡ members_of places others v
-  members_behind k v run others all differs =
+  members_after k v run others all differs =
       let none : AllByRecursion (IsOf v false) run
       = all_weaker (IsOf k true) (IsOf v false)
       (λ row e. ap (same_group v) (sym (group_decides.exact k (group_values places row) e)) ∙ test_turns same_group group_decides v k ∙ differs) run all in
@@ -97,15 +97,15 @@ module _ (places : List ℕ) where
       let k = group_values places first in
       let whole : AllByRecursion (IsOf k true) (first ∷ run) = (group_decides.itself k, all) in
       let here : members_of places (first ∷ (run ++ others)) k ≡ first ∷ run = members_ahead k (first ∷ run) others whole none in
-      let behind = keys_behind k run others all none in
+      let suffix = keys_after k run others all none in
       let values = once same_group (map (group_values places) others) in
       let agree : map (members_of places (first ∷ (run ++ others))) values ≡ map (members_of places others) values
       = map_agree (members_of places (first ∷ (run ++ others))) (members_of places others) values
       (all_once same_group _ (map (group_values places) others)
       (all_map (λ v. members_of places (first ∷ (run ++ others)) v ≡ members_of places others v) (group_values places) others
       (all_weaker (IsOf k false) (λ row. members_of places (first ∷ (run ++ others)) (group_values places row) ≡ members_of places others (group_values places row))
-      (λ row e. members_behind k (group_values places row) (first ∷ run) others whole e) others none))) in
-      ap (λ groups. members_of places (first ∷ (run ++ others)) k ∷ groups) (ap (map (members_of places (first ∷ (run ++ others)))) behind ∙ agree)
+      (λ row e. members_after k (group_values places row) (first ∷ run) others whole e) others none))) in
+      ap (λ groups. members_of places (first ∷ (run ++ others)) k ∷ groups) (ap (map (members_of places (first ∷ (run ++ others)))) suffix ∙ agree)
       ∙ ap (λ group. group ∷ grouped_by places others) here
 
   -- ---- the run at the front
@@ -116,20 +116,20 @@ module _ (places : List ℕ) where
   abbrev pub alike_to : List Value → List Value → Bool
   alike_to first row = same_group (group_values places first) (group_values places row)
 
-  front_passes : (p : List Value → Bool) (rows : List (List Value)) → AllByRecursion (λ row. p row ≡ true) (take (prefix_len p rows) rows)
-  front_passes p [] = tt
-  front_passes p (row ∷ rows) =
+  prefix_passes : (p : List Value → Bool) (rows : List (List Value)) → AllByRecursion (λ row. p row ≡ true) (take (prefix_len p rows) rows)
+  prefix_passes p [] = tt
+  prefix_passes p (row ∷ rows) =
       cond_both (p row) (1 + prefix_len p rows) 0 (λ n. AllByRecursion (λ row. p row ≡ true) (take n (row ∷ rows)))
-      (λ (e : p row ≡ true). subst (λ n. AllByRecursion (λ row. p row ≡ true) (take n (row ∷ rows))) (one_more (prefix_len p rows)) (e, front_passes p rows))
+      (λ (e : p row ≡ true). subst (λ n. AllByRecursion (λ row. p row ≡ true) (take n (row ∷ rows))) (one_more (prefix_len p rows)) (e, prefix_passes p rows))
       (λ (e : p row ≡ false). tt)
 
-  behind_differs : (first : List Value) (rows : List (List Value)) → NoneBelow by_group first rows → Rising by_group rows
+  suffix_differs : (first : List Value) (rows : List (List Value)) → NoneBelow by_group first rows → Rising by_group rows
       → AllByRecursion (IsOf (group_values places first) false) (drop (prefix_len (alike_to first) rows) rows)
-  behind_differs first [] low up = tt
-  behind_differs first (row ∷ rows) low up =
+  suffix_differs first [] low up = tt
+  suffix_differs first (row ∷ rows) low up =
       cond_both (alike_to first row) (1 + prefix_len (alike_to first) rows) 0 (λ n. AllByRecursion (IsOf (group_values places first) false) (drop n (row ∷ rows)))
       (λ (e : alike_to first row ≡ true).
-      subst (λ n. AllByRecursion (IsOf (group_values places first) false) (drop n (row ∷ rows))) (one_more (prefix_len (alike_to first) rows)) (behind_differs first rows low.1 up.1))
+      subst (λ n. AllByRecursion (IsOf (group_values places first) false) (drop n (row ∷ rows))) (one_more (prefix_len (alike_to first) rows)) (suffix_differs first rows low.1 up.1))
       (λ (e : alike_to first row ≡ false).
       (e, others_after group_total group_exact same_group group_decides (group_values places) (group_values places first) (group_values places row) rows low.0 e up.0))
 
@@ -140,11 +140,11 @@ module _ (places : List ℕ) where
       let others = drop (prefix_len (alike_to first) rows) rows in
       let whole : run ++ others ≡ rows = take-append-drop (prefix_len (alike_to first) rows) rows in
       let at : grouped_by places (first ∷ rows) ≡ (first ∷ run) ∷ grouped_by places others
-      = ap (λ rows. grouped_by places (first ∷ rows)) (sym whole) ∙ run_ahead first run others (front_passes (alike_to first) rows) (behind_differs first rows up.0 up.1) in
+      = ap (λ rows. grouped_by places (first ∷ rows)) (sym whole) ∙ run_ahead first run others (prefix_passes (alike_to first) rows) (suffix_differs first rows up.0 up.1) in
       at ∙ ap (λ n. take n (first ∷ rows) ∷ grouped_by places (drop n (first ∷ rows))) (ap (λ (k : ℕ). suc k) (sym is) ∙ sym more)
 
-  front_length : (first : List Value) (rows : List (List Value)) → prefix_len (alike_to first) (first ∷ rows) ≡ suc (prefix_len (alike_to first) rows)
-  front_length first rows = cond-true (alike_to first first) _ _ (group_decides.itself (group_values places first)) ∙ sym (one_more (prefix_len (alike_to first) rows))
+  prefix_length : (first : List Value) (rows : List (List Value)) → prefix_len (alike_to first) (first ∷ rows) ≡ suc (prefix_len (alike_to first) rows)
+  prefix_length first rows = cond-true (alike_to first first) _ _ (group_decides.itself (group_values places first)) ∙ sym (one_more (prefix_len (alike_to first) rows))
 
   -- what a loop finds at the front of what is left
   pub run_cut : (first : List Value) (rest : List (List Value)) (n : ℕ) → 0 < length rest → first ≡ get_or rest 0 first → n ≡ prefix_len (alike_to first) rest → Rising by_group rest
@@ -152,10 +152,10 @@ module _ (places : List ℕ) where
   run_cut first [] n some is e up = absurd (omega (arith, some))
   run_cut first (row ∷ rows) n some is e up =
       let at : n ≡ prefix_len (alike_to row) (row ∷ rows) = e ∙ ap (λ r. prefix_len (alike_to r) (row ∷ rows)) is in
-      cut row rows n (prefix_len (alike_to row) rows) (at ∙ front_length row rows) refl up
+      cut row rows n (prefix_len (alike_to row) rows) (at ∙ prefix_length row rows) refl up
 
   pub run_some : (first : List Value) (rest : List (List Value)) (n : ℕ) → 0 < length rest → first ≡ get_or rest 0 first → n ≡ prefix_len (alike_to first) rest → 0 < n
   run_some first [] n some is e = absurd (omega (arith, some))
   run_some first (row ∷ rows) n some is e =
       let at : n ≡ prefix_len (alike_to row) (row ∷ rows) = e ∙ ap (λ r. prefix_len (alike_to r) (row ∷ rows)) is in
-      omega (arith, at ∙ front_length row rows)
+      omega (arith, at ∙ prefix_length row rows)

@@ -21,12 +21,12 @@ sorted_by order (item ∷ items) = put_in_order order item (sorted_by order item
 
 -- ---- the order of an answer
 
-abbrev pub turned : ShapeKey → Ordering → Ordering
-turned key order = if key.desc then ordering_reverse order else order
+abbrev pub reversed : ShapeKey → Ordering → Ordering
+reversed key order = if key.desc then ordering_reverse order else order
 
 -- two rows of an answer by one key: the item that it names, rising, or falling
 abbrev pub key_cmp : ShapeKey → List Value → List Value → Ordering
-key_cmp key one other = turned key (option_cmp value_cmp (slice_get one key.item) (slice_get other key.item))
+key_cmp key one other = reversed key (option_cmp value_cmp (slice_get one key.item) (slice_get other key.item))
 
 -- by the keys, and then by all columns, rising
 abbrev pub answer_cmp : List ShapeKey → List Value → List Value → Ordering

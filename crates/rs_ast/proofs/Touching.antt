@@ -10,7 +10,7 @@ use Rattle.rs_ast.specs.declared.token.Token.TheVariants as tokens
 use Rattle.rs_ast.specs.declared.ending.Ending.{Ending}
 use Rattle.rs_ast.specs.declared.ending.Ending.TheVariants as endings
 use Rattle.rs_ast.specs.Token.{is_mark, same_mark}
-use Rattle.rs_ast.specs.Printed.{printed_token, printed_mark, is_function, ending_behind, ending_mark, closes_up, token_closes_up, touches}
+use Rattle.rs_ast.specs.Printed.{printed_token, printed_mark, is_function, ending_after, ending_mark, closes_up, token_closes_up, touches}
 
 -- a letter of either case, a digit or `_`
 abbrev pub is_word_byte : ℕ → Bool
@@ -103,8 +103,8 @@ mark_apart before marks.LessOrEqual u h = begins_never (goes_on_mark marks.LessO
 mark_apart before marks.GreaterOrEqual u h = begins_never (goes_on_mark marks.GreaterOrEqual) (λ b. refl) (printed_token u)
 
 -- Where u stands behind t without a space, the text of t doesn't go on with the first byte of u.
-pub touching_apart : (before : Ending) (t u : Token) → touches (ending_behind before t) u ≡ true → begins (goes_on t) (printed_token u) ≡ false
-unfolding ending_behind
+pub touching_apart : (before : Ending) (t u : Token) → touches (ending_after before t) u ≡ true → begins (goes_on t) (printed_token u) ≡ false
+unfolding ending_after
 touching_apart before (tokens.Word word) u h = begins_token is_word_byte refl refl refl refl refl refl u (touches_word (is_function word) u h)
 touching_apart before (tokens.Number n) u h = begins_token is_word_byte refl refl refl refl refl refl u (touches_other u h)
 touching_apart before (tokens.Text text) u h = begins_token (goes_on (tokens.Text text)) refl refl refl refl refl refl u (touches_other u h)

@@ -66,11 +66,11 @@ ending_mark before marks.Minus = ending_minus before
 ending_mark before mark = endings.Mark
 
 -- what the text ends with, once this token stands behind what it ended with before
-unfoldable pub ending_behind : Ending → Token → Ending
-ending_behind before (tokens.Word word) = if is_function word then endings.Function else endings.Other
-ending_behind before (tokens.Number n) = endings.Other
-ending_behind before (tokens.Text text) = endings.Other
-ending_behind before (tokens.Mark mark) = ending_mark before mark
+unfoldable pub ending_after : Ending → Token → Ending
+ending_after before (tokens.Word word) = if is_function word then endings.Function else endings.Other
+ending_after before (tokens.Number n) = endings.Other
+ending_after before (tokens.Text text) = endings.Other
+ending_after before (tokens.Mark mark) = ending_mark before mark
 
 -- a mark that touches the token before it
 unfoldable pub closes_up : Mark → Bool
@@ -101,12 +101,12 @@ touches endings.Other token = token_closes_up token
 unfoldable pub printed_next : Ending → Token → List ℕ
 printed_next before token = if touches before token then printed_token token else 32 ∷ printed_token token
 
-abbrev pub printed_behind : Ending → List Token → List ℕ
-printed_behind before [] = []
-printed_behind before (token ∷ more) = printed_next before token ++ printed_behind (ending_behind before token) more
+abbrev pub printed_after : Ending → List Token → List ℕ
+printed_after before [] = []
+printed_after before (token ∷ more) = printed_next before token ++ printed_after (ending_after before token) more
 
 abbrev pub printed_tokens : List Token → List ℕ
-printed_tokens spelled = printed_behind endings.Start spelled
+printed_tokens spelled = printed_after endings.Start spelled
 
 abbrev pub printed_stmt : Stmt → List ℕ
 printed_stmt stmt = printed_tokens (spelled_stmt stmt)

@@ -78,9 +78,9 @@ impl Ending {
     }
 
     /// What the text ends with once `token` stands behind it.
-    #[tactic(auto, unfolding(crate::specs::Printed::ending_behind))]
-    pub fn behind(self, token: &Token) -> Ending
-        ensures { result ≡ spec.ending_behind self token.now }
+    #[tactic(auto, unfolding(crate::specs::Printed::ending_after))]
+    pub fn suffix(self, token: &Token) -> Ending
+        ensures { result ≡ spec.ending_after self token.now }
     {
         match token {
             Token::Word(word) => {

@@ -93,7 +93,7 @@ fn put_tokens(alloc: Global, out: &mut Bytes, tokens: &[Token]) -> Result<(), No
     let mut ending = Ending::Start;
     for token in tokens {
         put_next(alloc, out, ending, token)?;
-        ending = ending.behind(token);
+        ending = ending.suffix(token);
     }
     Ok(())
 }

@@ -6,10 +6,10 @@ use Rattle.std.specs.Io.KnownBytes.{Appends}
 use Rattle.std.proofs.KnownBytes.{Appends-trans}
 
 -- the front of what is left was copied into a piece
-pub copied_front : (left into piece : List ℕ) (n : ℕ) → n ≡ min (length left) (length into) → piece ≡ take n left ++ drop n into → left ≡ take n piece ++ drop n left
-copied_front left into piece n count copied =
-    let front : take n piece ≡ take n left = ap (take n) copied ∙ take_at (take n left) (drop n into) n (omega (arith, length-take n left)) in
-    sym (take-append-drop n left) ∙ ap (λ (bs : List ℕ). bs ++ drop n left) (sym front)
+pub copied_prefix : (left into piece : List ℕ) (n : ℕ) → n ≡ min (length left) (length into) → piece ≡ take n left ++ drop n into → left ≡ take n piece ++ drop n left
+copied_prefix left into piece n count copied =
+    let prefix : take n piece ≡ take n left = ap (take n) copied ∙ take_at (take n left) (drop n into) n (omega (arith, length-take n left)) in
+    sym (take-append-drop n left) ∙ ap (λ (bs : List ℕ). bs ++ drop n left) (sym prefix)
 
 -- nothing was copied into a piece that isn't empty: nothing was left
 pub nothing_left : (left into piece : List ℕ) (n : ℕ) → n ≡ min (length left) (length into) → piece ≡ take n left ++ drop n into → n ≡ 0 → 0 < length piece → drop n left ≡ []

@@ -27,8 +27,8 @@ Reads read (Ok x) new = read ≡ Some (x, new)
 Reads read (Err e) new = Fails e read
 
 -- what was read before, and what is still read
-abbrev pub with_front : {A R : Type 0} → List A → Option (List A × R) → Option (List A × R)
-with_front front read = read >>= λ x. Some (front ++ x.0, x.1)
+abbrev pub with_prefix : {A R : Type 0} → List A → Option (List A × R) → Option (List A × R)
+with_prefix prefix read = read >>= λ x. Some (prefix ++ x.0, x.1)
 
 abbrev pub push_first : {A R : Type 0} → A → Option (List A × R) → Option (List A × R)
 push_first first read = read >>= λ x. Some (first ∷ x.0, x.1)

@@ -75,8 +75,8 @@ fn padded(text: &[u8]) -> [u8; 24]
     ensures { result ≡ text.now ++ replicate (24 - length text.now) 0 }
 {
     let mut bytes = [0u8; 24];
-    let (front, _) = bytes.split_at_mut(text.len());
-    front.copy_from_slice(text);
+    let (prefix, _) = bytes.split_at_mut(text.len());
+    prefix.copy_from_slice(text);
     bytes
 }
 
@@ -102,9 +102,9 @@ impl Ident {
             return None;
         }
         let mut lower = padded(bytes);
-        let (front, _) = lower.split_at_mut(bytes.len());
-        front.make_ascii_lowercase();
-        Ident::new(front)
+        let (prefix, _) = lower.split_at_mut(bytes.len());
+        prefix.make_ascii_lowercase();
+        Ident::new(prefix)
     }
 
     pub fn as_bytes(&self) -> &[u8]

@@ -57,7 +57,7 @@ impl Source for MemSource {
         ensures faults { CountsFailed result self.old.faults self.new.faults }
         ensures failed { is_err result ≡ fails_next self.old.fail self.old.calls }
         ensures fits { IfOk result (λ n. n ≡ min (length self.old.left) (length into.old)) }
-        ensures behind { IfOk result (λ n. into.new ≡ take n self.old.left ++ drop n into.old) }
+        ensures suffix { IfOk result (λ n. into.new ≡ take n self.old.left ++ drop n into.old) }
         ensures piece { OnErr result (into.new ≡ into.old) }
         ensures counts { self.new ≡ record self.old {
           left = self.new.left;

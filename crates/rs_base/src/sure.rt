@@ -48,7 +48,7 @@ impl Source for SureSource {
         ensures bytes { ReadConsumes (Some self.old) (Some self.new) result into.new }
         ensures faults { CountsFailed result 0 0 }
         ensures fits { result ≡ Ok (min (length self.old) (length into.old)) }
-        ensures behind { IfOk result (λ n. into.new ≡ take n self.old ++ drop n into.old) }
+        ensures suffix { IfOk result (λ n. into.new ≡ take n self.old ++ drop n into.old) }
     {
         let (_, left) = self.bytes.as_slice().split_at(self.at);
         let n = left.len().min(into.len());

@@ -3,7 +3,7 @@
 ghost use Rattle.std.specs.Prelude.{OnOk, OnErr};
 ghost use Rattle.std.specs.Io.KnownBytes.{Appends};
 ghost use Rattle.rs_base.specs.Faults.{CountsFault};
-ghost use Rattle.rs_base.specs.Streams.{AppendsFront};
+ghost use Rattle.rs_base.specs.Streams.{AppendsPrefix};
 
 use crate::fault::Fault;
 use crate::sink::Sink;
@@ -11,7 +11,7 @@ use crate::sink::Sink;
 /// Writes all of `bytes`. Where a write fails, a front of them was written.
 pub fn write_whole<K: Sink>(sink: &mut K, bytes: &[u8]) -> Result<(), Fault>
     ensures whole { OnOk result (Appends (K.written sink.old) (K.written sink.new) bytes.now) }
-    ensures front { OnErr result (AppendsFront (K.written sink.old) (K.written sink.new) bytes.now) }
+    ensures prefix { OnErr result (AppendsPrefix (K.written sink.old) (K.written sink.new) bytes.now) }
     ensures faults { CountsFault result (K.faults sink.old) (K.faults sink.new) }
 {
     let mut at = 0;

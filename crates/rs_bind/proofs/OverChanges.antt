@@ -136,11 +136,11 @@ module _ (scope : List ScopeColumn) (params : List Param) (small : length scope 
         let fitting = test (not (expr_fits scope params kind set.expr.first set.expr.more)) denials.WrongType in
         let there = test (named_count scope (unqualified set.column) == 0) denials.NoColumn in
         let once = test (list_any (λ (other : Set). bytes_eq other.column set.column) before) denials.TwoColumns in
-        let front = both_pass (there ∷ once ∷ terms) (fitting ∷ []) passes in
-        let first = first_passes there (once ∷ terms) front.0 in
+        let prefix = both_pass (there ∷ once ∷ terms) (fitting ∷ []) passes in
+        let first = first_passes there (once ∷ terms) prefix.0 in
         let second = first_passes once terms first.1 in
         let both = both_pass (term_tests scope params set.expr.first) (more_tests scope params set.expr.more) second.1 in
-        let fits = not-false _ (first_passes fitting [] front.1).0 in
+        let fits = not-false _ (first_passes fitting [] prefix.1).0 in
         ap (set_fits_kind (kinds_in scope) (bound_set scope params set)) (column_is first.0)
         ∙ set_of_kind kind (kind_known scope few (unqualified set.column) first.0) both.0 both.1 fits
 

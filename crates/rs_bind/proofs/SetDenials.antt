@@ -17,11 +17,11 @@ module _ (scope : List ScopeColumn) (params : List Param) (sets : List Set) wher
   one_more : (i : ℕ) (set : Set) → i < length sets → set ≡ get_or sets i set
       → first_from i ≡ option_or (first_denial (set_tests scope params (take i sets) set)) (first_from (i + 1))
   one_more i set inside here =
-      let front : take i sets ++ set ∷ [] ≡ take (i + 1) sets = ap (λ x. take i sets ++ x ∷ []) here ∙ sym (take_more sets i set inside) in
+      let prefix : take i sets ++ set ∷ [] ≡ take (i + 1) sets = ap (λ x. take i sets ++ x ∷ []) here ∙ sym (take_more sets i set inside) in
       let rest : drop i sets ≡ set ∷ drop (i + 1) sets = drop_more sets i set inside ∙ ap (λ x. x ∷ drop (i + 1) sets) (sym here) in
       ap (λ xs. first_denial (sets_tests scope params (take i sets) xs)) rest
       ∙ first_denial-append (set_tests scope params (take i sets) set) (sets_tests scope params (take i sets ++ set ∷ []) (drop (i + 1) sets))
-      ∙ ap (λ before. option_or (first_denial (set_tests scope params (take i sets) set)) (first_denial (sets_tests scope params before (drop (i + 1) sets)))) front
+      ∙ ap (λ before. option_or (first_denial (set_tests scope params (take i sets) set)) (first_denial (sets_tests scope params before (drop (i + 1) sets)))) prefix
 
   -- the tests of this set deny nothing, and the others are still to come
   pub set_passed : (i : ℕ) (set : Set) (denial total : Option Denial) → i < length sets → set ≡ get_or sets i set

@@ -14,8 +14,8 @@ pub longer : (b n high : ℕ) (bytes : List ℕ) → 128 ≤ b → b < 256 → 0
 longer b n high [] from below more parts g = absurd g
 longer b n high (c ∷ bs) from below more parts g = (from, below, high, more, parts, g)
 
-pub same_front : (b c : ℕ) (bs cs : List ℕ) → b ≡ c → bs ≡ cs → b ∷ bs ≡ c ∷ cs
-same_front b c bs cs e f = ap (λ (x : ℕ). x ∷ bs) e ∙ ap (λ (xs : List ℕ). c ∷ xs) f
+pub same_prefix : (b c : ℕ) (bs cs : List ℕ) → b ≡ c → bs ≡ cs → b ∷ bs ≡ c ∷ cs
+same_prefix b c bs cs e f = ap (λ (x : ℕ). x ∷ bs) e ∙ ap (λ (xs : List ℕ). c ∷ xs) f
 
 first_is : (b c : ℕ) (bs cs : List ℕ) → b ∷ bs ≡ c ∷ cs → b ≡ c
 first_is b c bs cs e = cc
@@ -34,7 +34,7 @@ one_groups (x ∷ c ∷ a) (y ∷ []) r s m n p q e = absurd (omega (arith, p.0,
 one_groups (x ∷ c ∷ a) (y ∷ d ∷ b) r s m n p q e =
     let first = first_is x y (c ∷ (a ++ r)) (d ∷ (b ++ s)) e in
     let others = one_groups (c ∷ a) (d ∷ b) r s p.2 q.2 p.5 q.5 (others_are x y (c ∷ (a ++ r)) (d ∷ (b ++ s)) e) in
-    (same_front x y (c ∷ a) (d ∷ b) first others.0, omega (arith, first, others.1, p.4, q.4))
+    (same_prefix x y (c ∷ a) (d ∷ b) first others.0, omega (arith, first, others.1, p.4, q.4))
 
 each_groups_up_to : (k n : ℕ) → n ≤ k → (bytes : List ℕ) × IsGroups bytes n
 each_groups_up_to zero n h = (n ∷ [], (omega arith, refl))
@@ -59,7 +59,7 @@ bytes_of_groups (b ∷ c ∷ bs) n g = All-cons (λ b. b < 256) b (c ∷ bs) g.1
 
 -- what spells the rest completes the number
 abbrev pub Completes : List ℕ → ℕ → ℕ → Type 0
-Completes front rest n = (tail : List ℕ) → IsGroups tail rest → IsGroups (front ++ tail) n
+Completes prefix rest n = (tail : List ℕ) → IsGroups tail rest → IsGroups (prefix ++ tail) n
 
 pub writes_more : (bytes : List ℕ) (at rest n : ℕ) → at < length bytes → 128 ≤ rest → Completes (take at bytes) rest n → Completes (take (at + 1) (set bytes at (128 + rest % 128))) (rest / 128) n
 writes_more bytes at rest n within more so_far tail g =
@@ -97,17 +97,17 @@ none_above bytes others first limit e large within none n spelling rest h g f =
     let a = above bytes others first n spelling rest e large g f in
     none a.0 a.3 rest (omega (arith, a.2)) a.4 a.5
 
-pub none_above_zero : (bytes others behind : List ℕ) (first limit high : ℕ) → bytes ≡ first ∷ others → 128 ≤ first → Takes IsGroups others behind high → high ≡ 0 → NoneUpTo limit bytes
-none_above_zero bytes others behind first limit high e large t is_zero n spelling rest h g f =
+pub none_above_zero : (bytes others suffix : List ℕ) (first limit high : ℕ) → bytes ≡ first ∷ others → 128 ≤ first → Takes IsGroups others suffix high → high ≡ 0 → NoneUpTo limit bytes
+none_above_zero bytes others suffix first limit high e large t is_zero n spelling rest h g f =
     let a = above bytes others first n spelling rest e large g f in
-    let same = one_groups t.spelling a.3 behind rest high a.0 t.spelled a.4 (sym t.parts ∙ a.5) in
+    let same = one_groups t.spelling a.3 suffix rest high a.0 t.spelled a.4 (sym t.parts ∙ a.5) in
     omega (arith, same.1, a.1)
 
 pub takes_last : (bytes others : List ℕ) (first : ℕ) → bytes ≡ first ∷ others → first < 128 → Takes IsGroups bytes others first
 takes_last bytes others first e last = record { spelling = first ∷ []; spelled = (last, refl); parts = e }
 
-pub takes_more : (bytes others behind : List ℕ) (first high : ℕ) → bytes ≡ first ∷ others → 128 ≤ first → first < 256 → 0 < high → Takes IsGroups others behind high → Takes IsGroups bytes behind (first - 128 + 128 * high)
-takes_more bytes others behind first high e large below more t = record {
+pub takes_more : (bytes others suffix : List ℕ) (first high : ℕ) → bytes ≡ first ∷ others → 128 ≤ first → first < 256 → 0 < high → Takes IsGroups others suffix high → Takes IsGroups bytes suffix (first - 128 + 128 * high)
+takes_more bytes others suffix first high e large below more t = record {
   spelling = first ∷ t.spelling;
   spelled = longer first (first - 128 + 128 * high) high t.spelling large below more (omega arith) t.spelled;
   parts = e ∙ ap (λ (xs : List ℕ). first ∷ xs) t.parts;

@@ -14,7 +14,7 @@ use Rattle.rs_codec.specs.Spelling.{IsByte, IsU32, IsU64, IsGroups, IsCount, cou
 use Rattle.rs_codec.specs.Laws.{IsReadBy}
 use Rattle.rs_codec.specs.Reader.{byte_at, if_spelled, u32_at, u64_at, above_group, groups_at, count_at, int_of, int_at, text_at}
 use Rattle.rs_codec.proofs.Groups.{takes_last, takes_more}
-use Rattle.rs_codec.proofs.Spellings.{behind_count, takes_text}
+use Rattle.rs_codec.proofs.Spellings.{suffix_count, takes_text}
 
 -- ---- steps
 
@@ -70,10 +70,10 @@ byte_forth spelling rest x is = ap (λ (bs : List ℕ). byte_at (bs ++ rest)) is
 pub byte_read : IsReadBy IsByte byte_at
 byte_read = read_by IsByte byte_at byte_forth byte_back
 
-spelled_back : (bytes front tail spelling rest : List ℕ) (n x : ℕ) → bytes ≡ front ++ tail → if_spelled front spelling n tail ≡ Some (x, rest) → (x ≡ n) × (bytes ≡ spelling ++ rest)
-spelled_back bytes front tail spelling rest n x parts e =
-    let c = cond_some (bytes_eq front spelling) (n, tail) (x, rest) e in
-    let same : front ≡ spelling = (bytes_eq-Decides front spelling).0 c.0 in
+spelled_back : (bytes prefix tail spelling rest : List ℕ) (n x : ℕ) → bytes ≡ prefix ++ tail → if_spelled prefix spelling n tail ≡ Some (x, rest) → (x ≡ n) × (bytes ≡ spelling ++ rest)
+spelled_back bytes prefix tail spelling rest n x parts e =
+    let c = cond_some (bytes_eq prefix spelling) (n, tail) (x, rest) e in
+    let same : prefix ≡ spelling = (bytes_eq-Decides prefix spelling).0 c.0 in
     (sym (ap (λ (p : ℕ × List ℕ). p.0) c.1), parts ∙ ap (λ (bs : List ℕ). bs ++ tail) same ∙ ap (λ (p : ℕ × List ℕ). spelling ++ p.1) c.1)
 
 spelled_self : (bytes rest : List ℕ) (n : ℕ) → if_spelled bytes bytes n rest ≡ Some (n, rest)
@@ -200,7 +200,7 @@ text_back bytes rest text e =
 text_forth : (spelling rest text : List ℕ) → IsText spelling text → text_at (spelling ++ rest) ≡ Some (text, rest)
 unfolding text_at
 text_forth spelling rest text is =
-    let count : count_at (spelling ++ rest) ≡ Some (length text, text ++ rest) = ap count_at (behind_count spelling rest text is) ∙ count_forth is.count (text ++ rest) (length text) is.counted in
+    let count : count_at (spelling ++ rest) ≡ Some (length text, text ++ rest) = ap count_at (suffix_count spelling rest text is) ∙ count_forth is.count (text ++ rest) (length text) is.counted in
     let within : leb (length text) (length (text ++ rest)) ≡ true = le-leb (length text) (length (text ++ rest)) (omega (arith, length-append text rest)) in
     bind_at (count_at (spelling ++ rest)) _ (length text, text ++ rest) count ∙ rw (within, take_at text rest (length text) refl, drop_at text rest (length text) refl) refl
 

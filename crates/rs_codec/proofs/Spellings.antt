@@ -45,19 +45,19 @@ each_int z h = each_count (count_of z) (count_below z h)
 -- ---- texts
 
 -- fronts of one length of one list
-same_fronts : (x y r s : List ℕ) → length x ≡ length y → x ++ r ≡ y ++ s → x ≡ y
-same_fronts x y r s len e = sym (take_at x r (length y) len) ∙ ap (take (length y)) e ∙ take_at y s (length y) refl
+same_prefixes : (x y r s : List ℕ) → length x ≡ length y → x ++ r ≡ y ++ s → x ≡ y
+same_prefixes x y r s len e = sym (take_at x r (length y) len) ∙ ap (take (length y)) e ∙ take_at y s (length y) refl
 
 -- the text behind its count
-pub behind_count : (a r text : List ℕ) (p : IsText a text) → a ++ r ≡ p.count ++ (text ++ r)
-behind_count a r text p = ap (λ (xs : List ℕ). xs ++ r) p.parts ∙ append_assoc p.count text r
+pub suffix_count : (a r text : List ℕ) (p : IsText a text) → a ++ r ≡ p.count ++ (text ++ r)
+suffix_count a r text p = ap (λ (xs : List ℕ). xs ++ r) p.parts ∙ append_assoc p.count text r
 
 pub one_text : HasOneSpelling IsText
 one_text a b r s x y p q e =
-    let both : p.count ++ (x ++ r) ≡ q.count ++ (y ++ s) = sym (behind_count a r x p) ∙ e ∙ behind_count b s y q in
+    let both : p.count ++ (x ++ r) ≡ q.count ++ (y ++ s) = sym (suffix_count a r x p) ∙ e ∙ suffix_count b s y q in
     let counts = one_count p.count q.count (x ++ r) (y ++ s) (length x) (length y) p.counted q.counted both in
     let texts : x ++ r ≡ y ++ s = append_cancel_left q.count (x ++ r) (y ++ s) (ap (λ (xs : List ℕ). xs ++ (x ++ r)) (sym counts.0) ∙ both) in
-    let same = same_fronts x y r s counts.1 texts in
+    let same = same_prefixes x y r s counts.1 texts in
     (p.parts ∙ ap (λ (xs : List ℕ). xs ++ x) counts.0 ∙ ap (λ (xs : List ℕ). q.count ++ xs) same ∙ sym q.parts, same)
 
 pub each_text : (text : List ℕ) → length text < 2 ^ 64 → (bytes : List ℕ) × IsText bytes text
@@ -70,25 +70,25 @@ bytes_of_text bytes text p are = subst AreBytes (sym p.parts) (All-append (λ b.
 
 -- no count stands there
 pub none_no_count : (bytes : List ℕ) → NoneBegins IsCount bytes → NoneBegins IsText bytes
-none_no_count bytes none text spelling rest p e = none (length text) p.count (text ++ rest) p.counted (e ∙ behind_count spelling rest text p)
+none_no_count bytes none text spelling rest p e = none (length text) p.count (text ++ rest) p.counted (e ∙ suffix_count spelling rest text p)
 
 pub length_of_text : (bytes text : List ℕ) → IsText bytes text → length bytes ≡ count_size (length text) + length text
 length_of_text bytes text p = ap length p.parts ∙ length-append p.count text ∙ ap (λ (n : ℕ). n + length text) (length_of_count p.count (length text) p.counted)
 
 -- a count stands there, and then fewer bytes than it says
-pub none_short : (bytes behind : List ℕ) (n : ℕ) → Takes IsCount bytes behind n → length behind < n → NoneBegins IsText bytes
-none_short bytes behind n t short text spelling rest p e =
-    let both : t.spelling ++ behind ≡ p.count ++ (text ++ rest) = sym t.parts ∙ e ∙ behind_count spelling rest text p in
-    let same = one_count t.spelling p.count behind (text ++ rest) n (length text) t.spelled p.counted both in
-    let texts : behind ≡ text ++ rest = append_cancel_left p.count behind (text ++ rest) (ap (λ (xs : List ℕ). xs ++ behind) (sym same.0) ∙ both) in
+pub none_short : (bytes suffix : List ℕ) (n : ℕ) → Takes IsCount bytes suffix n → length suffix < n → NoneBegins IsText bytes
+none_short bytes suffix n t short text spelling rest p e =
+    let both : t.spelling ++ suffix ≡ p.count ++ (text ++ rest) = sym t.parts ∙ e ∙ suffix_count spelling rest text p in
+    let same = one_count t.spelling p.count suffix (text ++ rest) n (length text) t.spelled p.counted both in
+    let texts : suffix ≡ text ++ rest = append_cancel_left p.count suffix (text ++ rest) (ap (λ (xs : List ℕ). xs ++ suffix) (sym same.0) ∙ both) in
     omega (arith, same.1, ap length texts, length-append text rest)
 
 -- a count stands there, and then as many bytes as it says
-pub takes_text : (bytes behind text new : List ℕ) (n : ℕ) → Takes IsCount bytes behind n → n ≤ length behind → text ≡ take n behind → new ≡ drop n behind → Takes IsText bytes new text
-takes_text bytes behind text new n t within front back =
-    let len : length text ≡ n = omega (arith, ap length front, length-take n behind) in
+pub takes_text : (bytes suffix text new : List ℕ) (n : ℕ) → Takes IsCount bytes suffix n → n ≤ length suffix → text ≡ take n suffix → new ≡ drop n suffix → Takes IsText bytes new text
+takes_text bytes suffix text new n t within prefix back =
+    let len : length text ≡ n = omega (arith, ap length prefix, length-take n suffix) in
     record {
       spelling = t.spelling ++ text;
       spelled = record { count = t.spelling; counted = subst (λ (k : ℕ). IsCount t.spelling k) (sym len) t.spelled; parts = refl };
-      parts = t.parts ∙ ap (λ (xs : List ℕ). t.spelling ++ xs) (sym (take-append-drop n behind) ∙ ap (λ (xs : List ℕ). xs ++ drop n behind) (sym front) ∙ ap (λ (xs : List ℕ). text ++ xs) (sym back)) ∙ sym (append_assoc t.spelling text new);
+      parts = t.parts ∙ ap (λ (xs : List ℕ). t.spelling ++ xs) (sym (take-append-drop n suffix) ∙ ap (λ (xs : List ℕ). xs ++ drop n suffix) (sym prefix) ∙ ap (λ (xs : List ℕ). text ++ xs) (sym back)) ∙ sym (append_assoc t.spelling text new);
     }

@@ -7,7 +7,7 @@ use Rattle.std.proofs.Math.Nat.{pow-suc}
 use Rattle.rs_codec.specs.Spelling.{IsGroups, IsCount, count_of, IsInt, IsText, Puts}
 use Rattle.rs_codec.specs.Written.{groups_bytes, count_bytes, int_bytes, text_bytes}
 use Rattle.rs_codec.specs.Laws.{IsWrittenBy, IsSpelledOnce}
-use Rattle.rs_codec.proofs.Groups.{longer, same_front}
+use Rattle.rs_codec.proofs.Groups.{longer, same_prefix}
 use Rattle.rs_codec.proofs.Spellings.{count_below}
 
 -- ---- one spelling
@@ -21,7 +21,7 @@ same_groups (x ∷ c ∷ a) (y ∷ []) n p q = absurd (omega (arith, q.0, q.1, p
 same_groups (x ∷ c ∷ a) (y ∷ d ∷ b) n p q =
     let first : x ≡ y = omega (arith, p.0, p.1, p.4, q.0, q.1, q.4) in
     let high : p.2 ≡ q.2 = omega (arith, first, p.4, q.4) in
-    same_front x y (c ∷ a) (d ∷ b) first (same_groups (c ∷ a) (d ∷ b) q.2 (subst (λ (h : ℕ). IsGroups (c ∷ a) h) high p.5) q.5)
+    same_prefix x y (c ∷ a) (d ∷ b) first (same_groups (c ∷ a) (d ∷ b) q.2 (subst (λ (h : ℕ). IsGroups (c ∷ a) h) high p.5) q.5)
 
 pub once_count : IsSpelledOnce IsCount
 once_count a b n p q = same_groups a b n p.groups q.groups

@@ -47,5 +47,5 @@ text_at bytes = do
   if nat_le count.0 (length count.1) then Some (take count.0 count.1, drop count.0 count.1) else None
 
 -- what stands behind the text at the front
-abbrev pub behind_text : List ℕ → Option (List ℕ)
-behind_text bytes = text_at bytes >>= λ text. Some text.1
+abbrev pub suffix_text : List ℕ → Option (List ℕ)
+suffix_text bytes = text_at bytes >>= λ text. Some text.1

@@ -107,9 +107,9 @@ impl<'a> Fields<'a> {
         ensures read { IfSome result (λ n. reader.u32_at self.old ≡ Some (n, self.new)) }
         ensures end { IfNone result (reader.u32_at self.old ≡ None) }
     {
-        let (front, rest) = self.left.split_first_chunk::<4>()?;
+        let (prefix, rest) = self.left.split_first_chunk::<4>()?;
         self.left = rest;
-        Some(u32_of(front))
+        Some(u32_of(prefix))
     }
 
     /// A number in eight bytes, the highest first.
@@ -121,9 +121,9 @@ impl<'a> Fields<'a> {
         ensures read { IfSome result (λ n. reader.u64_at self.old ≡ Some (n, self.new)) }
         ensures end { IfNone result (reader.u64_at self.old ≡ None) }
     {
-        let (front, rest) = self.left.split_first_chunk::<8>()?;
+        let (prefix, rest) = self.left.split_first_chunk::<8>()?;
         self.left = rest;
-        Some(u64_of(front))
+        Some(u64_of(prefix))
     }
 
     /// A number in as few bytes as it takes. One that is spelled in more bytes, or is above `u64::MAX`, is `None`.

@@ -54,7 +54,7 @@ impl<'a> Fields<'a> {
     pub fn read_text(&mut self, alloc: Global) -> Result<Bytes, ReadFault>
         ensures read { Reads (reader.text_at self.old) result self.new }
         ensures stays { IsErrOf result ReadFault.Malformed → self.new ≡ self.old }
-        ensures passed { IsErrOf result ReadFault.NoMemory → reader.behind_text self.old ≡ Some self.new }
+        ensures passed { IsErrOf result ReadFault.NoMemory → reader.suffix_text self.old ≡ Some self.new }
     {
         let text = self.take_text().ok_or(ReadFault::Malformed)?;
         Ok(Bytes::from_slice(alloc, text)?)

@@ -144,10 +144,10 @@ module _ (scope : List ScopeColumn) (few : length scope ≤ 16) where
           let fitting : Test = test (not (expr_fits scope [] (column_kind scope written) set.expr.first set.expr.more)) denials.WrongType in
           let there : Test = test (named_count scope written == 0) denials.NoColumn in
           let once : Test = test (list_any (λ (other : Set). bytes_eq other.column set.column) before) denials.TwoColumns in
-          let front = both_pass (there ∷ once ∷ first_tests ++ more_tests scope [] set.expr.more) (fitting ∷ []) passes in
-          let named = passed there (once ∷ first_tests ++ more_tests scope [] set.expr.more) front.0 in
+          let prefix = both_pass (there ∷ once ∷ first_tests ++ more_tests scope [] set.expr.more) (fitting ∷ []) passes in
+          let named = passed there (once ∷ first_tests ++ more_tests scope [] set.expr.more) prefix.0 in
           let terms = both_pass first_tests (more_tests scope [] set.expr.more) (passed once (first_tests ++ more_tests scope [] set.expr.more) named.1).1 in
-          let fits = holds_if (expr_fits scope [] (column_kind scope written) set.expr.first set.expr.more) (passed fitting [] front.1).0 in
+          let fits = holds_if (expr_fits scope [] (column_kind scope written) set.expr.first set.expr.more) (passed fitting [] prefix.1).0 in
           let known = the_known (column_kind scope written) (kind_known scope small written named.0) in
           let value : Value = set_value [] row (bound_set scope [] set) in
           let new_kind : kind_of value ≡ known.0

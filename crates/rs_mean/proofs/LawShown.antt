@@ -29,7 +29,7 @@ use Rattle.rs_bind.specs.declared.scope.ScopeColumn.{ScopeColumn}
 use Rattle.rs_bind.proofs.OverScope.{kinds_in, kind_known, place_kind}
 use Rattle.rs_bind.proofs.OverTests.{both_pass}
 use Rattle.rs_eval.specs.Clauses.{holds}
-use Rattle.rs_eval.specs.Joined.{choices, joined, joined_within, max_joined}
+use Rattle.rs_eval.specs.Joined.{cross_product, joined, joined_within, max_joined}
 use Rattle.rs_answer.specs.Answer.{answer_of}
 use Rattle.rs_answer.specs.Kinds.{HasKinds, item_kind, AreKindsOf}
 use Rattle.rs_answer.proofs.Typed.{answers_have_kinds}
@@ -48,23 +48,23 @@ kinds_of columns = map (λ (column : ColDef). column.kind) columns
 
 -- ---- the choices of rows
 
-module _ (front back : List Kind) where
+module _ (prefix back : List Kind) where
   -- a row of these kinds before rows of those
-  before_each : (row : List Value) (others : List (List Value)) → HasKinds front row → All (HasKinds back) others
-      → All (HasKinds (front ++ back)) (map (λ (other : List Value). row ++ other) others)
-  before_each row [] here typed = All-nil (HasKinds (front ++ back))
+  before_each : (row : List Value) (others : List (List Value)) → HasKinds prefix row → All (HasKinds back) others
+      → All (HasKinds (prefix ++ back)) (map (λ (other : List Value). row ++ other) others)
+  before_each row [] here typed = All-nil (HasKinds (prefix ++ back))
   before_each row (other ∷ others) here typed =
-      All-cons (HasKinds (front ++ back)) (row ++ other) (map (λ (more : List Value). row ++ more) others)
+      All-cons (HasKinds (prefix ++ back)) (row ++ other) (map (λ (more : List Value). row ++ more) others)
       (map-append kind_of row other ∙ ap₂ (λ (ones more : List Kind). ones ++ more) here (All-head (HasKinds back) other others typed))
       (before_each row others here (All-tail (HasKinds back) other others typed))
 
-  each_before : (rows others : List (List Value)) → All (HasKinds front) rows → All (HasKinds back) others
-      → All (HasKinds (front ++ back)) (flat_map (λ (row : List Value). map (λ (other : List Value). row ++ other) others) rows)
-  each_before [] others typed others_typed = All-nil (HasKinds (front ++ back))
+  each_before : (rows others : List (List Value)) → All (HasKinds prefix) rows → All (HasKinds back) others
+      → All (HasKinds (prefix ++ back)) (flat_map (λ (row : List Value). map (λ (other : List Value). row ++ other) others) rows)
+  each_before [] others typed others_typed = All-nil (HasKinds (prefix ++ back))
   each_before (row ∷ rows) others typed others_typed =
-      All-append (HasKinds (front ++ back)) (map (λ (other : List Value). row ++ other) others) (flat_map (λ (first : List Value). map (λ (other : List Value). first ++ other) others) rows)
-      (before_each row others (All-head (HasKinds front) row rows typed) others_typed)
-      (each_before rows others (All-tail (HasKinds front) row rows typed) others_typed)
+      All-append (HasKinds (prefix ++ back)) (map (λ (other : List Value). row ++ other) others) (flat_map (λ (first : List Value). map (λ (other : List Value). first ++ other) others) rows)
+      (before_each row others (All-head (HasKinds prefix) row rows typed) others_typed)
+      (each_before rows others (All-tail (HasKinds prefix) row rows typed) others_typed)
 
 found_rows : (found : Option Table) → IfSome found IsTyped → All (HasKinds (kinds_of (columns_of found))) (rows_of found)
 found_rows None typed = All-nil (HasKinds [])
@@ -79,18 +79,18 @@ module _ (db : Database) (each : EachTable IsTyped db) (name : TableRef → Swn)
   abbrev scope_of : List TableRef → List ScopeColumn
   scope_of refs = query_scope refs (map (heading_in db) (map name refs))
 
-  choices_typed : (refs : List TableRef) → All (HasKinds (kinds_in (scope_of refs))) (choices (map (rows_in db) (map name refs)))
-  choices_typed [] = All-cons (HasKinds []) [] [] refl (All-nil (HasKinds []))
-  choices_typed (ref ∷ refs) =
+  cross_product_typed : (refs : List TableRef) → All (HasKinds (kinds_in (scope_of refs))) (cross_product (map (rows_in db) (map name refs)))
+  cross_product_typed [] = All-cons (HasKinds []) [] [] refl (All-nil (HasKinds []))
+  cross_product_typed (ref ∷ refs) =
       let found : Option Table = table_named (name ref) db in
       let alias : List ℕ = alias_of ref (heading_in db (name ref)) in
       let first : List ScopeColumn = columns_as alias (columns_of found) in
       let rest : List ScopeColumn = scope_of refs in
-      let parted : kinds_in (first ++ rest) ≡ kinds_of (columns_of found) ++ kinds_in rest
+      let separated : kinds_in (first ++ rest) ≡ kinds_of (columns_of found) ++ kinds_in rest
       = map-append (λ (column : ScopeColumn). column.kind) first rest ∙ ap (λ (ones : List Kind). ones ++ kinds_in rest) (kinds_as alias (columns_of found)) in
-      subst (λ (known : List Kind). All (HasKinds known) (choices (map (rows_in db) (map name (ref ∷ refs))))) (sym parted)
-      (each_before (kinds_of (columns_of found)) (kinds_in rest) (rows_of found) (choices (map (rows_in db) (map name refs)))
-      (found_rows found (each_named IsTyped db each (name ref))) (choices_typed refs))
+      subst (λ (known : List Kind). All (HasKinds known) (cross_product (map (rows_in db) (map name (ref ∷ refs))))) (sym separated)
+      (each_before (kinds_of (columns_of found)) (kinds_in rest) (rows_of found) (cross_product (map (rows_in db) (map name refs)))
+      (found_rows found (each_named IsTyped db each (name ref))) (cross_product_typed refs))
 
   columns_few : (refs : List TableRef) → length (scope_of refs) ≤ length refs * 16
   columns_few [] = omega arith
@@ -196,11 +196,11 @@ within_so P found all true each e = absurd cc
 within_so P found all false each e = let is : found ≡ all = cc in subst (All P) is each
 
 -- joined rows are as each choice is
-joined_so : (P : List Value → Type 0) (clauses : List (List BoundCmp)) (tables : List (List (List Value))) (all : List (List Value)) → All P (choices tables)
+joined_so : (P : List Value → Type 0) (clauses : List (List BoundCmp)) (tables : List (List (List Value))) (all : List (List Value)) → All P (cross_product tables)
     → joined_within clauses tables ≡ Ok all → All P all
 unfolding joined joined_within
 joined_so P clauses tables all each e =
-    within_so P (joined clauses tables) all (nat_lt max_joined (length (joined clauses tables))) (All-filter (holds clauses) P (choices tables) each) e
+    within_so P (joined clauses tables) all (nat_lt max_joined (length (joined clauses tables))) (All-filter (holds clauses) P (cross_product tables) each) e
 
 module _ (db : Database) (each : EachTable IsTyped db) (name : TableRef → Swn) (query : Select) (few : length query.from ≤ 6) where
   abbrev columns : List ScopeColumn
@@ -218,5 +218,5 @@ module _ (db : Database) (each : EachTable IsTyped db) (name : TableRef → Swn)
       let small : length columns ≤ 96 = omega arith in
       let shown = shown_show columns small query.items (items_pass query (map (heading_in db) (map name query.from)) passes) in
       let found = answered shape (joined_within clauses tables) rows e in
-      let typed = joined_so (HasKinds (kinds_in columns)) clauses tables found.0 (choices_typed db each name query.from) found.1 in
+      let typed = joined_so (HasKinds (kinds_in columns)) clauses tables found.0 (cross_product_typed db each name query.from) found.1 in
       (shown.0, shown.1.0, answers_have_kinds shape (kinds_in columns) shown.0 found.0 rows shown.1.1 typed found.2)

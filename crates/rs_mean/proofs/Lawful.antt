@@ -149,8 +149,8 @@ rows_are_taken_out db execution written clauses given is e =
     let put : table_named name (changed (effect_of db execution).change db) ≡ Some new
     = ap (λ change. table_named name (changed change db)) (so.is ∙ ap (λ (all : List (List Value)). changes.SetRows name (kept so.clauses all)) rows)
     ∙ set_table name (kept so.clauses old.rows) db old found.1 in
-    let tells : given ≡ answers.Changed (met so.clauses old.rows) ∷ [] = so.answers ∙ ap (λ (all : List (List Value)). answers.Changed (met so.clauses all) ∷ []) rows in
-    (met so.clauses old.rows, old, new, tells, found.1, put, record { made = refl; columns = refl; indexes = refl; rows = kept_and_met so.clauses old.rows })
+    let reports : given ≡ answers.Changed (met so.clauses old.rows) ∷ [] = so.answers ∙ ap (λ (all : List (List Value)). answers.Changed (met so.clauses all) ∷ []) rows in
+    (met so.clauses old.rows, old, new, reports, found.1, put, record { made = refl; columns = refl; indexes = refl; rows = kept_and_met so.clauses old.rows })
 
 pub rows_are_changed : RowsAreChanged
 unfolding meaning
@@ -163,9 +163,9 @@ rows_are_changed db execution written sets clauses given is e =
     let new : Table = record old { rows = so.new } in
     let put : table_named name (changed (effect_of db execution).change db) ≡ Some new
     = ap (λ change. table_named name (changed change db)) so.is ∙ set_table name so.new db old found.1 in
-    let tells : given ≡ answers.Changed (met so.clauses old.rows) ∷ [] = so.answers ∙ ap (λ (all : List (List Value)). answers.Changed (met so.clauses all) ∷ []) rows in
+    let reports : given ≡ answers.Changed (met so.clauses old.rows) ∷ [] = so.answers ∙ ap (λ (all : List (List Value)). answers.Changed (met so.clauses all) ∷ []) rows in
     let as_many : length so.new ≡ length old.rows = as_many_updated (sets_in db name sets) so.clauses (rows_of (table_named name db)) so.new so.made ∙ ap (λ (all : List (List Value)). length all) rows in
-    (met so.clauses old.rows, old, new, tells, met_at_most so.clauses old.rows, found.1, put, record { made = refl; columns = refl; indexes = refl; rows = omega arith })
+    (met so.clauses old.rows, old, new, reports, met_at_most so.clauses old.rows, found.1, put, record { made = refl; columns = refl; indexes = refl; rows = omega arith })
 
 -- the table that was there, and the one with these indexes
 set_indexes : (name : Swn) (indexes : List IndexOf) (db : Database) (old : Table) → table_named name db ≡ Some old

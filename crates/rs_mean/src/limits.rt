@@ -26,7 +26,7 @@ fn fits_row(row: &[Value]) -> bool
 pub(crate) fn all_fit_row(rows: &RowRun<'_>) -> bool
     ensures { result ≡ list_all spec.fits_row rows.now }
 {
-    let mut rest = rows.again();
+    let mut rest = rows.view();
     while let Some((row, others)) = rest.split_first() {
         if !fits_row(row) {
             return false;

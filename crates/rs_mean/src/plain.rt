@@ -31,7 +31,7 @@ pub struct PlainTable {
 pub type PlainTables = Items<PlainTable>;
 
 /// An answer, or why there is none.
-type Told = Result<Answer, Denial>;
+type Answered = Result<Answer, Denial>;
 
 fn has_name(name: &Swn, table: &PlainTable) -> bool
     ensures { result ≡ is_eq (name_cmp name.now table.now.name) }
@@ -138,7 +138,7 @@ fn names_of(alloc: Global, tables: &[TableRef], user: Ident, site: SiteNo) -> Re
     Ok(names)
 }
 
-fn told_rows(rows: Result<Rows, Denial>) -> Told
+fn answered_rows(rows: Result<Rows, Denial>) -> Answered
     ensures { spec.outcome_of result ≡ (statements.answering rows).outcome }
 {
     match rows {
@@ -147,7 +147,7 @@ fn told_rows(rows: Result<Rows, Denial>) -> Told
     }
 }
 
-fn told_count(rows: Result<StoredRows, Denial>, count: usize) -> Told
+fn changed_count(rows: Result<StoredRows, Denial>, count: usize) -> Answered
     ensures { (name : Swn) → spec.outcome_of result ≡ (statements.updating name count rows).outcome }
 {
     match rows {
@@ -156,7 +156,7 @@ fn told_count(rows: Result<StoredRows, Denial>, count: usize) -> Told
     }
 }
 
-fn told_length(rows: Result<StoredRows, Denial>) -> Told
+fn inserted_count(rows: Result<StoredRows, Denial>) -> Answered
     ensures { (name : Swn) → spec.outcome_of result ≡ (statements.inserting name rows).outcome }
 {
     match rows {
@@ -166,23 +166,23 @@ fn told_length(rows: Result<StoredRows, Denial>) -> Told
 }
 
 /// What a bound statement answers over the rows of one table.
-fn answer_over(alloc: Global, bound: &Bound, rows: &StoredRows) -> Result<Told, NoMemory>
-    ensures { IfOk result (λ told. spec.outcome_of told ≡ (statements.effect_of_bound (rows.now ∷ []) bound.now).outcome) }
+fn answer_over(alloc: Global, bound: &Bound, rows: &StoredRows) -> Result<Answered, NoMemory>
+    ensures { IfOk result (λ answered. spec.outcome_of answered ≡ (statements.effect_of_bound (rows.now ∷ []) bound.now).outcome) }
 {
     match bound {
-        Bound::Select { clauses, shape, .. } => Ok(told_rows(selected(
+        Bound::Select { clauses, shape, .. } => Ok(answered_rows(selected(
             alloc,
             clauses.as_slice(),
             shape,
             &[rows.as_run()],
         )?)),
         Bound::Insert { rows: given, .. } => {
-            Ok(told_length(inserted(alloc, given.as_slice(), rows)?))
+            Ok(inserted_count(inserted(alloc, given.as_slice(), rows)?))
         }
         Bound::Update { sets, clauses, .. } => {
             let count = met(clauses.as_slice(), &rows.as_run());
             let new = updated(alloc, sets.as_slice(), clauses.as_slice(), &rows.as_run())?;
-            Ok(told_count(new, count))
+            Ok(changed_count(new, count))
         }
         Bound::Delete { clauses, .. } => {
             let count = met(clauses.as_slice(), &rows.as_run());
@@ -197,8 +197,8 @@ fn answer_once_bound(
     outcome: Result<Bound, Denial>,
     tables: &[PlainTable],
     name: &Swn,
-) -> Result<Told, NoMemory>
-    ensures { IfOk result (λ told. spec.outcome_of told ≡ (statements.once_bound (spec.plain_rows tables.now name.now ∷ []) outcome).outcome) }
+) -> Result<Answered, NoMemory>
+    ensures { IfOk result (λ answered. spec.outcome_of answered ≡ (statements.once_bound (spec.plain_rows tables.now name.now ∷ []) outcome).outcome) }
 {
     match outcome {
         Ok(bound) => answer_over(alloc, &bound, &rows(alloc, tables, name)?),
@@ -212,13 +212,13 @@ fn answer_query(
     bound: &Bound,
     tables: &[PlainTable],
     names: &[Swn],
-) -> Result<Told, NoMemory>
+) -> Result<Answered, NoMemory>
     requires { IsSelect bound.now }
-    ensures { IfOk result (λ told. spec.outcome_of told ≡ (statements.effect_of_bound (map (spec.plain_rows tables.now) names.now) bound.now).outcome) }
+    ensures { IfOk result (λ answered. spec.outcome_of answered ≡ (statements.effect_of_bound (map (spec.plain_rows tables.now) names.now) bound.now).outcome) }
 {
     let found = all_rows(alloc, tables, names)?;
     let lent = lent(alloc, found.as_slice())?;
-    Ok(told_rows(rows_of_query(alloc, bound, lent.as_slice())?))
+    Ok(answered_rows(rows_of_query(alloc, bound, lent.as_slice())?))
 }
 
 fn select(
@@ -226,8 +226,8 @@ fn select(
     tables: &[PlainTable],
     names: &[Swn],
     query: &Select,
-) -> Result<Told, NoMemory>
-    ensures { IfOk result (λ told. spec.outcome_of told ≡ (statements.select (spec.plain_tables tables.now) names.now query.now).outcome) }
+) -> Result<Answered, NoMemory>
+    ensures { IfOk result (λ answered. spec.outcome_of answered ≡ (statements.select (spec.plain_tables tables.now) names.now query.now).outcome) }
 {
     if let Some(cause) = first_missing(tables, names) {
         return Ok(Err(cause));
@@ -245,8 +245,8 @@ fn query(
     user: Ident,
     site: SiteNo,
     query: &Select,
-) -> Result<Told, NoMemory>
-    ensures { IfOk result (λ told. spec.outcome_of told ≡ (statements.query (spec.plain_tables tables.now) (λ written. resolve written user site) query.now).outcome) }
+) -> Result<Answered, NoMemory>
+    ensures { IfOk result (λ answered. spec.outcome_of answered ≡ (statements.query (spec.plain_tables tables.now) (λ written. resolve written user site) query.now).outcome) }
 {
     let names = names_of(alloc, query.from.as_slice(), user, site)?;
     select(alloc, tables, names.as_slice(), query)
@@ -257,8 +257,8 @@ fn insert(
     tables: &[PlainTable],
     name: &Swn,
     given: &[TermRow],
-) -> Result<Told, NoMemory>
-    ensures { IfOk result (λ told. spec.outcome_of told ≡ (statements.insert (spec.plain_tables tables.now) name.now given.now).outcome) }
+) -> Result<Answered, NoMemory>
+    ensures { IfOk result (λ answered. spec.outcome_of answered ≡ (statements.insert (spec.plain_tables tables.now) name.now given.now).outcome) }
 {
     if let Some(cause) = denial(tables, name) {
         return Ok(Err(cause));
@@ -274,8 +274,8 @@ fn update(
     name: &Swn,
     sets: &[Set],
     clauses: &[Clause],
-) -> Result<Told, NoMemory>
-    ensures { IfOk result (λ told. spec.outcome_of told ≡ (statements.update (spec.plain_tables tables.now) name.now sets.now clauses.now).outcome) }
+) -> Result<Answered, NoMemory>
+    ensures { IfOk result (λ answered. spec.outcome_of answered ≡ (statements.update (spec.plain_tables tables.now) name.now sets.now clauses.now).outcome) }
 {
     if let Some(cause) = denial(tables, name) {
         return Ok(Err(cause));
@@ -290,8 +290,8 @@ fn delete(
     tables: &[PlainTable],
     name: &Swn,
     clauses: &[Clause],
-) -> Result<Told, NoMemory>
-    ensures { IfOk result (λ told. spec.outcome_of told ≡ (statements.delete (spec.plain_tables tables.now) name.now clauses.now).outcome) }
+) -> Result<Answered, NoMemory>
+    ensures { IfOk result (λ answered. spec.outcome_of answered ≡ (statements.delete (spec.plain_tables tables.now) name.now clauses.now).outcome) }
 {
     if let Some(cause) = denial(tables, name) {
         return Ok(Err(cause));
@@ -310,7 +310,7 @@ pub fn answer_plain(
     user: Ident,
     site: SiteNo,
 ) -> Result<Result<Answer, Denial>, NoMemory>
-    ensures { IfOk result (λ told. spec.outcome_of told ≡ (spec.plain_effect tables.now user site dml.now).outcome) }
+    ensures { IfOk result (λ answered. spec.outcome_of answered ≡ (spec.plain_effect tables.now user site dml.now).outcome) }
 {
     match dml {
         Dml::Select(given) => query(alloc, tables, user, site, given),

@@ -108,7 +108,7 @@ fn updated_rows(
     ensures { IfOk result (λ new. new ≡ spec.updated_rows sets.now clauses.now rows.now) }
 {
     let mut new = StoredRows::new(alloc);
-    let mut rest = rows.again();
+    let mut rest = rows.view();
     while let Some((row, others)) = rest.split_first() {
         if let Err(cause) = push_updated(alloc, sets, clauses, row, &mut new)? {
             return Ok(Err(cause));
@@ -152,7 +152,7 @@ pub(crate) fn kept(
     ensures { IfOk result (λ kept. kept ≡ spec.kept clauses.now rows.now) }
 {
     let mut kept = StoredRows::new(alloc);
-    let mut rest = rows.again();
+    let mut rest = rows.view();
     while let Some((row, others)) = rest.split_first() {
         if !holds(clauses, row) {
             kept.push(alloc, row)?;
@@ -167,7 +167,7 @@ pub(crate) fn met(clauses: &[BoundClause], rows: &RowRun<'_>) -> usize
     ensures { result ≡ spec.met clauses.now rows.now }
 {
     let mut count = 0;
-    let mut rest = rows.again();
+    let mut rest = rows.view();
     while let Some((row, others)) = rest.split_first() {
         if holds(clauses, row) {
             prove!(count < rows.len());

@@ -21,8 +21,8 @@ use Rattle.rs_msg.specs.Reader.{user_at, short_text_at, site_at, origin_at, ask_
 -- ---- what was taken
 
 -- two parts in a row
-joins : (bytes front middle back rest : List ℕ) → bytes ≡ front ++ middle → middle ≡ back ++ rest → bytes ≡ (front ++ back) ++ rest
-joins bytes front middle back rest e f = e ∙ ap (λ (bs : List ℕ). front ++ bs) f ∙ sym (append_assoc front back rest)
+joins : (bytes prefix middle back rest : List ℕ) → bytes ≡ prefix ++ middle → middle ≡ back ++ rest → bytes ≡ (prefix ++ back) ++ rest
+joins bytes prefix middle back rest e f = e ∙ ap (λ (bs : List ℕ). prefix ++ bs) f ∙ sym (append_assoc prefix back rest)
 
 -- parts in a row, and what stands behind them
 spread_3 : (bytes a b c rest : List ℕ) → bytes ≡ a ++ b ++ c → bytes ++ rest ≡ a ++ (b ++ (c ++ rest))
@@ -164,14 +164,14 @@ site_to n h = and_from (leb 1 n) (leb n 16) (le-leb 1 n h.0) (le-leb n 16 h.1)
 origin_taken : (bytes r0 r1 r2 rest user : List ℕ) (origin : Origin) → IsOriginWithin origin → IsText user origin.user
     → bytes ≡ origin.site ∷ r0 → r0 ≡ user ++ r1 → r1 ≡ to_be_bytes w32 origin.epoch ++ r2 → r2 ≡ to_be_bytes w64 origin.number ++ rest → Takes IsOrigin bytes rest origin
 origin_taken bytes r0 r1 r2 rest user origin within user_is e0 e1 e2 e3 =
-    let front = origin.site ∷ user in
+    let prefix = origin.site ∷ user in
     let epoch = to_be_bytes w32 origin.epoch in
     let number = to_be_bytes w64 origin.number in
-    let first : bytes ≡ front ++ r1 = e0 ∙ ap (λ (bs : List ℕ). origin.site ∷ bs) e1 in
+    let first : bytes ≡ prefix ++ r1 = e0 ∙ ap (λ (bs : List ℕ). origin.site ∷ bs) e1 in
     record {
-      spelling = front ++ epoch ++ number;
+      spelling = prefix ++ epoch ++ number;
       spelled = record { within = within; user = user; user_is = user_is; parts = refl };
-      parts = joins bytes (front ++ epoch) r2 number rest (joins bytes front r1 epoch r2 first e2) e3;
+      parts = joins bytes (prefix ++ epoch) r2 number rest (joins bytes prefix r1 epoch r2 first e2) e3;
     }
 
 origin_back : (bytes rest : List ℕ) (origin : Origin) → origin_at bytes ≡ Some (origin, rest) → Takes IsOrigin bytes rest origin

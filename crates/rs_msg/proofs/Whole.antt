@@ -73,9 +73,9 @@ back bytes m e =
     let first = bind_some (byte_at bytes) _ (m, []) read in
     let marked = held (eqb first.0.0 mark) (kind_at first.0.1) (m, []) first.2 in
     let kind = bind_some (byte_at first.0.1) _ (m, []) marked.1 in
-    let behind : first.0.1 ≡ kind.0.0 ∷ kind.0.1 = takes_byte first.0.1 kind.0.1 kind.0.0 kind.1 in
+    let suffix : first.0.1 ≡ kind.0.0 ∷ kind.0.1 = takes_byte first.0.1 kind.0.1 kind.0.0 kind.1 in
     let begins : bytes ≡ first.0.0 ∷ first.0.1 = takes_byte bytes first.0.1 first.0.0 first.1 in
-    let whole : bytes ≡ mark ∷ kind.0.0 ∷ kind.0.1 = begins ∙ ap (λ (b : ℕ). b ∷ first.0.1) (eqb-true first.0.0 mark marked.0) ∙ ap (λ (bs : List ℕ). mark ∷ bs) behind in
+    let whole : bytes ≡ mark ∷ kind.0.0 ∷ kind.0.1 = begins ∙ ap (λ (b : ℕ). b ∷ first.0.1) (eqb-true first.0.0 mark marked.0) ∙ ap (λ (bs : List ℕ). mark ∷ bs) suffix in
     subst (λ (bs : List ℕ). IsMessage bs m) (sym whole) (fields_are kind.0.0 kind.0.1 m kind.2)
 
 pub message_read : (bytes : List ℕ) (m : Message) → (IsMessage bytes m → message_of bytes ≡ Some m) × (message_of bytes ≡ Some m → IsMessage bytes m)

@@ -6,10 +6,10 @@ use Rattle.rs_base.specs.Ident.{is_ident}
 use Rattle.rs_base.specs.Printing.{printed_swn}
 use Rattle.rs_base.specs.declared.name.Swn.{Swn}
 use Rattle.rs_name.specs.SwnText.{IsSite, IsName, IsSwnText}
-use Rattle.rs_name.specs.Reader.{site_of, is_before, parted, ident_of, placed_of, swn_of}
+use Rattle.rs_name.specs.Reader.{site_of, is_before, separated, ident_of, placed_of, swn_of}
 use Rattle.rs_name.proofs.Steps.{bind_some, bind_at}
 use Rattle.rs_name.proofs.Sites.{site_is, site_again, site_free}
-use Rattle.rs_name.proofs.Parting.{parted_again, parted_is, ident_free, both_free}
+use Rattle.rs_name.proofs.Separating.{separated_again, separated_is, ident_free, both_free}
 
 -- ---- an identifier and its site
 
@@ -24,7 +24,7 @@ pub record IsPlaced (bytes : List ℕ) (x : List ℕ × ℕ) : Type 0 where
 placed_is : (bytes : List ℕ) (x : List ℕ × ℕ) → placed_of bytes ≡ Some x → IsPlaced bytes x
 unfolding placed_of
 placed_is bytes x e =
-    let p = bind_some (parted 64 bytes) _ x e in
+    let p = bind_some (separated 64 bytes) _ x e in
     let i = bind_some (ident_of p.0.0) _ x p.2 in
     let s = bind_some (site_of p.0.1) _ x i.2 in
     let ident = cond_some (is_ident p.0.0) p.0.0 i.0 i.1 in
@@ -33,13 +33,13 @@ placed_is bytes x e =
     (record {
       ident = subst (λ (name : List ℕ). IsTrue (is_ident name)) ident.1 ident.0;
       site = site.0;
-      parts = parted_is 64 bytes p.0 p.1 ∙ ap (λ (name : List ℕ). name ++ (64 ∷ p.0.1)) ident.1 ∙ ap (λ (digits : List ℕ). i.0 ++ (64 ∷ digits)) site.1;
+      parts = separated_is 64 bytes p.0 p.1 ∙ ap (λ (name : List ℕ). name ++ (64 ∷ p.0.1)) ident.1 ∙ ap (λ (digits : List ℕ). i.0 ++ (64 ∷ digits)) site.1;
     })
 
 placed_again : (ident : List ℕ) (site : ℕ) → IsTrue (is_ident ident) → IsSite site → placed_of (placed ident site) ≡ Some (ident, site)
 unfolding placed_of
 placed_again ident site is within =
-    bind_at (parted 64 (placed ident site)) _ (ident, decimal site) (parted_again 64 ident (decimal site) (ident_free 64 refl ident is))
+    bind_at (separated 64 (placed ident site)) _ (ident, decimal site) (separated_again 64 ident (decimal site) (ident_free 64 refl ident is))
     ∙ bind_at (ident_of ident) _ ident (rw is refl)
     ∙ bind_at (site_of (decimal site)) _ site (site_again site within)
 
@@ -58,7 +58,7 @@ printed_read name is =
     let creator = placed name.creator name.creator_site in
     let object = placed name.object name.birth in
     ap swn_of (halves name)
-    ∙ bind_at (parted 46 (creator ++ (46 ∷ object))) _ (creator, object) (parted_again 46 creator object (placed_free name.creator name.creator_site is.creator is.creator_site))
+    ∙ bind_at (separated 46 (creator ++ (46 ∷ object))) _ (creator, object) (separated_again 46 creator object (placed_free name.creator name.creator_site is.creator is.creator_site))
     ∙ bind_at (placed_of creator) _ (name.creator, name.creator_site) (placed_again name.creator name.creator_site is.creator is.creator_site)
     ∙ bind_at (placed_of object) _ (name.object, name.birth) (placed_again name.object name.birth is.object is.birth)
 
@@ -68,7 +68,7 @@ forth bytes name is = ap swn_of is.printed ∙ printed_read name is.within
 pub back : (bytes : List ℕ) (name : Swn) → swn_of bytes ≡ Some name → IsSwnText bytes name
 unfolding swn_of
 back bytes name e =
-    let p = bind_some (parted 46 bytes) _ name e in
+    let p = bind_some (separated 46 bytes) _ name e in
     let c = bind_some (placed_of p.0.0) _ name p.2 in
     let o = bind_some (placed_of p.0.1) _ name c.2 in
     let creator = placed_is p.0.0 c.0 c.1 in
@@ -78,7 +78,7 @@ back bytes name e =
     (record {
       within = record { creator = creator.ident; creator_site = creator.site; object = object.ident; birth = object.site };
       printed =
-          parted_is 46 bytes p.0 p.1
+          separated_is 46 bytes p.0 p.1
           ∙ ap (λ (half : List ℕ). half ++ (46 ∷ p.0.1)) creator.parts
           ∙ ap (λ (half : List ℕ). placed c.0.0 c.0.1 ++ (46 ∷ half)) object.parts
           ∙ sym (halves found);

@@ -26,13 +26,13 @@ site_of digits = number_of digits >>= λ n. if nat_le 1 n && nat_le n 16 then So
 abbrev pub is_before : ℕ → ℕ → Bool
 is_before mark b = not (b == mark)
 
-abbrev pub behind : List ℕ → List ℕ → Option (List ℕ × List ℕ)
-behind front [] = None
-behind front (b ∷ rest) = Some (front, rest)
+abbrev pub suffix : List ℕ → List ℕ → Option (List ℕ × List ℕ)
+suffix prefix [] = None
+suffix prefix (b ∷ rest) = Some (prefix, rest)
 
 -- what stands before the first such mark, and what stands behind it
-unfoldable pub parted : ℕ → List ℕ → Option (List ℕ × List ℕ)
-parted mark bytes = behind (take (prefix_len (is_before mark) bytes) bytes) (drop (prefix_len (is_before mark) bytes) bytes)
+unfoldable pub separated : ℕ → List ℕ → Option (List ℕ × List ℕ)
+separated mark bytes = suffix (take (prefix_len (is_before mark) bytes) bytes) (drop (prefix_len (is_before mark) bytes) bytes)
 
 abbrev pub ident_of : List ℕ → Option (List ℕ)
 ident_of bytes = if is_ident bytes then Some bytes else None
@@ -40,7 +40,7 @@ ident_of bytes = if is_ident bytes then Some bytes else None
 -- an identifier and its site, with `@` between them
 unfoldable pub placed_of : List ℕ → Option (List ℕ × ℕ)
 placed_of bytes = do
-  parts ← parted 64 bytes
+  parts ← separated 64 bytes
   ident ← ident_of parts.0
   site ← site_of parts.1
   Some (ident, site)
@@ -50,7 +50,7 @@ placed_of bytes = do
 -- the creator and the object, with `.` between them
 unfoldable pub swn_of : List ℕ → Option Swn
 swn_of bytes = do
-  parts ← parted 46 bytes
+  parts ← separated 46 bytes
   creator ← placed_of parts.0
   object ← placed_of parts.1
   Some (record { creator = creator.0; creator_site = creator.1; object = object.0; birth = object.1 })

@@ -45,14 +45,14 @@ fn len_before(mark: u8, bytes: &[u8]) -> usize
 }
 
 /// What stands before the first such mark, and what stands behind it.
-#[tactic(auto, unfolding(crate::specs::Reader::parted))]
-fn parted(mark: u8, bytes: &[u8]) -> Option<(&[u8], &[u8])>
-    ensures found { IfSome result (λ parts. spec.parted mark bytes.now ≡ Some (parts.0.now, parts.1.now)) }
-    ensures none { IfNone result (spec.parted mark bytes.now ≡ None) }
+#[tactic(auto, unfolding(crate::specs::Reader::separated))]
+fn separated(mark: u8, bytes: &[u8]) -> Option<(&[u8], &[u8])>
+    ensures found { IfSome result (λ parts. spec.separated mark bytes.now ≡ Some (parts.0.now, parts.1.now)) }
+    ensures none { IfNone result (spec.separated mark bytes.now ≡ None) }
 {
-    let (front, rest) = bytes.split_at(len_before(mark, bytes));
-    let (_, behind) = rest.split_first()?;
-    Some((front, behind))
+    let (prefix, rest) = bytes.split_at(len_before(mark, bytes));
+    let (_, suffix) = rest.split_first()?;
+    Some((prefix, suffix))
 }
 
 /// An identifier and its site, with `@` between them.
@@ -60,7 +60,7 @@ fn parted(mark: u8, bytes: &[u8]) -> Option<(&[u8], &[u8])>
 fn placed_of(bytes: &[u8]) -> Option<(Ident, SiteNo)>
     ensures { result ≡ spec.placed_of bytes.now }
 {
-    let (ident, site) = parted(b'@', bytes)?;
+    let (ident, site) = separated(b'@', bytes)?;
     let ident = Ident::new(ident)?;
     let site = site_of(site)?;
     Some((ident, site))
@@ -70,7 +70,7 @@ fn placed_of(bytes: &[u8]) -> Option<(Ident, SiteNo)>
 fn swn_of(bytes: &[u8]) -> Option<Swn>
     ensures { result ≡ spec.swn_of bytes.now }
 {
-    let (creator, object) = parted(b'.', bytes)?;
+    let (creator, object) = separated(b'.', bytes)?;
     let (creator, creator_site) = placed_of(creator)?;
     let (object, birth) = placed_of(object)?;
     Some(Swn {

@@ -22,7 +22,7 @@ use Rattle.rs_parse.specs.Grammar.{IsIdent, IsSite, IsKind, IsAtSite, IsName, Is
 use Rattle.rs_parse.specs.Reader.{word_at, mark_at, ident_of, ident_at, site_of, site_at, kind_of, kind_at, at_site_at, optional_site_at, created_at, object_alone, name_at, column_of_at, column_alone, col_ref_at, column_at}
 use Rattle.std.proofs.lemmas.List.{append-nil}
 use Rattle.rs_parse.proofs.Options.{barred}
-use Rattle.rs_parse.proofs.Readers.{IsReader, One, Then, Made, Either, Empty, IsToken, never, or_left, or_right, gives_before, reads_one, reads_token, reads_optional, then_reads, behind_reads, made_reads, either_reads, as_reads, before_reads, token_begins, empty_begins, front_alone}
+use Rattle.rs_parse.proofs.Readers.{IsReader, One, Then, Made, Either, Empty, IsToken, never, or_left, or_right, gives_before, reads_one, reads_token, reads_optional, then_reads, suffix_reads, made_reads, either_reads, as_reads, before_reads, token_begins, empty_begins, prefix_alone}
 
 -- ---- single tokens
 
@@ -84,7 +84,7 @@ site_reads = as_reads IsSite (reads_one site_of (tokens.Number 1) 1 refl)
 
 pub at_site_reads : IsReader IsAtSite never at_site_at
 unfolding at_site_at
-at_site_reads = as_reads IsAtSite (behind_reads (mark_reads marks.At) (λ at. site_reads))
+at_site_reads = as_reads IsAtSite (suffix_reads (mark_reads marks.At) (λ at. site_reads))
     (λ site ts (at, one, two, is, p, e). (one, two, is, p, e))
     (λ site ts (one, two, is, p, e). (tt, one, two, is, p, e))
 
@@ -95,7 +95,7 @@ on_at t = is_mark marks.At t || never t
 pub optional_site_reads : IsReader (Optional IsAtSite) on_at optional_site_at
 unfolding optional_site_at
 optional_site_reads = reads_optional IsAtSite (is_mark marks.At) never at_site_at at_site_reads
-    (λ site front rest p. token_begins (is_mark marks.At) (tokens.Mark marks.At) true (is_mark_self marks.At) p.0 p.1 front rest p.2 p.4)
+    (λ site prefix rest p. token_begins (is_mark marks.At) (tokens.Mark marks.At) true (is_mark_self marks.At) p.0 p.1 prefix rest p.2 p.4)
 
 abbrev created : List ℕ → Option ℕ → List ℕ → Option ℕ → NameText
 created creator creator_site object birth = record { creator = Some creator; creator_site = creator_site; object = object; birth = birth }
@@ -105,7 +105,7 @@ Created creator creator_site = Then (IsToken (tokens.Mark marks.Dot)) (λ dot. T
 
 created_reads : (creator : List ℕ) (creator_site : Option ℕ) → IsReader (Created creator creator_site) on_at (created_at creator creator_site)
 unfolding created_at
-created_reads creator creator_site = behind_reads (mark_reads marks.Dot) (λ dot. behind_reads ident_reads (λ object. made_reads (created creator creator_site object) optional_site_reads))
+created_reads creator creator_site = suffix_reads (mark_reads marks.Dot) (λ dot. suffix_reads ident_reads (λ object. made_reads (created creator creator_site object) optional_site_reads))
 
 -- a dot or a site's mark goes on
 abbrev pub on_name : Token → Bool
@@ -122,16 +122,16 @@ Ended first site = Either (Created first site) (Empty (object_alone first site))
 
 ended_reads : (first : List ℕ) (site : Option ℕ) → IsReader (Ended first site) on_name (either_at (is_mark marks.Dot) (created_at first site) (λ us. Got (object_alone first site) us))
 ended_reads first site = either_reads (is_mark marks.Dot) (before_reads on_name on_name_at (created_reads first site)) (gives_before (object_alone first site) on_name)
-    (λ name front rest p. token_begins (is_mark marks.Dot) (tokens.Mark marks.Dot) true (is_mark_self marks.Dot) p.1 p.2 front rest p.3 p.5)
-    (λ name front rest p ends. empty_begins (is_mark marks.Dot) on_name on_name_dot front rest p.1 ends)
+    (λ name prefix rest p. token_begins (is_mark marks.Dot) (tokens.Mark marks.Dot) true (is_mark_self marks.Dot) p.1 p.2 prefix rest p.3 p.5)
+    (λ name prefix rest p ends. empty_begins (is_mark marks.Dot) on_name on_name_dot prefix rest p.1 ends)
 
 dot_ends_site : on_at (tokens.Mark marks.Dot) ≡ false
 unfolding same_mark
 dot_ends_site = refl
 
-ended_follows : (first : List ℕ) (site : Option ℕ) (name : NameText) (behind rest : List Token) → Ended first site name behind → begins on_name rest ≡ false → begins on_at (behind ++ rest) ≡ false
-ended_follows first site name behind rest (inl p) ends = token_begins on_at (tokens.Mark marks.Dot) false dot_ends_site p.1 p.2 behind rest p.3 p.5
-ended_follows first site name behind rest (inr p) ends = empty_begins on_at on_name on_name_at behind rest p.1 ends
+ended_follows : (first : List ℕ) (site : Option ℕ) (name : NameText) (suffix rest : List Token) → Ended first site name suffix → begins on_name rest ≡ false → begins on_at (suffix ++ rest) ≡ false
+ended_follows first site name suffix rest (inl p) ends = token_begins on_at (tokens.Mark marks.Dot) false dot_ends_site p.1 p.2 suffix rest p.3 p.5
+ended_follows first site name suffix rest (inr p) ends = empty_begins on_at on_name on_name_at suffix rest p.1 ends
 
 abbrev NameChain : Phrase NameText
 NameChain = Then IsIdent (λ first. Then (Optional IsAtSite) (Ended first))
@@ -140,7 +140,7 @@ name_to : (name : NameText) (ts : List Token) → NameChain name ts → IsName n
 name_to name ts (first, f1, b1, free, (site, f2, b2, at, inl (dot, f3, b3, is, (object, f4, b4, ident, (birth, birth_at, e), p4), p3), p2), p1) =
     subst (λ (n : NameText). IsName n ts) e (f1, b1, free, (f2, b2, at, (f3, b3, is, (f4, b4, ident, birth_at, p4), p3), p2), p1)
 name_to name ts (first, f1, b1, free, (site, f2, b2, at, inr (e, nothing), p2), p1) =
-    subst (λ (n : NameText). IsName n ts) e (refl, (f1, b1, free, subst (Optional IsAtSite site) (front_alone b1 f2 b2 p2 nothing) at, p1))
+    subst (λ (n : NameText). IsName n ts) e (refl, (f1, b1, free, subst (Optional IsAtSite site) (prefix_alone b1 f2 b2 p2 nothing) at, p1))
 
 name_from_creator : (name : NameText) (ts : List Token) (creator : Option (List ℕ)) → creator ≡ name.creator → IsNameOf creator name ts → NameChain name ts
 name_from_creator name ts None e (no_site, (f1, b1, free, at, p1)) =
@@ -151,7 +151,7 @@ name_from_creator name ts (Some creator) e (f1, b1, free, (f2, b2, at, (f3, b3, 
 
 pub name_reads : IsReader IsName on_name name_at
 unfolding name_at
-name_reads = as_reads IsName (behind_reads ident_reads (λ first. then_reads optional_site_reads (ended_reads first) (ended_follows first)))
+name_reads = as_reads IsName (suffix_reads ident_reads (λ first. then_reads optional_site_reads (ended_reads first) (ended_follows first)))
     name_to
     (λ name ts is. name_from_creator name ts name.creator refl is)
 
@@ -172,19 +172,19 @@ ColumnEnded first = Either (ColumnOf first) (Empty (column_alone first))
 
 column_of_reads : (table : List ℕ) → IsReader (ColumnOf table) never (column_of_at table)
 unfolding column_of_at
-column_of_reads table = behind_reads (mark_reads marks.Dot) (λ dot. made_reads (column_of table) ident_reads)
+column_of_reads table = suffix_reads (mark_reads marks.Dot) (λ dot. made_reads (column_of table) ident_reads)
 
 column_ended_reads : (first : List ℕ) → IsReader (ColumnEnded first) on_column (either_at (is_mark marks.Dot) (column_of_at first) (λ us. Got (column_alone first) us))
 column_ended_reads first = either_reads (is_mark marks.Dot) (before_reads on_column (λ t e. refl) (column_of_reads first)) (gives_before (column_alone first) on_column)
-    (λ column front rest p. token_begins (is_mark marks.Dot) (tokens.Mark marks.Dot) true (is_mark_self marks.Dot) p.1 p.2 front rest p.3 p.5)
-    (λ column front rest p ends. empty_begins (is_mark marks.Dot) on_column (λ t e. e) front rest p.1 ends)
+    (λ column prefix rest p. token_begins (is_mark marks.Dot) (tokens.Mark marks.Dot) true (is_mark_self marks.Dot) p.1 p.2 prefix rest p.3 p.5)
+    (λ column prefix rest p ends. empty_begins (is_mark marks.Dot) on_column (λ t e. e) prefix rest p.1 ends)
 
 abbrev ColRefChain : Phrase ColRef
 ColRefChain = Then IsIdent ColumnEnded
 
 col_ref_to : (c : ColRef) (ts : List Token) → ColRefChain c ts → IsColRef c ts
 col_ref_to c ts (first, f1, b1, free, inl (dot, f2, b2, is, (column, ident, e), p2), p1) = subst (λ (z : ColRef). IsColRef z ts) e (f1, b1, free, (f2, b2, is, ident, p2), p1)
-col_ref_to c ts (first, f1, b1, free, inr (e, nothing), p1) = subst (λ (z : ColRef). IsColRef z ts) e (subst (IsIdent first) (front_alone ts f1 b1 p1 nothing) free)
+col_ref_to c ts (first, f1, b1, free, inr (e, nothing), p1) = subst (λ (z : ColRef). IsColRef z ts) e (subst (IsIdent first) (prefix_alone ts f1 b1 p1 nothing) free)
 
 col_ref_from_table : (c : ColRef) (ts : List Token) (table : Option (List ℕ)) → table ≡ c.table → IsColRefOf table c.column ts → ColRefChain c ts
 col_ref_from_table c ts None e free = (c.column, ts, [], free, inr (ap (λ (table : Option (List ℕ)). record c { table = table }) e, refl), sym (append-nil ts))
@@ -193,7 +193,7 @@ col_ref_from_table c ts (Some table) e (f1, b1, free, (f2, b2, is, ident, p2), p
 
 pub col_ref_reads : IsReader IsColRef on_column col_ref_at
 unfolding col_ref_at
-col_ref_reads = as_reads IsColRef (behind_reads ident_reads column_ended_reads) col_ref_to (λ c ts is. col_ref_from_table c ts c.table refl is)
+col_ref_reads = as_reads IsColRef (suffix_reads ident_reads column_ended_reads) col_ref_to (λ c ts is. col_ref_from_table c ts c.table refl is)
 
 kind_cases : (int integer text : Bool) (word : List ℕ) (kind : Kind) → (int ≡ true → word ≡ codes "int") → (integer ≡ true → word ≡ codes "integer") → (text ≡ true → word ≡ codes "text")
     → cond (int || integer) (Some kinds.Int) (cond text (Some kinds.Text) None) ≡ Some kind → IsKind kind (tokens.Word word ∷ [])
@@ -225,6 +225,6 @@ column_def name kind = record { name = name; kind = kind }
 
 pub column_reads : IsReader IsColumn never column_at
 unfolding column_at
-column_reads = as_reads IsColumn (behind_reads ident_reads (λ name. made_reads (column_def name) kind_reads))
+column_reads = as_reads IsColumn (suffix_reads ident_reads (λ name. made_reads (column_def name) kind_reads))
     (λ column ts (name, f1, b1, free, (kind, is, e), p1). subst (λ (c : ColDef). IsColumn c ts) e (f1, b1, free, is, p1))
     (λ column ts (f1, b1, free, is, p1). (column.name, f1, b1, free, (column.kind, is, refl), p1))

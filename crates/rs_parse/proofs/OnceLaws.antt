@@ -35,29 +35,29 @@ request_begins : (stmt : Stmt) (ts : List Token) → IsRequest stmt ts → SomeB
 request_begins stmt ts is = (stmt, [], subst (IsRequest stmt) (sym (append-nil ts)) is)
 
 -- a front of such tokens
-front_begins : (front more : List Token) → SomeBegins (front ++ more) → SomeBegins front
-front_begins front more (stmt, behind, is) = (stmt, more ++ behind, subst (IsRequest stmt) (append_assoc front more behind) is)
+prefix_begins : (prefix more : List Token) → SomeBegins (prefix ++ more) → SomeBegins prefix
+prefix_begins prefix more (stmt, suffix, is) = (stmt, more ++ suffix, subst (IsRequest stmt) (append_assoc prefix more suffix) is)
 
 -- A longer front of the same tokens is the shorter one, the token behind that, and more.
-longer_front : (before : List Token) (token : Token) (behind other us : List Token) → before ++ token ∷ behind ≡ other ++ us → length before < length other
+longer_prefix : (before : List Token) (token : Token) (suffix other us : List Token) → before ++ token ∷ suffix ≡ other ++ us → length before < length other
     → (more : List Token) × (other ≡ (before ++ token ∷ []) ++ more)
-longer_front [] token behind [] us e longer = absurd (omega arith)
-longer_front [] token behind (t ∷ other) us e longer = (other, cc)
-longer_front (b ∷ before) token behind [] us e longer = absurd (omega arith)
-longer_front (b ∷ before) token behind (t ∷ other) us e longer =
-    let shorter : before ++ token ∷ behind ≡ other ++ us = cc in
-    let found = longer_front before token behind other us shorter (omega arith) in
+longer_prefix [] token suffix [] us e longer = absurd (omega arith)
+longer_prefix [] token suffix (t ∷ other) us e longer = (other, cc)
+longer_prefix (b ∷ before) token suffix [] us e longer = absurd (omega arith)
+longer_prefix (b ∷ before) token suffix (t ∷ other) us e longer =
+    let shorter : before ++ token ∷ suffix ≡ other ++ us = cc in
+    let found = longer_prefix before token suffix other us shorter (omega arith) in
     (found.0, cc)
 
 -- no request begins with tokens up to the offending one, and more
-not_beyond : (ts : List Token) (number : ℕ) → IsOffending ts number → (front us : List Token) → ts ≡ front ++ us → number < length front → SomeBegins front → ⊥
-not_beyond ts number f front us parted longer begun =
-    let found = longer_front f.before f.token f.behind front us (sym f.parted ∙ parted) (omega (arith, f.counted, longer)) in
-    f.barred (front_begins (f.before ++ f.token ∷ []) found.0 (subst SomeBegins found.1 begun))
+not_beyond : (ts : List Token) (number : ℕ) → IsOffending ts number → (prefix us : List Token) → ts ≡ prefix ++ us → number < length prefix → SomeBegins prefix → ⊥
+not_beyond ts number f prefix us separated longer begun =
+    let found = longer_prefix f.before f.token f.suffix prefix us (sym f.separated ∙ separated) (omega (arith, f.counted, longer)) in
+    f.barred (prefix_begins (f.before ++ f.token ∷ []) found.0 (subst SomeBegins found.1 begun))
 
 -- nor with all tokens
 not_all : (ts : List Token) (number : ℕ) → IsOffending ts number → SomeBegins ts → ⊥
-not_all ts number f begun = f.barred (front_begins (f.before ++ f.token ∷ []) f.behind (subst SomeBegins (f.parted ∙ sym (append_assoc f.before (f.token ∷ []) f.behind)) begun))
+not_all ts number f begun = f.barred (prefix_begins (f.before ++ f.token ∷ []) f.suffix (subst SomeBegins (f.separated ∙ sym (append_assoc f.before (f.token ∷ []) f.suffix)) begun))
 
 -- ---- faults
 
@@ -68,8 +68,8 @@ ordered m n = grind arith
 offending_once : (ts : List Token) (one other : ℕ) → IsOffending ts one → IsOffending ts other → one ≡ other
 offending_once ts one other first second =
     elim (ordered one other) [
-      | inl less ↦ absurd (not_beyond ts one first second.before (second.token ∷ second.behind) second.parted (omega (arith, second.counted, less)) second.begun)
-      | inr (inl more) ↦ absurd (not_beyond ts other second first.before (first.token ∷ first.behind) first.parted (omega (arith, first.counted, more)) first.begun)
+      | inl less ↦ absurd (not_beyond ts one first second.before (second.token ∷ second.suffix) second.separated (omega (arith, second.counted, less)) second.begun)
+      | inr (inl more) ↦ absurd (not_beyond ts other second first.before (first.token ∷ first.suffix) first.separated (omega (arith, first.counted, more)) first.begun)
       | inr (inr same) ↦ same
     ]
 

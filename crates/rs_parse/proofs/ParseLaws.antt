@@ -15,7 +15,7 @@ use Rattle.rs_parse.specs.Grammar.{IsRequest}
 use Rattle.rs_parse.specs.Read.{Read, Got, Fault, ◌>>=◌}
 use Rattle.rs_parse.specs.Reader.{request_at, alone_at, request_of}
 use Rattle.rs_parse.specs.Parsing.{Spells, SomeBegins, IsOffending, IsFault, AtToken, NoToken, AtEnd, Parsed, Statement, FaultAt, place_of, judged, parsed_of, ParseGives}
-use Rattle.rs_parse.proofs.Readers.{Finds, got_value, got_rest, fault_rest, got-fault, fault-got, got_both, fault_of_both, nil-cons, front_alone}
+use Rattle.rs_parse.proofs.Readers.{Finds, got_value, got_rest, fault_rest, got-fault, fault-got, got_both, fault_of_both, nil-cons, prefix_alone}
 use Rattle.rs_parse.proofs.StmtRules.{request_reads}
 use Rattle.rs_parse.proofs.Splits.{length-starts, end_of_whole}
 
@@ -35,7 +35,7 @@ whole_found ts stmt rest e =
     let a = got_both (request_at ts) alone stmt rest e in
     let g = alone_got a.value a.mid stmt rest a.second in
     let f = request_reads.finds ts a.value a.mid a.first in
-    subst (λ (s : Stmt). IsRequest s ts) g.1 (subst (IsRequest a.value) (front_alone ts f.front a.mid f.parted g.0) f.phrase)
+    subst (λ (s : Stmt). IsRequest s ts) g.1 (subst (IsRequest a.value) (prefix_alone ts f.prefix a.mid f.separated g.0) f.phrase)
 
 request_again : (stmt : Stmt) (ts : List Token) → IsRequest stmt ts → request_at ts ≡ Got stmt []
 request_again stmt ts is = ap request_at (sym (append-nil ts)) ∙ request_reads.again stmt ts [] is refl
@@ -46,26 +46,26 @@ unfolding request_of
 whole_again stmt ts is = ap (λ (got : Read Stmt). got >>= alone) (request_again stmt ts is)
 
 -- no request begins with tokens behind whose last one reading doesn't look
-barred_by : (front : List Token) (t : Token) → ((more : List Token) (stmt : Stmt) → request_at (front ++ t ∷ more) ≡ Got stmt [] → ⊥) → SomeBegins (front ++ t ∷ []) → ⊥
-barred_by front t never_got (stmt, more, is) = never_got more stmt (ap request_at (sym (append_assoc front (t ∷ []) more)) ∙ request_again stmt ((front ++ t ∷ []) ++ more) is)
+barred_by : (prefix : List Token) (t : Token) → ((more : List Token) (stmt : Stmt) → request_at (prefix ++ t ∷ more) ≡ Got stmt [] → ⊥) → SomeBegins (prefix ++ t ∷ []) → ⊥
+barred_by prefix t never_got (stmt, more, is) = never_got more stmt (ap request_at (sym (append_assoc prefix (t ∷ []) more)) ∙ request_again stmt ((prefix ++ t ∷ []) ++ more) is)
 
 -- what a fault of all tokens says
 pub record FaultOf (ts rest : List Token) : Type 0 where
-  pub front : List Token
-  pub parted : ts ≡ front ++ rest
-  pub begun : SomeBegins front
-  pub barred : (t : Token) (us : List Token) → rest ≡ t ∷ us → SomeBegins (front ++ t ∷ []) → ⊥
+  pub prefix : List Token
+  pub separated : ts ≡ prefix ++ rest
+  pub begun : SomeBegins prefix
+  pub barred : (t : Token) (us : List Token) → rest ≡ t ∷ us → SomeBegins (prefix ++ t ∷ []) → ⊥
   pub none : (stmt : Stmt) → IsRequest stmt ts → ⊥
 
-fault_behind : (ts rest : List Token) (value : Stmt) (mid : List Token) → request_of ts ≡ Fault rest → Finds IsRequest request_at ts value mid → alone_at value mid ≡ Fault rest → FaultOf ts rest
-fault_behind ts rest value [] e f s = absurd (got-fault value [] rest s)
-fault_behind ts rest value (u ∷ us) e f s =
+fault_after : (ts rest : List Token) (value : Stmt) (mid : List Token) → request_of ts ≡ Fault rest → Finds IsRequest request_at ts value mid → alone_at value mid ≡ Fault rest → FaultOf ts rest
+fault_after ts rest value [] e f s = absurd (got-fault value [] rest s)
+fault_after ts rest value (u ∷ us) e f s =
     let left = fault_rest Stmt (u ∷ us) rest s in
     record {
-      front = f.front;
-      parted = f.parted ∙ ap (λ (vs : List Token). f.front ++ vs) left;
-      begun = (value, [], subst (IsRequest value) (sym (append-nil f.front)) f.phrase);
-      barred = λ t ws at. barred_by f.front t (λ more stmt again. nil-cons t more (got_rest stmt value [] (t ∷ more) (sym again ∙ f.steady t ws more (left ∙ at))));
+      prefix = f.prefix;
+      separated = f.separated ∙ ap (λ (vs : List Token). f.prefix ++ vs) left;
+      begun = (value, [], subst (IsRequest value) (sym (append-nil f.prefix)) f.phrase);
+      barred = λ t ws at. barred_by f.prefix t (λ more stmt again. nil-cons t more (got_rest stmt value [] (t ∷ more) (sym again ∙ f.steady t ws more (left ∙ at))));
       none = λ stmt is. got-fault stmt [] rest (sym (whole_again stmt ts is) ∙ e);
     }
 
@@ -75,13 +75,13 @@ fault_found ts rest e = elim (fault_of_both (request_at ts) alone rest e) [
   | inl h ↦
       let b = request_reads.breaks ts rest h in
       record {
-        front = b.front;
-        parted = b.parted;
-        begun = (b.value, b.behind, b.phrase);
-        barred = λ t us at. barred_by b.front t (λ more stmt again. got-fault stmt [] (t ∷ more) (sym again ∙ b.steady t us more at));
+        prefix = b.prefix;
+        separated = b.separated;
+        begun = (b.value, b.suffix, b.phrase);
+        barred = λ t us at. barred_by b.prefix t (λ more stmt again. got-fault stmt [] (t ∷ more) (sym again ∙ b.steady t us more at));
         none = λ stmt is. got-fault stmt [] rest (sym (whole_again stmt ts is) ∙ e);
       }
-  | inr a ↦ fault_behind ts rest a.value a.mid e (request_reads.finds ts a.value a.mid a.first) a.second
+  | inr a ↦ fault_after ts rest a.value a.mid e (request_reads.finds ts a.value a.mid a.first) a.second
 ]
 
 -- ---- texts
@@ -121,7 +121,7 @@ place_at : (text : List ℕ) (place : ℕ) (f : FaultOf (split_of text).tokens [
 place_at text place f e = go (split_of text).whole refl
   where
     all : SomeBegins (split_of text).tokens
-    all = subst SomeBegins (front_alone (split_of text).tokens f.front [] f.parted refl) f.begun
+    all = subst SomeBegins (prefix_alone (split_of text).tokens f.prefix [] f.separated refl) f.begun
 
     go : (whole : Bool) → (split_of text).whole ≡ whole → IsFault text place
     go true w = AtEnd w all f.none (sym e ∙ end_of_whole text w)
@@ -132,8 +132,8 @@ if_fault true found end place e = absurd (false≢true (sym (ap is_statement e))
 if_fault false found end place e = (refl, ap (place_or end) e)
 
 -- the place behind the last token
-place_behind : (text : List ℕ) → place_of (split_of text) 0 ≡ (split_of text).end
-place_behind text = go (slice_get_cases (split_of text).starts (length (split_of text).tokens - 0)).1
+place_after : (text : List ℕ) → place_of (split_of text) 0 ≡ (split_of text).end
+place_after text = go (slice_get_cases (split_of text).starts (length (split_of text).tokens - 0)).1
   where
     go : ((x : ℕ) × (length (split_of text).tokens - 0 < length (split_of text).starts) × (slice_get (split_of text).starts (length (split_of text).tokens - 0) ≡ Some x) × (get_or (split_of text).starts (length (split_of text).tokens - 0) x ≡ x))
         ⊎ ((length (split_of text).starts ≤ length (split_of text).tokens - 0) × (slice_get (split_of text).starts (length (split_of text).tokens - 0) ≡ None))
@@ -154,11 +154,11 @@ place_of_token text n left counted more = go (slice_get_cases (split_of text).st
     go (inr h) = absurd (omega (arith, h.0, counted, more, length-starts text))
 
 fault_at : (text : List ℕ) (place : ℕ) (rest : List Token) → FaultOf (split_of text).tokens rest → place_of (split_of text) (length rest) ≡ place → IsFault text place
-fault_at text place [] f e = place_at text place f (sym (place_behind text) ∙ e)
+fault_at text place [] f e = place_at text place f (sym (place_after text) ∙ e)
 fault_at text place (t ∷ us) f e =
-    let counted : length (split_of text).tokens ≡ length f.front + length (t ∷ us) = omega (arith, ap length f.parted, length-append f.front (t ∷ us)) in
-    let offending : IsOffending (split_of text).tokens (length f.front) = record { before = f.front; token = t; behind = us; parted = f.parted; counted = refl; begun = f.begun; barred = f.barred t us refl } in
-    AtToken (length f.front) offending (place_of_token text (length f.front) (length (t ∷ us)) counted (omega arith) ∙ ap Some e)
+    let counted : length (split_of text).tokens ≡ length f.prefix + length (t ∷ us) = omega (arith, ap length f.separated, length-append f.prefix (t ∷ us)) in
+    let offending : IsOffending (split_of text).tokens (length f.prefix) = record { before = f.prefix; token = t; suffix = us; separated = f.separated; counted = refl; begun = f.begun; barred = f.barred t us refl } in
+    AtToken (length f.prefix) offending (place_of_token text (length f.prefix) (length (t ∷ us)) counted (omega arith) ∙ ap Some e)
 
 pub fault_placed : (text : List ℕ) (place : ℕ) → parsed_of text ≡ FaultAt place → IsFault text place
 unfolding parsed_of

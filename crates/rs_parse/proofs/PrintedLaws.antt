@@ -12,17 +12,17 @@ use Rattle.rs_parse.specs.Parsing.{Spells}
 use Rattle.rs_parse.proofs.TokenForms.{AreFormed}
 
 -- a front of tokens that a text may have
-front_formed : (front behind : List Token) → AreFormed (front ++ behind) → AreFormed front
-front_formed [] behind formed = tt
-front_formed (t ∷ front) behind formed = (formed.0, front_formed front behind formed.1)
+prefix_formed : (prefix suffix : List Token) → AreFormed (prefix ++ suffix) → AreFormed prefix
+prefix_formed [] suffix formed = tt
+prefix_formed (t ∷ prefix) suffix formed = (formed.0, prefix_formed prefix suffix formed.1)
 
 -- a statement is a request, with no semicolon behind it
 stmt_requests : (stmt : Stmt) (ts : List Token) → IsStmt stmt ts → IsRequest stmt ts
 stmt_requests stmt ts is = (ts, [], is, inl refl, sym (append-nil ts))
 
 -- the tokens of a statement that some text spells
-tokens_of : (stmt : Stmt) (ts : List Token) → IsRequest stmt ts → AreFormed ts → (front : List Token) × IsStmt stmt front × AreFormed front
-tokens_of stmt ts (front, behind, is, ends, parted) formed = (front, is, front_formed front behind (subst AreFormed parted formed))
+tokens_of : (stmt : Stmt) (ts : List Token) → IsRequest stmt ts → AreFormed ts → (prefix : List Token) × IsStmt stmt prefix × AreFormed prefix
+tokens_of stmt ts (prefix, suffix, is, ends, separated) formed = (prefix, is, prefix_formed prefix suffix (subst AreFormed separated formed))
 
 -- tokens that are printed are split again
 abbrev pub PrintedIsSplit : Type 0

@@ -68,8 +68,8 @@ bracketed_again : (any : List Cmp) (ts : List Token) → InBrackets any ts → A
 unfolding spelled_cmps
 bracketed_again [] ts (f, b, is, (f1, b1, list, is_close, p1), p) formed = absurd list
 bracketed_again (cmp ∷ []) ts (f, b, is, (f1, b1, (f2, b2, is_cmp, nothing, p2), is_close, p1), p) formed =
-    let behind = formed_parts f b (subst AreFormed p formed) in
-    let inside = formed_parts f1 b1 (subst AreFormed p1 behind.1) in
+    let suffix = formed_parts f b (subst AreFormed p formed) in
+    let inside = formed_parts f1 b1 (subst AreFormed p1 suffix.1) in
     let first = formed_parts f2 b2 (subst AreFormed p2 inside.0) in
     alone_again cmp f2 is_cmp first.0
 bracketed_again (cmp ∷ next ∷ cmps) ts is formed =

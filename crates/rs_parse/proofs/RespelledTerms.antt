@@ -88,8 +88,8 @@ unfolding spelled_integer
 integer_again z ts (n, lt, inl (e, is)) formed =
     let again : IntegerAgain (pos n) = ((n, lt, inl (refl, refl)), subst AreFormed is formed) in
     subst IntegerAgain (sym e) again
-integer_again z ts (n, lt, inr (e, (front, behind, minus, number, parted))) formed =
-    let parts = formed_parts front behind (subst AreFormed parted formed) in
+integer_again z ts (n, lt, inr (e, (prefix, suffix, minus, number, separated))) formed =
+    let parts = formed_parts prefix suffix (subst AreFormed separated formed) in
     subst IntegerAgain (sym e) (negated_again n lt (subst AreFormed number parts.1))
 
 pub literal_respelled : (value : Value) → IsRespelled (IsLiteral value) (spelled_value value)

@@ -6,7 +6,7 @@ use Rattle.rs_ast.specs.declared.token.Mark.TheVariants as marks
 use Rattle.rs_ast.specs.declared.token.Token.{Token}
 use Rattle.rs_ast.specs.declared.token.Token.TheVariants as tokens
 use Rattle.rs_ast.specs.Spelled.{spelled_further, spelled_list, comma, between_brackets}
-use Rattle.rs_parse.specs.Phrases.{Phrase, Is, Both, Spell, IsSeries, Behind, IsList, AtMost}
+use Rattle.rs_parse.specs.Phrases.{Phrase, Is, Both, Spell, IsSeries, After, IsList, AtMost}
 use Rattle.rs_parse.specs.Grammar.{Keyword, Marked, IsListedOrNone}
 use Rattle.rs_parse.proofs.TokenForms.{AreFormed}
 
@@ -16,15 +16,15 @@ pub record IsRespelled (P : List Token → Type 0) (spelled : List Token) : Type
 
 -- ---- formed tokens
 
-pub formed_parts : (front behind : List Token) → AreFormed (front ++ behind) → AreFormed front × AreFormed behind
-formed_parts [] behind formed = (tt, formed)
-formed_parts (t ∷ front) behind formed =
-    let parts = formed_parts front behind formed.1 in
+pub formed_parts : (prefix suffix : List Token) → AreFormed (prefix ++ suffix) → AreFormed prefix × AreFormed suffix
+formed_parts [] suffix formed = (tt, formed)
+formed_parts (t ∷ prefix) suffix formed =
+    let parts = formed_parts prefix suffix formed.1 in
     ((formed.0, parts.0), parts.1)
 
-formed_both : (front behind : List Token) → AreFormed front → AreFormed behind → AreFormed (front ++ behind)
-formed_both [] behind first second = second
-formed_both (t ∷ front) behind first second = (first.0, formed_both front behind first.1 second)
+formed_both : (prefix suffix : List Token) → AreFormed prefix → AreFormed suffix → AreFormed (prefix ++ suffix)
+formed_both [] suffix first second = second
+formed_both (t ∷ prefix) suffix first second = (first.0, formed_both prefix suffix first.1 second)
 
 -- ---- single tokens
 
@@ -78,7 +78,7 @@ series_respelled each [] = nothing_respelled
 series_respelled each (x ∷ xs) = each x ▹ series_respelled each xs
 
 further_respelled : {A : Type 0} {P : Phrase A} {spelled : A → List Token} (separator : Token) → ((x : A) → IsRespelled (P x) (spelled x))
-    → (x : A) → IsRespelled (Behind separator P x) (spelled_further separator spelled x)
+    → (x : A) → IsRespelled (After separator P x) (spelled_further separator spelled x)
 further_respelled separator each x = token_respelled separator ▹ each x
 
 pub list_respelled : {A : Type 0} {P : Phrase A} {spelled : A → List Token} (separator : Token) → ((x : A) → IsRespelled (P x) (spelled x))

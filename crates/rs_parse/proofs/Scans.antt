@@ -15,7 +15,7 @@ use Rattle.rs_ast.specs.declared.token.Mark.{Mark}
 use Rattle.rs_parse.specs.declared.token_split.Split.{Split}
 use Rattle.rs_ast.specs.declared.token.Token.{Token}
 use Rattle.rs_ast.specs.declared.token.Token.TheVariants as tokens
-use Rattle.rs_parse.specs.Tokens.{is_blank, is_letter, is_digit, is_word_byte, word_at, number_at, quoted_at, text_at, mark_at, digits_value, token_at, ends_at, put_first, taken_at, split_behind}
+use Rattle.rs_parse.specs.Tokens.{is_blank, is_letter, is_digit, is_word_byte, word_at, number_at, quoted_at, text_at, mark_at, digits_value, token_at, ends_at, put_first, taken_at, split_suffix}
 use Rattle.rs_parse.specs.Scanning.{token_here}
 use Rattle.rs_base.proofs.Steps.{bind_some, chosen}
 use Rattle.rs_parse.proofs.Options.{push_some}
@@ -37,8 +37,8 @@ Leaves-length bytes rest (m, is_end) = omega (arith, ap length is_end, length-dr
 one_more : (n : ℕ) → 1 + n ≡ suc n
 one_more n = omega arith
 
-front_leaves : (p : ℕ → Bool) (b : ℕ) (bytes rest : List ℕ) → p b ≡ true → rest ≡ drop (prefix_len p (b ∷ bytes)) (b ∷ bytes) → Leaves bytes rest
-front_leaves p b bytes rest passes is_end =
+prefix_leaves : (p : ℕ → Bool) (b : ℕ) (bytes rest : List ℕ) → p b ≡ true → rest ≡ drop (prefix_len p (b ∷ bytes)) (b ∷ bytes) → Leaves bytes rest
+prefix_leaves p b bytes rest passes is_end =
     let len : prefix_len p (b ∷ bytes) ≡ suc (prefix_len p bytes) = rw passes (one_more (prefix_len p bytes)) in
     (prefix_len p bytes, is_end ∙ ap (λ (n : ℕ). drop n (b ∷ bytes)) len)
 
@@ -51,7 +51,7 @@ word_leaves b bytes t rest h e =
     let n = prefix_len is_word_byte (b ∷ bytes) in
     let word = map to_ascii_lowercase (take n (b ∷ bytes)) in
     let g = cond_some (is_ident word) (tokens.Word word, drop n (b ∷ bytes)) (t, rest) e in
-    front_leaves is_word_byte b bytes rest (letter_passes b h) (sym (ap (λ (x : Token × List ℕ). x.1) g.1))
+    prefix_leaves is_word_byte b bytes rest (letter_passes b h) (sym (ap (λ (x : Token × List ℕ). x.1) g.1))
 
 number_leaves : (b : ℕ) (bytes : List ℕ) (t : Token) (rest : List ℕ) → is_digit b ≡ true → number_at (b ∷ bytes) ≡ Some (t, rest) → Leaves bytes rest
 unfolding number_at
@@ -59,7 +59,7 @@ number_leaves b bytes t rest h e =
     let n = prefix_len is_digit (b ∷ bytes) in
     let value = digits_value (take n (b ∷ bytes)) in
     let g = cond_some (leb n 19 && leb value 9223372036854775807) (tokens.Number value, drop n (b ∷ bytes)) (t, rest) e in
-    front_leaves is_digit b bytes rest h (sym (ap (λ (x : Token × List ℕ). x.1) g.1))
+    prefix_leaves is_digit b bytes rest h (sym (ap (λ (x : Token × List ℕ). x.1) g.1))
 
 quoted_two : (quote doubled : Bool) (b c : ℕ) (bytes q rest : List ℕ)
     → ((r : List ℕ) (left : List ℕ) → quoted_at bytes ≡ Some (r, left) → Leaves bytes left)
@@ -139,35 +139,35 @@ token_leaves b bytes t rest e =
 
 -- ---- splitting behind bytes that were taken before
 
-behind_drop : (at inside : ℕ) (bytes : List ℕ) → inside ≤ length bytes → split_behind at inside bytes ≡ split_behind (at + inside) 0 (drop inside bytes)
-behind_drop at zero bytes h = ap (λ (n : ℕ). split_behind n 0 bytes) (omega arith)
-behind_drop at (suc inside) [] h = absurd (omega arith)
-behind_drop at (suc inside) (b ∷ bytes) h =
+suffix_drop : (at inside : ℕ) (bytes : List ℕ) → inside ≤ length bytes → split_suffix at inside bytes ≡ split_suffix (at + inside) 0 (drop inside bytes)
+suffix_drop at zero bytes h = ap (λ (n : ℕ). split_suffix n 0 bytes) (omega arith)
+suffix_drop at (suc inside) [] h = absurd (omega arith)
+suffix_drop at (suc inside) (b ∷ bytes) h =
     let place : at + 1 + inside ≡ at + suc inside = omega arith in
-    behind_drop (at + 1) inside bytes (omega arith) ∙ ap (λ (n : ℕ). split_behind n 0 (drop inside bytes)) place
+    suffix_drop (at + 1) inside bytes (omega arith) ∙ ap (λ (n : ℕ). split_suffix n 0 (drop inside bytes)) place
 
 -- how bytes are split that begin with no blank
 abbrev pub split_here : ℕ → List ℕ → Split
 split_here at [] = ends_at at true
-split_here at (b ∷ bytes) = taken_at at (token_here (b ∷ bytes)) (λ token. split_behind (at + (length (b ∷ bytes) - length token.1)) 0 token.1)
+split_here at (b ∷ bytes) = taken_at at (token_here (b ∷ bytes)) (λ token. split_suffix (at + (length (b ∷ bytes) - length token.1)) 0 token.1)
 
-pub same_behind : (at b : ℕ) (bytes : List ℕ) (read : Option (Token × List ℕ)) → token_at b bytes ≡ read
-    → taken_at at read (λ token. split_behind (at + 1) (length bytes - length token.1) bytes)
-    ≡ taken_at at read (λ token. split_behind (at + (length (b ∷ bytes) - length token.1)) 0 token.1)
-same_behind at b bytes None e = refl
-same_behind at b bytes (Some token) e =
+pub same_suffix : (at b : ℕ) (bytes : List ℕ) (read : Option (Token × List ℕ)) → token_at b bytes ≡ read
+    → taken_at at read (λ token. split_suffix (at + 1) (length bytes - length token.1) bytes)
+    ≡ taken_at at read (λ token. split_suffix (at + (length (b ∷ bytes) - length token.1)) 0 token.1)
+same_suffix at b bytes None e = refl
+same_suffix at b bytes (Some token) e =
     let l = token_leaves b bytes token.0 token.1 e in
     let shorter = Leaves-length bytes token.1 l in
     let taken = length bytes - length token.1 in
     let place : at + 1 + taken ≡ at + (suc (length bytes) - length token.1) = omega (arith, shorter) in
-    let behind : split_behind (at + 1) taken bytes ≡ split_behind (at + 1 + taken) 0 (drop taken bytes) = behind_drop (at + 1) taken bytes (omega arith) in
-    let same : split_behind (at + 1) taken bytes ≡ split_behind (at + (suc (length bytes) - length token.1)) 0 token.1 =
-    behind ∙ ap (split_behind (at + 1 + taken) 0) (Leaves-drop bytes token.1 l) ∙ ap (λ (n : ℕ). split_behind n 0 token.1) place in
+    let suffix : split_suffix (at + 1) taken bytes ≡ split_suffix (at + 1 + taken) 0 (drop taken bytes) = suffix_drop (at + 1) taken bytes (omega arith) in
+    let same : split_suffix (at + 1) taken bytes ≡ split_suffix (at + (suc (length bytes) - length token.1)) 0 token.1 =
+    suffix ∙ ap (split_suffix (at + 1 + taken) 0) (Leaves-drop bytes token.1 l) ∙ ap (λ (n : ℕ). split_suffix n 0 token.1) place in
     ap (put_first at token.0) same
 
 skip_step : (blank : Bool) (at b : ℕ) (bytes : List ℕ)
-    → split_behind (at + 1) 0 bytes ≡ split_here (at + 1 + prefix_len is_blank bytes) (drop (prefix_len is_blank bytes) bytes)
-    → cond blank (split_behind (at + 1) 0 bytes) (taken_at at (token_at b bytes) (λ token. split_behind (at + 1) (length bytes - length token.1) bytes))
+    → split_suffix (at + 1) 0 bytes ≡ split_here (at + 1 + prefix_len is_blank bytes) (drop (prefix_len is_blank bytes) bytes)
+    → cond blank (split_suffix (at + 1) 0 bytes) (taken_at at (token_at b bytes) (λ token. split_suffix (at + 1) (length bytes - length token.1) bytes))
     ≡ split_here (at + cond blank (1 + prefix_len is_blank bytes) 0) (drop (cond blank (1 + prefix_len is_blank bytes) 0) (b ∷ bytes))
 unfolding token_here
 skip_step true at b bytes so_far =
@@ -176,9 +176,9 @@ skip_step true at b bytes so_far =
     so_far ∙ ap (λ (k : ℕ). split_here k (drop n bytes)) place ∙ ap (λ (k : ℕ). split_here (at + (1 + n)) (drop k (b ∷ bytes))) (sym (one_more n))
 skip_step false at b bytes so_far =
     let place : at ≡ at + 0 = omega arith in
-    same_behind at b bytes (token_at b bytes) refl ∙ ap (λ (k : ℕ). split_here k (b ∷ bytes)) place
+    same_suffix at b bytes (token_at b bytes) refl ∙ ap (λ (k : ℕ). split_here k (b ∷ bytes)) place
 
-skipped : (at : ℕ) (bytes : List ℕ) → split_behind at 0 bytes ≡ split_here (at + prefix_len is_blank bytes) (drop (prefix_len is_blank bytes) bytes)
+skipped : (at : ℕ) (bytes : List ℕ) → split_suffix at 0 bytes ≡ split_here (at + prefix_len is_blank bytes) (drop (prefix_len is_blank bytes) bytes)
 skipped at [] = ap (λ (n : ℕ). ends_at n true) (omega arith)
 skipped at (b ∷ bytes) = skip_step (is_blank b) at b bytes (skipped (at + 1) bytes)
 
@@ -190,7 +190,7 @@ with_found tokens starts split = record { tokens = tokens ++ split.tokens; start
 
 -- a place in a text of n bytes is told by the bytes that are left
 blanks_skipped : (n : ℕ) (old left : List ℕ) → left ≡ drop (prefix_len is_blank old) old → length old ≤ n
-    → split_behind (n - length old) 0 old ≡ split_here (n - length left) left
+    → split_suffix (n - length old) 0 old ≡ split_here (n - length left) left
 blanks_skipped n old left skip within =
     let k = prefix_len is_blank old in
     let fits = prefix_len-le-length is_blank old in
@@ -204,16 +204,16 @@ token_shortens [] t new e = absurd (none-some (t, new) e)
 token_shortens (b ∷ bytes) t new e = let shorter = Leaves-length bytes new (token_leaves b bytes t new e) in omega (arith, shorter)
 
 token_first : (n : ℕ) (left : List ℕ) (t : Token) (new : List ℕ) → length left ≤ n → token_here left ≡ Some (t, new)
-    → split_here (n - length left) left ≡ put_first (n - length left) t (split_behind (n - length new) 0 new)
+    → split_here (n - length left) left ≡ put_first (n - length left) t (split_suffix (n - length new) 0 new)
 unfolding token_here
 token_first n [] t new within e = absurd (none-some (t, new) e)
 token_first n (b ∷ bytes) t new within e =
     let shorter = token_shortens (b ∷ bytes) t new e in
     let at = n - length (b ∷ bytes) in
     let place : at + (length (b ∷ bytes) - length new) ≡ n - length new = omega (arith, shorter) in
-    let step = λ (token : Token × List ℕ). split_behind (at + (length (b ∷ bytes) - length token.1)) 0 token.1 in
+    let step = λ (token : Token × List ℕ). split_suffix (at + (length (b ∷ bytes) - length token.1)) 0 token.1 in
     let found : taken_at at (token_at b bytes) step ≡ taken_at at (Some (t, new)) step = ap (λ (read : Option (Token × List ℕ)). taken_at at read step) e in
-    found ∙ ap (λ (p : ℕ). put_first at t (split_behind p 0 new)) place
+    found ∙ ap (λ (p : ℕ). put_first at t (split_suffix p 0 new)) place
 
 one_further : (tokens : List Token) (starts : List ℕ) (t : Token) (start : ℕ) (split : Split)
     → with_found (tokens ++ t ∷ []) (starts ++ start ∷ []) split ≡ with_found tokens starts (put_first start t split)
@@ -226,12 +226,12 @@ left_within n old left skip within =
 
 pub split_goes_on : (n : ℕ) (tokens : List Token) (starts : List ℕ) (old left : List ℕ) (t : Token) (new : List ℕ)
     → left ≡ drop (prefix_len is_blank old) old → length old ≤ n → token_here left ≡ Some (t, new)
-    → with_found (tokens ++ t ∷ []) (starts ++ (n - length left) ∷ []) (split_behind (n - length new) 0 new)
-    ≡ with_found tokens starts (split_behind (n - length old) 0 old)
+    → with_found (tokens ++ t ∷ []) (starts ++ (n - length left) ∷ []) (split_suffix (n - length new) 0 new)
+    ≡ with_found tokens starts (split_suffix (n - length old) 0 old)
 split_goes_on n tokens starts old left t new skip within e =
     let first = token_first n left t new (left_within n old left skip within) e in
     let here = blanks_skipped n old left skip within in
-    one_further tokens starts t (n - length left) (split_behind (n - length new) 0 new) ∙ ap (with_found tokens starts) (sym (here ∙ first))
+    one_further tokens starts t (n - length left) (split_suffix (n - length new) 0 new) ∙ ap (with_found tokens starts) (sym (here ∙ first))
 
 stops_here : (n : ℕ) (left : List ℕ) → length left ≤ n → token_here left ≡ None → split_here (n - length left) left ≡ ends_at (n - length left) (eqb (n - length left) n)
 unfolding token_here
@@ -240,7 +240,7 @@ stops_here n [] within e =
     ap (ends_at (n - 0)) (sym (eq-eqb (n - 0) n (sym all)))
 stops_here n (b ∷ bytes) within e =
     let at = n - length (b ∷ bytes) in
-    let step = λ (token : Token × List ℕ). split_behind (at + (length (b ∷ bytes) - length token.1)) 0 token.1 in
+    let step = λ (token : Token × List ℕ). split_suffix (at + (length (b ∷ bytes) - length token.1)) 0 token.1 in
     let found : taken_at at (token_at b bytes) step ≡ taken_at at None step = ap (λ (read : Option (Token × List ℕ)). taken_at at read step) e in
     let other : eqb at n ≡ false = grind (arith, nat_tests) in
     found ∙ ap (ends_at at) (sym other)
@@ -252,7 +252,7 @@ nothing_further tokens starts place whole = simp append-nil
 pub split_stops : (n : ℕ) (tokens : List Token) (starts : List ℕ) (old left : List ℕ)
     → left ≡ drop (prefix_len is_blank old) old → length old ≤ n → token_here left ≡ None
     → record { tokens = tokens; starts = starts; end = n - length left; whole = eqb (n - length left) n }
-    ≡ with_found tokens starts (split_behind (n - length old) 0 old)
+    ≡ with_found tokens starts (split_suffix (n - length old) 0 old)
 split_stops n tokens starts old left skip within e =
     let stops = stops_here n left (left_within n old left skip within) e in
     let here = blanks_skipped n old left skip within in

@@ -24,7 +24,7 @@ use Rattle.rs_parse.specs.Phrases.{Phrase, Is, Optional, AtMost}
 use Rattle.rs_parse.specs.Read.{Got, ◌>>=◌, begins, either_at, optional_at}
 use Rattle.rs_parse.specs.Grammar.{IsIdent, IsColRef, IsListed, IsOfColumn, IsItem, IsItems, IsDistinct, IsTableRef, IsGroup, IsKeyBy, IsDirection, IsKey, IsOrder, IsWhere, IsSelect}
 use Rattle.rs_parse.specs.Reader.{word_at, ident_at, is_ident_token, place_of, place_at, count_at, of_column_at, item_at, items_at, distinct_at, table_ref_at, group_by_at, group_at, key_by_at, direction_at, key_at, order_by_at, order_at, select_at, listed_at, where_at}
-use Rattle.rs_parse.proofs.Readers.{IsReader, Then, Made, Either, Empty, IsToken, Begins, never, or_left, or_right, gives_before, reads_one, reads_optional, then_reads, behind_reads, made_reads, either_reads, as_reads, before_reads, token_begins, alone_begins, empty_begins, begins_fewer, begins_made, begins_either, behind_begins}
+use Rattle.rs_parse.proofs.Readers.{IsReader, Then, Made, Either, Empty, IsToken, Begins, never, or_left, or_right, gives_before, reads_one, reads_optional, then_reads, suffix_reads, made_reads, either_reads, as_reads, before_reads, token_begins, alone_begins, empty_begins, begins_fewer, begins_made, begins_either, suffix_begins}
 use Rattle.rs_parse.proofs.Series.{begins_apart}
 use Rattle.rs_parse.proofs.NameRules.{mark_reads, word_reads, ident_reads, on_column, col_ref_reads, on_name, name_reads}
 use Rattle.rs_parse.proofs.TermRules.{ident_begins, on_listed, listed_reads}
@@ -62,13 +62,13 @@ closed c close = c
 of_column_reads : (word : List ℕ) → IsReader (IsOfColumn word) never (of_column_at word)
 unfolding of_column_at
 of_column_reads word = as_reads (IsOfColumn word)
-    (behind_reads (word_reads word) (λ named. behind_reads (mark_reads marks.Open) (λ opened. then_reads col_ref_reads (λ c. made_reads (closed c) (mark_reads marks.Close))
-    (λ c made behind rest q ends. alone_begins on_column (tokens.Mark marks.Close) false close_no_dot behind rest q.1))))
+    (suffix_reads (word_reads word) (λ named. suffix_reads (mark_reads marks.Open) (λ opened. then_reads col_ref_reads (λ c. made_reads (closed c) (mark_reads marks.Close))
+    (λ c made suffix rest q ends. alone_begins on_column (tokens.Mark marks.Close) false close_no_dot suffix rest q.1))))
     (λ c ts (named, f, b, is, (opened, f1, b1, is_open, (column, f2, b2, is_column, (close, is_close, e), p2), p1), p). subst (λ (z : ColRef). IsOfColumn word z ts) e (f, b, is, (f1, b1, is_open, (f2, b2, is_column, is_close, p2), p1), p))
     (λ c ts (f, b, is, (f1, b1, is_open, (f2, b2, is_column, is_close, p2), p1), p). (tt, f, b, is, (tt, f1, b1, is_open, (c, f2, b2, is_column, (tt, is_close, refl), p2), p1), p))
 
 of_column_begins : (word : List ℕ) (is : Token → Bool) (c : Bool) → is (tokens.Word word) ≡ c → Begins is c (IsOfColumn word)
-of_column_begins word is c e column front rest p = token_begins is (tokens.Word word) c e p.0 p.1 front rest p.2 p.4
+of_column_begins word is c e column prefix rest p = token_begins is (tokens.Word word) c e p.0 p.1 prefix rest p.2 p.4
 
 abbrev counted : Unit {0} → Item
 counted close = items.Count
@@ -78,7 +78,7 @@ CountChain = Then (IsToken (tokens.Word (codes "count"))) (λ named. Then (IsTok
 
 count_reads : IsReader CountChain never count_at
 unfolding count_at
-count_reads = behind_reads (word_reads (codes "count")) (λ named. behind_reads (mark_reads marks.Open) (λ opened. behind_reads (mark_reads marks.Star) (λ star. made_reads counted (mark_reads marks.Close))))
+count_reads = suffix_reads (word_reads (codes "count")) (λ named. suffix_reads (mark_reads marks.Open) (λ opened. suffix_reads (mark_reads marks.Star) (λ star. made_reads counted (mark_reads marks.Close))))
 
 abbrev MaxPart : Phrase Item
 MaxPart = Made items.Max (IsOfColumn (codes "max"))
@@ -103,7 +103,7 @@ sum_begins is c e e' e'' = begins_either (Made items.Sum (IsOfColumn (codes "sum
 
 count_begins : (is : Token → Bool) (c : Bool) → is (tokens.Word (codes "count")) ≡ c → is (tokens.Word (codes "sum")) ≡ c → is (tokens.Word (codes "min")) ≡ c → is (tokens.Word (codes "max")) ≡ c → Begins is c CountPart
 count_begins is c e e' e'' e''' = begins_either CountChain SumPart is c
-    (λ x front rest p. token_begins is (tokens.Word (codes "count")) c e p.1 p.2 front rest p.3 p.5)
+    (λ x prefix rest p. token_begins is (tokens.Word (codes "count")) c e p.1 p.2 prefix rest p.3 p.5)
     (sum_begins is c e' e'' e''')
 
 count_no_ident : Begins is_ident_token false CountPart
@@ -136,31 +136,31 @@ count_part_reads = either_reads (is_word (codes "count")) count_reads
     (either_reads (is_word (codes "sum")) (made_reads items.Sum (of_column_reads (codes "sum")))
     (either_reads (is_word (codes "min")) (made_reads items.Min (of_column_reads (codes "min"))) (made_reads items.Max (of_column_reads (codes "max")))
     (begins_made (IsOfColumn (codes "min")) items.Min (is_word (codes "min")) true (of_column_begins (codes "min") (is_word (codes "min")) true refl))
-    (λ item front rest p ends. max_begins (is_word (codes "min")) false refl item front rest p))
+    (λ item prefix rest p ends. max_begins (is_word (codes "min")) false refl item prefix rest p))
     (begins_made (IsOfColumn (codes "sum")) items.Sum (is_word (codes "sum")) true (of_column_begins (codes "sum") (is_word (codes "sum")) true refl))
-    (λ item front rest p ends. min_begins (is_word (codes "sum")) false refl refl item front rest p))
-    (λ item front rest p. token_begins (is_word (codes "count")) (tokens.Word (codes "count")) true refl p.1 p.2 front rest p.3 p.5)
-    (λ item front rest p ends. sum_begins (is_word (codes "count")) false refl refl refl item front rest p)
+    (λ item prefix rest p ends. min_begins (is_word (codes "sum")) false refl refl item prefix rest p))
+    (λ item prefix rest p. token_begins (is_word (codes "count")) (tokens.Word (codes "count")) true refl p.1 p.2 prefix rest p.3 p.5)
+    (λ item prefix rest p ends. sum_begins (is_word (codes "count")) false refl refl refl item prefix rest p)
 
 item_reads : IsReader IsItem on_column item_at
 unfolding item_at
 item_reads = as_reads IsItem
     (either_reads is_ident_token (made_reads items.Col col_ref_reads) (before_reads on_column (λ t e. refl) count_part_reads)
-    (λ item front rest p. col_ref_begins p.0 front rest p.1)
-    (λ item front rest p ends. count_no_ident item front rest p))
+    (λ item prefix rest p. col_ref_begins p.0 prefix rest p.1)
+    (λ item prefix rest p ends. count_no_ident item prefix rest p))
     item_to item_from
 
 -- a test that no identifier and no function word passes
 item_begins : (is : Token → Bool) → ((t : Token) → is_ident_token t ≡ true → is t ≡ false) → is (tokens.Word (codes "count")) ≡ false → is (tokens.Word (codes "sum")) ≡ false → is (tokens.Word (codes "min")) ≡ false → is (tokens.Word (codes "max")) ≡ false → Begins is false IsItem
-item_begins is apart e e' e'' e''' item front rest p = go (item_from item front p)
+item_begins is apart e e' e'' e''' item prefix rest p = go (item_from item prefix p)
   where
-    go : ItemChain item front → begins is (front ++ rest) ≡ false
-    go (inl q) = begins_apart is_ident_token is apart (front ++ rest) (col_ref_begins q.0 front rest q.1)
-    go (inr q) = count_begins is false e e' e'' e''' item front rest q
+    go : ItemChain item prefix → begins is (prefix ++ rest) ≡ false
+    go (inl q) = begins_apart is_ident_token is apart (prefix ++ rest) (col_ref_begins q.0 prefix rest q.1)
+    go (inr q) = count_begins is false e e' e'' e''' item prefix rest q
 
 pub listed_begins : {A : Type 0} (P : Phrase A) (n : ℕ) (is : Token → Bool) (c : Bool) → Begins is c P → Begins is c (AtMost n (IsListed P))
-listed_begins P n is c b [] front rest p = absurd p.1
-listed_begins P n is c b (x ∷ xs) front rest (le, (one, two, p, others, e)) = behind_begins is front one two rest c e (b x one (two ++ rest) p)
+listed_begins P n is c b [] prefix rest p = absurd p.1
+listed_begins P n is c b (x ∷ xs) prefix rest (le, (one, two, p, others, e)) = suffix_begins is prefix one two rest c e (b x one (two ++ rest) p)
 
 abbrev no_items : Unit {0} → Option (List Item)
 no_items star = None
@@ -180,8 +180,8 @@ pub items_reads : IsReader IsItems (on_listed on_column) items_at
 unfolding items_at
 items_reads = as_reads IsItems
     (either_reads (is_mark marks.Star) (before_reads (on_listed on_column) (λ t e. refl) (made_reads no_items (mark_reads marks.Star))) (made_reads Some (listed_reads 15 item_reads comma_no_dot))
-    (λ found front rest p. alone_begins (is_mark marks.Star) (tokens.Mark marks.Star) true (is_mark_self marks.Star) front rest p.1)
-    (λ found front rest p ends. listed_begins IsItem 16 (is_mark marks.Star) false (item_begins (is_mark marks.Star) (ident_no_mark marks.Star) refl refl refl refl) p.0 front rest p.1))
+    (λ found prefix rest p. alone_begins (is_mark marks.Star) (tokens.Mark marks.Star) true (is_mark_self marks.Star) prefix rest p.1)
+    (λ found prefix rest p ends. listed_begins IsItem 16 (is_mark marks.Star) false (item_begins (is_mark marks.Star) (ident_no_mark marks.Star) refl refl refl refl) p.0 prefix rest p.1))
     items_to items_from
 
 distinct_is_reserved : is_reserved (codes "distinct") ≡ true
@@ -189,9 +189,9 @@ unfolding is_reserved
 distinct_is_reserved = refl
 
 items_no_distinct : Begins (is_word (codes "distinct")) false IsItems
-items_no_distinct None front rest is = alone_begins (is_word (codes "distinct")) (tokens.Mark marks.Star) false refl front rest is
-items_no_distinct (Some listed) front rest is =
-    listed_begins IsItem 16 (is_word (codes "distinct")) false (item_begins (is_word (codes "distinct")) (ident_no_word (codes "distinct") distinct_is_reserved) refl refl refl refl) listed front rest is
+items_no_distinct None prefix rest is = alone_begins (is_word (codes "distinct")) (tokens.Mark marks.Star) false refl prefix rest is
+items_no_distinct (Some listed) prefix rest is =
+    listed_begins IsItem 16 (is_word (codes "distinct")) false (item_begins (is_word (codes "distinct")) (ident_no_word (codes "distinct") distinct_is_reserved) refl refl refl refl) listed prefix rest is
 
 -- ---- DISTINCT
 
@@ -216,8 +216,8 @@ distinct_reads : IsReader IsDistinct is_distinct distinct_at
 unfolding distinct_at
 distinct_reads = as_reads IsDistinct
     (either_reads (is_word (codes "distinct")) (before_reads is_distinct (λ t e. refl) (made_reads distinctly (word_reads (codes "distinct")))) (gives_before false is_distinct)
-    (λ distinct front rest p. alone_begins (is_word (codes "distinct")) (tokens.Word (codes "distinct")) true refl front rest p.1)
-    (λ distinct front rest p ends. empty_begins (is_word (codes "distinct")) is_distinct (λ t e. e) front rest p.1 ends))
+    (λ distinct prefix rest p. alone_begins (is_word (codes "distinct")) (tokens.Word (codes "distinct")) true refl prefix rest p.1)
+    (λ distinct prefix rest p ends. empty_begins (is_word (codes "distinct")) is_distinct (λ t e. e) prefix rest p.1 ends))
     distinct_to distinct_from
 
 -- ---- FROM
@@ -241,14 +241,14 @@ table_of name alias = record { name = name; alias = alias }
 alias_reads : IsReader (Optional IsIdent) on_alias (optional_at is_ident_token ident_at)
 alias_reads = reads_optional IsIdent is_ident_token never ident_at ident_reads ident_begins
 
-alias_follows : (alias : Option (List ℕ)) (behind rest : List Token) → Optional IsIdent alias behind → begins on_table rest ≡ false → begins on_name (behind ++ rest) ≡ false
-alias_follows None behind rest nothing ends = empty_begins on_name on_table on_table_name behind rest nothing ends
-alias_follows (Some alias) behind rest (free, at) ends = alone_begins on_name (tokens.Word alias) false refl behind rest at
+alias_follows : (alias : Option (List ℕ)) (suffix rest : List Token) → Optional IsIdent alias suffix → begins on_table rest ≡ false → begins on_name (suffix ++ rest) ≡ false
+alias_follows None suffix rest nothing ends = empty_begins on_name on_table on_table_name suffix rest nothing ends
+alias_follows (Some alias) suffix rest (free, at) ends = alone_begins on_name (tokens.Word alias) false refl suffix rest at
 
 table_ref_reads : IsReader IsTableRef on_table table_ref_at
 unfolding table_ref_at
 table_ref_reads = as_reads IsTableRef
-    (then_reads name_reads (λ name. before_reads on_table on_table_alias (made_reads (table_of name) alias_reads)) (λ name made behind rest q ends. alias_follows q.0 behind rest q.1 ends))
+    (then_reads name_reads (λ name. before_reads on_table on_table_alias (made_reads (table_of name) alias_reads)) (λ name made suffix rest q ends. alias_follows q.0 suffix rest q.1 ends))
     (λ table ts (name, f, b, is, (alias, is_alias, e), p). subst (λ (x : TableRef). IsTableRef x ts) e (f, b, is, is_alias, p))
     (λ table ts (f, b, is, is_alias, p). (table.name, f, b, is, (table.alias, is_alias, refl), p))
 
@@ -267,7 +267,7 @@ GroupChain = Then (IsToken (tokens.Word (codes "group"))) (λ group. Then (IsTok
 
 group_by_reads : IsReader GroupChain (on_listed on_column) group_by_at
 unfolding group_by_at
-group_by_reads = behind_reads (word_reads (codes "group")) (λ group. behind_reads (word_reads (codes "by")) (λ by. listed_reads 15 col_ref_reads comma_no_dot))
+group_by_reads = suffix_reads (word_reads (codes "group")) (λ group. suffix_reads (word_reads (codes "by")) (λ by. listed_reads 15 col_ref_reads comma_no_dot))
 
 abbrev on_group : Token → Bool
 on_group t = is_word (codes "group") t || on_listed on_column t
@@ -285,13 +285,13 @@ group_reads : IsReader IsGroup on_group group_at
 unfolding group_at
 group_reads = as_reads IsGroup
     (either_reads (is_word (codes "group")) (before_reads on_group (λ t e. or_right (is_word (codes "group") t) (on_listed on_column t) e) group_by_reads) (gives_before [] on_group)
-    (λ cs front rest p. token_begins (is_word (codes "group")) (tokens.Word (codes "group")) true refl p.1 p.2 front rest p.3 p.5)
-    (λ cs front rest p ends. empty_begins (is_word (codes "group")) on_group (λ t e. or_left (is_word (codes "group") t) (on_listed on_column t) e) front rest p.1 ends))
+    (λ cs prefix rest p. token_begins (is_word (codes "group")) (tokens.Word (codes "group")) true refl p.1 p.2 prefix rest p.3 p.5)
+    (λ cs prefix rest p ends. empty_begins (is_word (codes "group")) on_group (λ t e. or_left (is_word (codes "group") t) (on_listed on_column t) e) prefix rest p.1 ends))
     group_to group_from
 
-group_begins : (is : Token → Bool) → is (tokens.Word (codes "group")) ≡ false → (cs : List ColRef) (front rest : List Token) → IsGroup cs front → begins is rest ≡ false → begins is (front ++ rest) ≡ false
-group_begins is e [] front rest nothing ends = ap (λ (us : List Token). begins is (us ++ rest)) nothing ∙ ends
-group_begins is e (c ∷ cs) front rest (f, b, at, others, p) ends = token_begins is (tokens.Word (codes "group")) false e f b front rest at p
+group_begins : (is : Token → Bool) → is (tokens.Word (codes "group")) ≡ false → (cs : List ColRef) (prefix rest : List Token) → IsGroup cs prefix → begins is rest ≡ false → begins is (prefix ++ rest) ≡ false
+group_begins is e [] prefix rest nothing ends = ap (λ (us : List Token). begins is (us ++ rest)) nothing ∙ ends
+group_begins is e (c ∷ cs) prefix rest (f, b, at, others, p) ends = token_begins is (tokens.Word (codes "group")) false e f b prefix rest at p
 
 -- ---- ORDER BY
 
@@ -327,8 +327,8 @@ key_by_reads : IsReader IsKeyBy on_column key_by_at
 unfolding key_by_at
 key_by_reads = as_reads IsKeyBy
     (either_reads is_ident_token (made_reads keys.Col col_ref_reads) (before_reads on_column (λ t e. refl) (made_reads keys.Place place_reads))
-    (λ by front rest p. col_ref_begins p.0 front rest p.1)
-    (λ by front rest p ends. alone_begins is_ident_token (tokens.Number p.0) false refl front rest p.1.1))
+    (λ by prefix rest p. col_ref_begins p.0 prefix rest p.1)
+    (λ by prefix rest p ends. alone_begins is_ident_token (tokens.Number p.0) false refl prefix rest p.1.1))
     key_by_to key_by_from
 
 abbrev on_direction : Token → Bool
@@ -362,18 +362,18 @@ direction_from false ts (inl nothing) = inr (inr (refl, nothing))
 direction_from false ts (inr is) = inr (inl (tt, is, refl))
 direction_from true ts is = inl (tt, is, refl)
 
-asc_begins : (desc : Bool) (front rest : List Token) → AscChain desc front → begins on_direction rest ≡ false → begins (is_word (codes "desc")) (front ++ rest) ≡ false
-asc_begins desc front rest (inl p) ends = alone_begins (is_word (codes "desc")) (tokens.Word (codes "asc")) false refl front rest p.1
-asc_begins desc front rest (inr p) ends = empty_begins (is_word (codes "desc")) on_direction on_direction_desc front rest p.1 ends
+asc_begins : (desc : Bool) (prefix rest : List Token) → AscChain desc prefix → begins on_direction rest ≡ false → begins (is_word (codes "desc")) (prefix ++ rest) ≡ false
+asc_begins desc prefix rest (inl p) ends = alone_begins (is_word (codes "desc")) (tokens.Word (codes "asc")) false refl prefix rest p.1
+asc_begins desc prefix rest (inr p) ends = empty_begins (is_word (codes "desc")) on_direction on_direction_desc prefix rest p.1 ends
 
 direction_reads : IsReader IsDirection on_direction direction_at
 unfolding direction_at
 direction_reads = as_reads IsDirection
     (either_reads (is_word (codes "desc")) (before_reads on_direction (λ t e. refl) (made_reads falling (word_reads (codes "desc"))))
     (either_reads (is_word (codes "asc")) (before_reads on_direction (λ t e. refl) (made_reads rising (word_reads (codes "asc")))) (gives_before false on_direction)
-    (λ desc front rest p. alone_begins (is_word (codes "asc")) (tokens.Word (codes "asc")) true refl front rest p.1)
-    (λ desc front rest p ends. empty_begins (is_word (codes "asc")) on_direction on_direction_asc front rest p.1 ends))
-    (λ desc front rest p. alone_begins (is_word (codes "desc")) (tokens.Word (codes "desc")) true refl front rest p.1)
+    (λ desc prefix rest p. alone_begins (is_word (codes "asc")) (tokens.Word (codes "asc")) true refl prefix rest p.1)
+    (λ desc prefix rest p ends. empty_begins (is_word (codes "asc")) on_direction on_direction_asc prefix rest p.1 ends))
+    (λ desc prefix rest p. alone_begins (is_word (codes "desc")) (tokens.Word (codes "desc")) true refl prefix rest p.1)
     asc_begins)
     direction_to direction_from
 
@@ -389,15 +389,15 @@ on_key_column t e = or_right (on_direction t) (on_column t) e
 abbrev key_of : KeyBy → Bool → Key
 key_of by desc = record { by = by; desc = desc }
 
-direction_follows : (desc : Bool) (behind rest : List Token) → IsDirection desc behind → begins on_key rest ≡ false → begins on_column (behind ++ rest) ≡ false
-direction_follows false behind rest (inl nothing) ends = empty_begins on_column on_key on_key_column behind rest nothing ends
-direction_follows false behind rest (inr at) ends = alone_begins on_column (tokens.Word (codes "asc")) false refl behind rest at
-direction_follows true behind rest at ends = alone_begins on_column (tokens.Word (codes "desc")) false refl behind rest at
+direction_follows : (desc : Bool) (suffix rest : List Token) → IsDirection desc suffix → begins on_key rest ≡ false → begins on_column (suffix ++ rest) ≡ false
+direction_follows false suffix rest (inl nothing) ends = empty_begins on_column on_key on_key_column suffix rest nothing ends
+direction_follows false suffix rest (inr at) ends = alone_begins on_column (tokens.Word (codes "asc")) false refl suffix rest at
+direction_follows true suffix rest at ends = alone_begins on_column (tokens.Word (codes "desc")) false refl suffix rest at
 
 key_reads : IsReader IsKey on_key key_at
 unfolding key_at
 key_reads = as_reads IsKey
-    (then_reads key_by_reads (λ by. before_reads on_key on_key_direction (made_reads (key_of by) direction_reads)) (λ by made behind rest q ends. direction_follows q.0 behind rest q.1 ends))
+    (then_reads key_by_reads (λ by. before_reads on_key on_key_direction (made_reads (key_of by) direction_reads)) (λ by made suffix rest q ends. direction_follows q.0 suffix rest q.1 ends))
     (λ key ts (by, f, b, is, (desc, is_direction, e), p). subst (λ (x : Key). IsKey x ts) e (f, b, is, is_direction, p))
     (λ key ts (f, b, is, is_direction, p). (key.by, f, b, is, (key.desc, is_direction, refl), p))
 
@@ -410,7 +410,7 @@ OrderChain = Then (IsToken (tokens.Word (codes "order"))) (λ order. Then (IsTok
 
 order_by_reads : IsReader OrderChain (on_listed on_key) order_by_at
 unfolding order_by_at
-order_by_reads = behind_reads (word_reads (codes "order")) (λ order. behind_reads (word_reads (codes "by")) (λ by. listed_reads 15 key_reads comma_ends_key))
+order_by_reads = suffix_reads (word_reads (codes "order")) (λ order. suffix_reads (word_reads (codes "by")) (λ by. listed_reads 15 key_reads comma_ends_key))
 
 abbrev on_order : Token → Bool
 on_order t = is_word (codes "order") t || on_listed on_key t
@@ -428,13 +428,13 @@ order_reads : IsReader IsOrder on_order order_at
 unfolding order_at
 order_reads = as_reads IsOrder
     (either_reads (is_word (codes "order")) (before_reads on_order (λ t e. or_right (is_word (codes "order") t) (on_listed on_key t) e) order_by_reads) (gives_before [] on_order)
-    (λ ks front rest p. token_begins (is_word (codes "order")) (tokens.Word (codes "order")) true refl p.1 p.2 front rest p.3 p.5)
-    (λ ks front rest p ends. empty_begins (is_word (codes "order")) on_order (λ t e. or_left (is_word (codes "order") t) (on_listed on_key t) e) front rest p.1 ends))
+    (λ ks prefix rest p. token_begins (is_word (codes "order")) (tokens.Word (codes "order")) true refl p.1 p.2 prefix rest p.3 p.5)
+    (λ ks prefix rest p ends. empty_begins (is_word (codes "order")) on_order (λ t e. or_left (is_word (codes "order") t) (on_listed on_key t) e) prefix rest p.1 ends))
     order_to order_from
 
-order_begins : (is : Token → Bool) → is (tokens.Word (codes "order")) ≡ false → (ks : List Key) (front rest : List Token) → IsOrder ks front → begins is rest ≡ false → begins is (front ++ rest) ≡ false
-order_begins is e [] front rest nothing ends = ap (λ (us : List Token). begins is (us ++ rest)) nothing ∙ ends
-order_begins is e (k ∷ ks) front rest (f, b, at, others, p) ends = token_begins is (tokens.Word (codes "order")) false e f b front rest at p
+order_begins : (is : Token → Bool) → is (tokens.Word (codes "order")) ≡ false → (ks : List Key) (prefix rest : List Token) → IsOrder ks prefix → begins is rest ≡ false → begins is (prefix ++ rest) ≡ false
+order_begins is e [] prefix rest nothing ends = ap (λ (us : List Token). begins is (us ++ rest)) nothing ∙ ends
+order_begins is e (k ∷ ks) prefix rest (f, b, at, others, p) ends = token_begins is (tokens.Word (codes "order")) false e f b prefix rest at p
 
 -- ---- queries
 
@@ -487,20 +487,20 @@ tables_no_order : on_tables (tokens.Word (codes "order")) ≡ false
 unfolding is_reserved
 tables_no_order = refl
 
-tables_follow : (distinct : Bool) (found : Option (List Item)) (tables : List TableRef) (select : Select) (behind rest : List Token) → WhereEnd distinct found tables select behind → begins on_select rest ≡ false → begins on_tables (behind ++ rest) ≡ false
-tables_follow distinct found tables select behind rest (clauses, f, b, is_where, (group, f1, b1, is_group, (order, is_order, e), p1), p) ends =
-    behind_begins on_tables behind f b rest false p (where_begins on_tables tables_no_where clauses f (b ++ rest) is_where
-    (behind_begins on_tables b f1 b1 rest false p1 (group_begins on_tables tables_no_group group f1 (b1 ++ rest) is_group
+tables_follow : (distinct : Bool) (found : Option (List Item)) (tables : List TableRef) (select : Select) (suffix rest : List Token) → WhereEnd distinct found tables select suffix → begins on_select rest ≡ false → begins on_tables (suffix ++ rest) ≡ false
+tables_follow distinct found tables select suffix rest (clauses, f, b, is_where, (group, f1, b1, is_group, (order, is_order, e), p1), p) ends =
+    suffix_begins on_tables suffix f b rest false p (where_begins on_tables tables_no_where clauses f (b ++ rest) is_where
+    (suffix_begins on_tables b f1 b1 rest false p1 (group_begins on_tables tables_no_group group f1 (b1 ++ rest) is_group
     (order_begins on_tables tables_no_order order b1 rest is_order (begins_fewer on_tables on_select on_select_tables rest ends)))))
 
-where_follows : (distinct : Bool) (found : Option (List Item)) (tables : List TableRef) (clauses : List Clause) (select : Select) (behind rest : List Token) → GroupEnd distinct found tables clauses select behind → begins on_select rest ≡ false → begins on_where (behind ++ rest) ≡ false
-where_follows distinct found tables clauses select behind rest (group, f, b, is_group, (order, is_order, e), p) ends =
-    behind_begins on_where behind f b rest false p (group_begins on_where where_no_group group f (b ++ rest) is_group
+where_follows : (distinct : Bool) (found : Option (List Item)) (tables : List TableRef) (clauses : List Clause) (select : Select) (suffix rest : List Token) → GroupEnd distinct found tables clauses select suffix → begins on_select rest ≡ false → begins on_where (suffix ++ rest) ≡ false
+where_follows distinct found tables clauses select suffix rest (group, f, b, is_group, (order, is_order, e), p) ends =
+    suffix_begins on_where suffix f b rest false p (group_begins on_where where_no_group group f (b ++ rest) is_group
     (order_begins on_where where_no_order order b rest is_order (begins_fewer on_where on_select on_select_where rest ends)))
 
-group_follows : (distinct : Bool) (found : Option (List Item)) (tables : List TableRef) (clauses : List Clause) (group : List ColRef) (select : Select) (behind rest : List Token) → OrderEnd distinct found tables clauses group select behind → begins on_select rest ≡ false → begins on_group (behind ++ rest) ≡ false
-group_follows distinct found tables clauses group select behind rest (order, is_order, e) ends =
-    order_begins on_group group_no_order order behind rest is_order (begins_fewer on_group on_select on_select_group rest ends)
+group_follows : (distinct : Bool) (found : Option (List Item)) (tables : List TableRef) (clauses : List Clause) (group : List ColRef) (select : Select) (suffix rest : List Token) → OrderEnd distinct found tables clauses group select suffix → begins on_select rest ≡ false → begins on_group (suffix ++ rest) ≡ false
+group_follows distinct found tables clauses group select suffix rest (order, is_order, e) ends =
+    order_begins on_group group_no_order order suffix rest is_order (begins_fewer on_group on_select on_select_group rest ends)
 
 items_no_from : on_listed on_column (tokens.Word (codes "from")) ≡ false
 items_no_from = refl
@@ -508,15 +508,15 @@ items_no_from = refl
 abbrev FromEnd : Bool → Option (List Item) → Phrase Select
 FromEnd distinct found = Then (IsToken (tokens.Word (codes "from"))) (λ word. Then (AtMost 6 (IsListed IsTableRef)) (WhereEnd distinct found))
 
-items_follow : (distinct : Bool) (found : Option (List Item)) (select : Select) (behind rest : List Token) → FromEnd distinct found select behind → begins (on_listed on_column) (behind ++ rest) ≡ false
-items_follow distinct found select behind rest q = token_begins (on_listed on_column) (tokens.Word (codes "from")) false items_no_from q.1 q.2 behind rest q.3 q.5
+items_follow : (distinct : Bool) (found : Option (List Item)) (select : Select) (suffix rest : List Token) → FromEnd distinct found select suffix → begins (on_listed on_column) (suffix ++ rest) ≡ false
+items_follow distinct found select suffix rest q = token_begins (on_listed on_column) (tokens.Word (codes "from")) false items_no_from q.1 q.2 suffix rest q.3 q.5
 
-distinct_follows : (distinct : Bool) (select : Select) (behind rest : List Token) → Then IsItems (FromEnd distinct) select behind → begins is_distinct (behind ++ rest) ≡ false
-distinct_follows distinct select behind rest (found, f, b, is, q, p) = behind_begins is_distinct behind f b rest false p (items_no_distinct found f (b ++ rest) is)
+distinct_follows : (distinct : Bool) (select : Select) (suffix rest : List Token) → Then IsItems (FromEnd distinct) select suffix → begins is_distinct (suffix ++ rest) ≡ false
+distinct_follows distinct select suffix rest (found, f, b, is, q, p) = suffix_begins is_distinct suffix f b rest false p (items_no_distinct found f (b ++ rest) is)
 
 from_reads : (distinct : Bool) (found : Option (List Item)) → IsReader (FromEnd distinct found) on_select
     (λ ts. word_at (codes "from") ts >>= λ from. listed_at table_ref_at 5 from.1 >>= λ tables. where_at tables.1 >>= λ clauses. group_at clauses.1 >>= λ group. order_at group.1 >>= λ order. Got (select_of distinct found tables.0 clauses.0 group.0 order.0) order.1)
-from_reads distinct found = behind_reads (word_reads (codes "from")) (λ word. then_reads (listed_reads 5 table_ref_reads comma_ends_table)
+from_reads distinct found = suffix_reads (word_reads (codes "from")) (λ word. then_reads (listed_reads 5 table_ref_reads comma_ends_table)
     (λ tables. then_reads where_reads (λ clauses. then_reads group_reads (λ group. before_reads on_select on_select_order (made_reads (select_of distinct found tables clauses group) order_reads))
     (group_follows distinct found tables clauses)) (where_follows distinct found tables)) (tables_follow distinct found))
 
@@ -534,6 +534,6 @@ select_from select ts (f, b, is, (f1, b1, is_distinct, (f2, b2, is_items, (f3, b
 pub select_reads : IsReader IsSelect on_select select_at
 unfolding select_at
 select_reads = as_reads IsSelect
-    (behind_reads (word_reads (codes "select")) (λ word. then_reads distinct_reads (λ distinct. then_reads items_reads (from_reads distinct) (λ found select behind rest q ends. items_follow distinct found select behind rest q))
-    (λ distinct select behind rest q ends. distinct_follows distinct select behind rest q)))
+    (suffix_reads (word_reads (codes "select")) (λ word. then_reads distinct_reads (λ distinct. then_reads items_reads (from_reads distinct) (λ found select suffix rest q ends. items_follow distinct found select suffix rest q))
+    (λ distinct select suffix rest q ends. distinct_follows distinct select suffix rest q)))
     select_to select_from

@@ -18,7 +18,7 @@ use Rattle.rs_parse.specs.Phrases.{Phrase, AtMost}
 use Rattle.rs_parse.specs.Read.{Read, Got, ◌>>=◌, begins, either_at}
 use Rattle.rs_parse.specs.Grammar.{IsIdent, IsSite, IsName, IsColumn, IsLiteral, IsListed, IsListedOrNone, IsSelect, IsDml, IsBody, IsStmt, IsRequest}
 use Rattle.rs_parse.specs.Reader.{ident_at, is_ident_token, begins_literal, literal_at, listed_or_none_at, dml_at, create_table_at, create_index_at, create_synonym_at, create_at, drop_table_at, drop_index_at, drop_synonym_at, drop_program_at, drop_at, migrate_at, compile_at, execute_at, explain_at, show_at, stmt_at, end_at, request_at}
-use Rattle.rs_parse.proofs.Readers.{IsReader, Then, Made, Either, Empty, IsToken, Begins, never, or_left, or_right, gives_before, then_reads, behind_reads, made_reads, either_reads, as_reads, before_reads, token_begins, alone_begins, empty_begins, begins_either}
+use Rattle.rs_parse.proofs.Readers.{IsReader, Then, Made, Either, Empty, IsToken, Begins, never, or_left, or_right, gives_before, then_reads, suffix_reads, made_reads, either_reads, as_reads, before_reads, token_begins, alone_begins, empty_begins, begins_either}
 use Rattle.rs_parse.proofs.NameRules.{mark_reads, word_reads, ident_reads, site_reads, on_name, name_reads, column_reads}
 use Rattle.rs_parse.proofs.TermRules.{literal_reads, ident_begins, on_listed, listed_reads}
 use Rattle.rs_parse.proofs.SelectRules.{on_select, select_reads, listed_begins}
@@ -46,7 +46,7 @@ module _ {A : Type 0} (P : Phrase A) (begins_item : Token → Bool) (item : List
   listed_or_none_reads = as_reads (AtMost (suc n) (IsListedOrNone P))
       (either_reads begins_item (before_reads on_listed_or_none (λ t e. or_right (begins_item t) (on_listed never t) e) (listed_reads n r refl)) (gives_before [] on_listed_or_none)
       (listed_begins P (suc n) begins_item true begins_so)
-      (λ xs front rest p ends. empty_begins begins_item on_listed_or_none (λ t e. or_left (begins_item t) (on_listed never t) e) front rest p.1 ends))
+      (λ xs prefix rest p ends. empty_begins begins_item on_listed_or_none (λ t e. or_left (begins_item t) (on_listed never t) e) prefix rest p.1 ends))
       or_none_to or_none_from
 
 -- ---- tables, indexes and synonyms
@@ -70,11 +70,11 @@ TablePart = Then (IsToken (tokens.Word (codes "table"))) (λ table. Then IsName 
 
 create_table_reads : IsReader TablePart never create_table_at
 unfolding create_table_at
-create_table_reads = behind_reads (word_reads (codes "table")) (λ table.
-    then_reads name_reads (λ name. behind_reads (mark_reads marks.Open) (λ opened.
+create_table_reads = suffix_reads (word_reads (codes "table")) (λ table.
+    then_reads name_reads (λ name. suffix_reads (mark_reads marks.Open) (λ opened.
     then_reads (listed_reads 15 column_reads refl) (λ columns. made_reads (table_made name columns) (mark_reads marks.Close))
-    (λ columns stmt behind rest q ends. alone_begins (on_listed never) (tokens.Mark marks.Close) false close_ends_list behind rest q.1)))
-    (λ name stmt behind rest q ends. token_begins on_name (tokens.Mark marks.Open) false open_ends_name q.1 q.2 behind rest q.3 q.5))
+    (λ columns stmt suffix rest q ends. alone_begins (on_listed never) (tokens.Mark marks.Close) false close_ends_list suffix rest q.1)))
+    (λ name stmt suffix rest q ends. token_begins on_name (tokens.Mark marks.Open) false open_ends_name q.1 q.2 suffix rest q.3 q.5))
 
 abbrev index_made : List ℕ → NameText → List ℕ → Unit {0} → Stmt
 index_made index name column close = stmts.CreateIndex index name column
@@ -87,9 +87,9 @@ IndexPart = Then (IsToken (tokens.Word (codes "index"))) (λ word. Then IsIdent 
 
 create_index_reads : IsReader IndexPart never create_index_at
 unfolding create_index_at
-create_index_reads = behind_reads (word_reads (codes "index")) (λ word. behind_reads ident_reads (λ index. behind_reads (word_reads (codes "on")) (λ on.
-    then_reads name_reads (λ name. behind_reads (mark_reads marks.Open) (λ opened. behind_reads ident_reads (λ column. made_reads (index_made index name column) (mark_reads marks.Close))))
-    (λ name stmt behind rest q ends. token_begins on_name (tokens.Mark marks.Open) false open_ends_name q.1 q.2 behind rest q.3 q.5))))
+create_index_reads = suffix_reads (word_reads (codes "index")) (λ word. suffix_reads ident_reads (λ index. suffix_reads (word_reads (codes "on")) (λ on.
+    then_reads name_reads (λ name. suffix_reads (mark_reads marks.Open) (λ opened. suffix_reads ident_reads (λ column. made_reads (index_made index name column) (mark_reads marks.Close))))
+    (λ name stmt suffix rest q ends. token_begins on_name (tokens.Mark marks.Open) false open_ends_name q.1 q.2 suffix rest q.3 q.5))))
 
 abbrev synonym_made : List ℕ → NameText → Stmt
 synonym_made synonym name = stmts.CreateSynonym synonym name
@@ -99,7 +99,7 @@ SynonymPart = Then (IsToken (tokens.Word (codes "synonym"))) (λ word. Then IsId
 
 create_synonym_reads : IsReader SynonymPart on_name create_synonym_at
 unfolding create_synonym_at
-create_synonym_reads = behind_reads (word_reads (codes "synonym")) (λ word. behind_reads ident_reads (λ synonym. behind_reads (word_reads (codes "for")) (λ for. made_reads (synonym_made synonym) name_reads)))
+create_synonym_reads = suffix_reads (word_reads (codes "synonym")) (λ word. suffix_reads ident_reads (λ synonym. suffix_reads (word_reads (codes "for")) (λ for. made_reads (synonym_made synonym) name_reads)))
 
 abbrev IndexOrSynonym : Phrase Stmt
 IndexOrSynonym = Either IndexPart SynonymPart
@@ -109,19 +109,19 @@ CreateChain = Then (IsToken (tokens.Word (codes "create"))) (λ create. Either T
 
 -- what begins with a word
 begins_word : (Q : Unit {0} → Phrase Stmt) (word : List ℕ) (is : Token → Bool) (c : Bool) → is (tokens.Word word) ≡ c → Begins is c (Then (IsToken (tokens.Word word)) Q)
-begins_word Q word is c e stmt front rest p = token_begins is (tokens.Word word) c e p.1 p.2 front rest p.3 p.5
+begins_word Q word is c e stmt prefix rest p = token_begins is (tokens.Word word) c e p.1 p.2 prefix rest p.3 p.5
 
 create_reads : IsReader CreateChain on_name create_at
 unfolding create_at
-create_reads = behind_reads (word_reads (codes "create")) (λ create.
+create_reads = suffix_reads (word_reads (codes "create")) (λ create.
     either_reads (is_word (codes "table")) (before_reads on_name (λ t e. refl) create_table_reads)
     (either_reads (is_word (codes "index")) (before_reads on_name (λ t e. refl) create_index_reads) create_synonym_reads
-    (λ stmt front rest p. token_begins (is_word (codes "index")) (tokens.Word (codes "index")) true refl p.1 p.2 front rest p.3 p.5)
-    (λ stmt front rest p ends. token_begins (is_word (codes "index")) (tokens.Word (codes "synonym")) false refl p.1 p.2 front rest p.3 p.5))
-    (λ stmt front rest p. token_begins (is_word (codes "table")) (tokens.Word (codes "table")) true refl p.1 p.2 front rest p.3 p.5)
-    (λ stmt front rest p ends. begins_either IndexPart SynonymPart (is_word (codes "table")) false
+    (λ stmt prefix rest p. token_begins (is_word (codes "index")) (tokens.Word (codes "index")) true refl p.1 p.2 prefix rest p.3 p.5)
+    (λ stmt prefix rest p ends. token_begins (is_word (codes "index")) (tokens.Word (codes "synonym")) false refl p.1 p.2 prefix rest p.3 p.5))
+    (λ stmt prefix rest p. token_begins (is_word (codes "table")) (tokens.Word (codes "table")) true refl p.1 p.2 prefix rest p.3 p.5)
+    (λ stmt prefix rest p ends. begins_either IndexPart SynonymPart (is_word (codes "table")) false
     (λ x f r q. token_begins (is_word (codes "table")) (tokens.Word (codes "index")) false refl q.1 q.2 f r q.3 q.5)
-    (λ x f r q. token_begins (is_word (codes "table")) (tokens.Word (codes "synonym")) false refl q.1 q.2 f r q.3 q.5) stmt front rest p))
+    (λ x f r q. token_begins (is_word (codes "table")) (tokens.Word (codes "synonym")) false refl q.1 q.2 f r q.3 q.5) stmt prefix rest p))
 
 abbrev index_dropped : List ℕ → NameText → Stmt
 index_dropped index name = stmts.DropIndex index name
@@ -149,19 +149,19 @@ DropChain = Then (IsToken (tokens.Word (codes "drop"))) (λ drop. Either DropTab
 
 drop_table_reads : IsReader DropTablePart on_name drop_table_at
 unfolding drop_table_at
-drop_table_reads = behind_reads (word_reads (codes "table")) (λ table. made_reads stmts.DropTable name_reads)
+drop_table_reads = suffix_reads (word_reads (codes "table")) (λ table. made_reads stmts.DropTable name_reads)
 
 drop_index_reads : IsReader DropIndexPart on_name drop_index_at
 unfolding drop_index_at
-drop_index_reads = behind_reads (word_reads (codes "index")) (λ word. behind_reads ident_reads (λ index. behind_reads (word_reads (codes "on")) (λ on. made_reads (index_dropped index) name_reads)))
+drop_index_reads = suffix_reads (word_reads (codes "index")) (λ word. suffix_reads ident_reads (λ index. suffix_reads (word_reads (codes "on")) (λ on. made_reads (index_dropped index) name_reads)))
 
 drop_synonym_reads : IsReader DropSynonymPart never drop_synonym_at
 unfolding drop_synonym_at
-drop_synonym_reads = behind_reads (word_reads (codes "synonym")) (λ word. made_reads stmts.DropSynonym ident_reads)
+drop_synonym_reads = suffix_reads (word_reads (codes "synonym")) (λ word. made_reads stmts.DropSynonym ident_reads)
 
 drop_program_reads : IsReader DropProgramPart never drop_program_at
 unfolding drop_program_at
-drop_program_reads = behind_reads (word_reads (codes "program")) (λ word. made_reads stmts.DropProgram ident_reads)
+drop_program_reads = suffix_reads (word_reads (codes "program")) (λ word. made_reads stmts.DropProgram ident_reads)
 
 synonym_or_program_begins : (is : Token → Bool) (c : Bool) → is (tokens.Word (codes "synonym")) ≡ c → is (tokens.Word (codes "program")) ≡ c → Begins is c SynonymOrProgram
 synonym_or_program_begins is c e e' = begins_either DropSynonymPart DropProgramPart is c
@@ -175,16 +175,16 @@ index_or_other_begins is c e e' e'' = begins_either DropIndexPart SynonymOrProgr
 
 drop_reads : IsReader DropChain on_name drop_at
 unfolding drop_at
-drop_reads = behind_reads (word_reads (codes "drop")) (λ drop.
+drop_reads = suffix_reads (word_reads (codes "drop")) (λ drop.
     either_reads (is_word (codes "table")) drop_table_reads
     (either_reads (is_word (codes "index")) drop_index_reads
     (before_reads on_name (λ t e. refl) (either_reads (is_word (codes "synonym")) drop_synonym_reads drop_program_reads
-    (λ stmt front rest p. token_begins (is_word (codes "synonym")) (tokens.Word (codes "synonym")) true refl p.1 p.2 front rest p.3 p.5)
-    (λ stmt front rest p ends. token_begins (is_word (codes "synonym")) (tokens.Word (codes "program")) false refl p.1 p.2 front rest p.3 p.5)))
-    (λ stmt front rest p. token_begins (is_word (codes "index")) (tokens.Word (codes "index")) true refl p.1 p.2 front rest p.3 p.5)
-    (λ stmt front rest p ends. synonym_or_program_begins (is_word (codes "index")) false refl refl stmt front rest p))
-    (λ stmt front rest p. token_begins (is_word (codes "table")) (tokens.Word (codes "table")) true refl p.1 p.2 front rest p.3 p.5)
-    (λ stmt front rest p ends. index_or_other_begins (is_word (codes "table")) false refl refl refl stmt front rest p))
+    (λ stmt prefix rest p. token_begins (is_word (codes "synonym")) (tokens.Word (codes "synonym")) true refl p.1 p.2 prefix rest p.3 p.5)
+    (λ stmt prefix rest p ends. token_begins (is_word (codes "synonym")) (tokens.Word (codes "program")) false refl p.1 p.2 prefix rest p.3 p.5)))
+    (λ stmt prefix rest p. token_begins (is_word (codes "index")) (tokens.Word (codes "index")) true refl p.1 p.2 prefix rest p.3 p.5)
+    (λ stmt prefix rest p ends. synonym_or_program_begins (is_word (codes "index")) false refl refl stmt prefix rest p))
+    (λ stmt prefix rest p. token_begins (is_word (codes "table")) (tokens.Word (codes "table")) true refl p.1 p.2 prefix rest p.3 p.5)
+    (λ stmt prefix rest p ends. index_or_other_begins (is_word (codes "table")) false refl refl refl stmt prefix rest p))
 
 abbrev migrated : NameText → ℕ → Stmt
 migrated name site = stmts.Migrate name site
@@ -194,9 +194,9 @@ MigrateChain = Then (IsToken (tokens.Word (codes "migrate"))) (λ migrate. Then 
 
 migrate_reads : IsReader MigrateChain never migrate_at
 unfolding migrate_at
-migrate_reads = behind_reads (word_reads (codes "migrate")) (λ migrate. behind_reads (word_reads (codes "table")) (λ table.
-    then_reads name_reads (λ name. behind_reads (word_reads (codes "to")) (λ to. made_reads (migrated name) site_reads))
-    (λ name stmt behind rest q ends. token_begins on_name (tokens.Word (codes "to")) false refl q.1 q.2 behind rest q.3 q.5)))
+migrate_reads = suffix_reads (word_reads (codes "migrate")) (λ migrate. suffix_reads (word_reads (codes "table")) (λ table.
+    then_reads name_reads (λ name. suffix_reads (word_reads (codes "to")) (λ to. made_reads (migrated name) site_reads))
+    (λ name stmt suffix rest q ends. token_begins on_name (tokens.Word (codes "to")) false refl q.1 q.2 suffix rest q.3 q.5)))
 
 -- ---- programs
 
@@ -228,12 +228,12 @@ CompileChain = Then (IsToken (tokens.Word (codes "compile"))) (λ compile. Then 
 
 compile_reads : IsReader CompileChain never compile_at
 unfolding compile_at
-compile_reads = behind_reads (word_reads (codes "compile")) (λ compile. behind_reads ident_reads (λ program. behind_reads (mark_reads marks.Open) (λ opened.
+compile_reads = suffix_reads (word_reads (codes "compile")) (λ compile. suffix_reads ident_reads (λ program. suffix_reads (mark_reads marks.Open) (λ opened.
     then_reads (listed_or_none_reads IsIdent is_ident_token ident_at 15 ident_reads ident_begins)
-    (λ params. behind_reads (mark_reads marks.Close) (λ close. behind_reads (word_reads (codes "as")) (λ word.
+    (λ params. suffix_reads (mark_reads marks.Close) (λ close. suffix_reads (word_reads (codes "as")) (λ word.
     then_reads body_reads (λ body. made_reads (compiled program params body) (word_reads (codes "end")))
-    (λ body stmt behind rest q ends. alone_begins on_body (tokens.Word (codes "end")) false end_ends_body behind rest q.1))))
-    (λ params stmt behind rest q ends. token_begins on_params (tokens.Mark marks.Close) false close_ends_params q.1 q.2 behind rest q.3 q.5))))
+    (λ body stmt suffix rest q ends. alone_begins on_body (tokens.Word (codes "end")) false end_ends_body suffix rest q.1))))
+    (λ params stmt suffix rest q ends. token_begins on_params (tokens.Mark marks.Close) false close_ends_params q.1 q.2 suffix rest q.3 q.5))))
 
 abbrev executed : List ℕ → List Value → Unit {0} → Stmt
 executed program given close = stmts.Execute program given
@@ -246,24 +246,24 @@ unfolding same_mark
 minus_begins_literal = refl
 
 literal_begins_so : Begins begins_literal true IsLiteral
-literal_begins_so (values.Int z) front rest (n, lt, inl (e, at)) =
-    alone_begins begins_literal (tokens.Number n) true (ap (λ (test : Bool). is_some (cond test (Some (values.Int (pos n))) None)) (lt-ltb n (2 ^ 63) lt)) front rest at
-literal_begins_so (values.Int z) front rest (n, lt, inr (e, (f, b, at, number, p))) = token_begins begins_literal (tokens.Mark marks.Minus) true minus_begins_literal f b front rest at p
-literal_begins_so (values.Text text) front rest at = alone_begins begins_literal (tokens.Text text) true refl front rest at
+literal_begins_so (values.Int z) prefix rest (n, lt, inl (e, at)) =
+    alone_begins begins_literal (tokens.Number n) true (ap (λ (test : Bool). is_some (cond test (Some (values.Int (pos n))) None)) (lt-ltb n (2 ^ 63) lt)) prefix rest at
+literal_begins_so (values.Int z) prefix rest (n, lt, inr (e, (f, b, at, number, p))) = token_begins begins_literal (tokens.Mark marks.Minus) true minus_begins_literal f b prefix rest at p
+literal_begins_so (values.Text text) prefix rest at = alone_begins begins_literal (tokens.Text text) true refl prefix rest at
 
 execute_reads : IsReader ExecuteChain never execute_at
 unfolding execute_at
-execute_reads = behind_reads (word_reads (codes "execute")) (λ execute. behind_reads ident_reads (λ program. behind_reads (mark_reads marks.Open) (λ opened.
+execute_reads = suffix_reads (word_reads (codes "execute")) (λ execute. suffix_reads ident_reads (λ program. suffix_reads (mark_reads marks.Open) (λ opened.
     then_reads (listed_or_none_reads IsLiteral begins_literal literal_at 15 literal_reads literal_begins_so)
     (λ given. made_reads (executed program given) (mark_reads marks.Close))
-    (λ given stmt behind rest q ends. alone_begins on_values (tokens.Mark marks.Close) false close_ends_values behind rest q.1))))
+    (λ given stmt suffix rest q ends. alone_begins on_values (tokens.Mark marks.Close) false close_ends_values suffix rest q.1))))
 
 abbrev ExplainChain : Phrase Stmt
 ExplainChain = Then (IsToken (tokens.Word (codes "explain"))) (λ explain. Made stmts.Explain IsSelect)
 
 explain_reads : IsReader ExplainChain on_select explain_at
 unfolding explain_at
-explain_reads = behind_reads (word_reads (codes "explain")) (λ explain. made_reads stmts.Explain select_reads)
+explain_reads = suffix_reads (word_reads (codes "explain")) (λ explain. made_reads stmts.Explain select_reads)
 
 abbrev sections_shown : Unit {0} → Stmt
 sections_shown word = stmts.ShowSections
@@ -279,10 +279,10 @@ ShowChain = Then (IsToken (tokens.Word (codes "show"))) (λ show. Shown)
 
 show_reads : IsReader ShowChain never show_at
 unfolding show_at
-show_reads = behind_reads (word_reads (codes "show")) (λ show.
+show_reads = suffix_reads (word_reads (codes "show")) (λ show.
     either_reads (is_word (codes "sections")) (made_reads sections_shown (word_reads (codes "sections"))) (made_reads cache_shown (word_reads (codes "cache")))
-    (λ stmt front rest p. alone_begins (is_word (codes "sections")) (tokens.Word (codes "sections")) true refl front rest p.1)
-    (λ stmt front rest p ends. alone_begins (is_word (codes "sections")) (tokens.Word (codes "cache")) false refl front rest p.1))
+    (λ stmt prefix rest p. alone_begins (is_word (codes "sections")) (tokens.Word (codes "sections")) true refl prefix rest p.1)
+    (λ stmt prefix rest p ends. alone_begins (is_word (codes "sections")) (tokens.Word (codes "cache")) false refl prefix rest p.1))
 
 -- ---- statements
 
@@ -326,7 +326,7 @@ StmtChain = Either CreateChain DropPart
 -- a test that says no of some words
 
 dml_part_not : (is : Token → Bool) → is (tokens.Word (codes "select")) ≡ false → is (tokens.Word (codes "insert")) ≡ false → is (tokens.Word (codes "update")) ≡ false → is (tokens.Word (codes "delete")) ≡ false → Begins is false DmlPart
-dml_part_not is a b c d stmt front rest p = dml_begins is false a b c d p.0 front rest p.1
+dml_part_not is a b c d stmt prefix rest p = dml_begins is false a b c d p.0 prefix rest p.1
 
 abbrev IsNot : (Token → Bool) → List ℕ → Type 0
 IsNot is word = is (tokens.Word word) ≡ false
@@ -415,39 +415,39 @@ no_dml word a b c d = dml_part_not (is_word word) a b c d
 show_part_reads : IsReader ShowPart on_stmt (either_at (is_word (codes "show")) show_at (λ ts. dml_at ts >>= λ dml. Got (stmts.Dml dml.0) dml.1))
 show_part_reads = either_reads (is_word (codes "show")) (before_reads on_stmt stmt_none show_reads) (before_reads on_stmt stmt_dml (made_reads stmts.Dml dml_reads))
     (begins_word Shows (codes "show") (is_word (codes "show")) true refl)
-    (λ stmt front rest p ends. no_dml (codes "show") refl refl refl refl stmt front rest p)
+    (λ stmt prefix rest p ends. no_dml (codes "show") refl refl refl refl stmt prefix rest p)
 
 explain_part_reads : IsReader ExplainPart on_stmt (either_at (is_word (codes "explain")) explain_at (either_at (is_word (codes "show")) show_at (λ ts. dml_at ts >>= λ dml. Got (stmts.Dml dml.0) dml.1)))
 explain_part_reads = either_reads (is_word (codes "explain")) (before_reads on_stmt (λ t e. dml_select t (stmt_dml t e)) explain_reads) show_part_reads
     (begins_word Explains (codes "explain") (is_word (codes "explain")) true refl)
-    (λ stmt front rest p ends. show_not (codes "explain") refl (no_dml (codes "explain") refl refl refl refl) stmt front rest p)
+    (λ stmt prefix rest p ends. show_not (codes "explain") refl (no_dml (codes "explain") refl refl refl refl) stmt prefix rest p)
 
 execute_part_reads : IsReader ExecutePart on_stmt (either_at (is_word (codes "execute")) execute_at (either_at (is_word (codes "explain")) explain_at (either_at (is_word (codes "show")) show_at (λ ts. dml_at ts >>= λ dml. Got (stmts.Dml dml.0) dml.1))))
 execute_part_reads = either_reads (is_word (codes "execute")) (before_reads on_stmt stmt_none execute_reads) explain_part_reads
     (begins_word Executes (codes "execute") (is_word (codes "execute")) true refl)
-    (λ stmt front rest p ends. explain_not (codes "execute") refl (show_not (codes "execute") refl (no_dml (codes "execute") refl refl refl refl)) stmt front rest p)
+    (λ stmt prefix rest p ends. explain_not (codes "execute") refl (show_not (codes "execute") refl (no_dml (codes "execute") refl refl refl refl)) stmt prefix rest p)
 
 compile_part_reads : IsReader CompilePart on_stmt (either_at (is_word (codes "compile")) compile_at (either_at (is_word (codes "execute")) execute_at (either_at (is_word (codes "explain")) explain_at (either_at (is_word (codes "show")) show_at (λ ts. dml_at ts >>= λ dml. Got (stmts.Dml dml.0) dml.1)))))
 compile_part_reads = either_reads (is_word (codes "compile")) (before_reads on_stmt stmt_none compile_reads) execute_part_reads
     (begins_word Compiles (codes "compile") (is_word (codes "compile")) true refl)
-    (λ stmt front rest p ends. execute_not (codes "compile") refl (explain_not (codes "compile") refl (show_not (codes "compile") refl (no_dml (codes "compile") refl refl refl refl))) stmt front rest p)
+    (λ stmt prefix rest p ends. execute_not (codes "compile") refl (explain_not (codes "compile") refl (show_not (codes "compile") refl (no_dml (codes "compile") refl refl refl refl))) stmt prefix rest p)
 
 migrate_part_reads : IsReader MigratePart on_stmt (either_at (is_word (codes "migrate")) migrate_at (either_at (is_word (codes "compile")) compile_at (either_at (is_word (codes "execute")) execute_at (either_at (is_word (codes "explain")) explain_at (either_at (is_word (codes "show")) show_at (λ ts. dml_at ts >>= λ dml. Got (stmts.Dml dml.0) dml.1))))))
 migrate_part_reads = either_reads (is_word (codes "migrate")) (before_reads on_stmt stmt_none migrate_reads) compile_part_reads
     (begins_word Migrates (codes "migrate") (is_word (codes "migrate")) true refl)
-    (λ stmt front rest p ends. compile_not (codes "migrate") refl (execute_not (codes "migrate") refl (explain_not (codes "migrate") refl (show_not (codes "migrate") refl (no_dml (codes "migrate") refl refl refl refl)))) stmt front rest p)
+    (λ stmt prefix rest p ends. compile_not (codes "migrate") refl (execute_not (codes "migrate") refl (explain_not (codes "migrate") refl (show_not (codes "migrate") refl (no_dml (codes "migrate") refl refl refl refl)))) stmt prefix rest p)
 
 drop_part_reads : IsReader DropPart on_stmt (either_at (is_word (codes "drop")) drop_at (either_at (is_word (codes "migrate")) migrate_at (either_at (is_word (codes "compile")) compile_at (either_at (is_word (codes "execute")) execute_at (either_at (is_word (codes "explain")) explain_at (either_at (is_word (codes "show")) show_at (λ ts. dml_at ts >>= λ dml. Got (stmts.Dml dml.0) dml.1)))))))
 drop_part_reads = either_reads (is_word (codes "drop")) (before_reads on_stmt stmt_name drop_reads) migrate_part_reads
     (begins_word Drops (codes "drop") (is_word (codes "drop")) true refl)
-    (λ stmt front rest p ends. migrate_not (codes "drop") refl (compile_not (codes "drop") refl (execute_not (codes "drop") refl (explain_not (codes "drop") refl (show_not (codes "drop") refl (no_dml (codes "drop") refl refl refl refl))))) stmt front rest p)
+    (λ stmt prefix rest p ends. migrate_not (codes "drop") refl (compile_not (codes "drop") refl (execute_not (codes "drop") refl (explain_not (codes "drop") refl (show_not (codes "drop") refl (no_dml (codes "drop") refl refl refl refl))))) stmt prefix rest p)
 
 pub stmt_reads : IsReader IsStmt on_stmt stmt_at
 unfolding stmt_at
 stmt_reads = as_reads IsStmt
     (either_reads (is_word (codes "create")) (before_reads on_stmt stmt_name create_reads) drop_part_reads
     (begins_word (λ create. Either TablePart IndexOrSynonym) (codes "create") (is_word (codes "create")) true refl)
-    (λ stmt front rest p ends. drop_not (codes "create") refl (migrate_not (codes "create") refl (compile_not (codes "create") refl (execute_not (codes "create") refl (explain_not (codes "create") refl (show_not (codes "create") refl (no_dml (codes "create") refl refl refl refl)))))) stmt front rest p))
+    (λ stmt prefix rest p ends. drop_not (codes "create") refl (migrate_not (codes "create") refl (compile_not (codes "create") refl (execute_not (codes "create") refl (explain_not (codes "create") refl (show_not (codes "create") refl (no_dml (codes "create") refl refl refl refl)))))) stmt prefix rest p))
     stmt_to stmt_from
 
 -- ---- requests
@@ -465,8 +465,8 @@ EndChain = Either (IsToken (tokens.Mark marks.Semicolon)) (Empty tt)
 end_reads : IsReader EndChain is_semicolon end_at
 unfolding end_at
 end_reads = either_reads (is_mark marks.Semicolon) (before_reads is_semicolon (λ t e. refl) (mark_reads marks.Semicolon)) (gives_before tt is_semicolon)
-    (λ end front rest p. alone_begins (is_mark marks.Semicolon) (tokens.Mark marks.Semicolon) true (is_mark_self marks.Semicolon) front rest p)
-    (λ end front rest p ends. empty_begins (is_mark marks.Semicolon) is_semicolon (λ t e. e) front rest p.1 ends)
+    (λ end prefix rest p. alone_begins (is_mark marks.Semicolon) (tokens.Mark marks.Semicolon) true (is_mark_self marks.Semicolon) prefix rest p)
+    (λ end prefix rest p ends. empty_begins (is_mark marks.Semicolon) is_semicolon (λ t e. e) prefix rest p.1 ends)
 
 -- what goes on with a request
 abbrev pub on_request : Token → Bool
@@ -475,9 +475,9 @@ on_request t = is_semicolon t || on_stmt t
 abbrev requested : Stmt → Unit {0} → Stmt
 requested stmt end = stmt
 
-end_follows : (stmt made : Stmt) (behind rest : List Token) → Made (requested stmt) EndChain made behind → begins on_request rest ≡ false → begins on_stmt (behind ++ rest) ≡ false
-end_follows stmt made behind rest (end, inl at, e) ends = alone_begins on_stmt (tokens.Mark marks.Semicolon) false semicolon_ends_stmt behind rest at
-end_follows stmt made behind rest (end, inr empty, e) ends = empty_begins on_stmt on_request (λ t n. or_right (is_semicolon t) (on_stmt t) n) behind rest empty.1 ends
+end_follows : (stmt made : Stmt) (suffix rest : List Token) → Made (requested stmt) EndChain made suffix → begins on_request rest ≡ false → begins on_stmt (suffix ++ rest) ≡ false
+end_follows stmt made suffix rest (end, inl at, e) ends = alone_begins on_stmt (tokens.Mark marks.Semicolon) false semicolon_ends_stmt suffix rest at
+end_follows stmt made suffix rest (end, inr empty, e) ends = empty_begins on_stmt on_request (λ t n. or_right (is_semicolon t) (on_stmt t) n) suffix rest empty.1 ends
 
 request_to : (stmt : Stmt) (ts : List Token) → Then IsStmt (λ found. Made (requested found) EndChain) stmt ts → IsRequest stmt ts
 request_to stmt ts (found, f, b, is, (end, inl at, e), p) = subst (λ (x : Stmt). IsRequest x ts) e (f, b, is, inr at, p)

@@ -21,7 +21,7 @@ use Rattle.rs_parse.specs.Phrases.{Phrase, Optional, AtMost}
 use Rattle.rs_parse.specs.Read.{Read, begins, optional_at}
 use Rattle.rs_parse.specs.Grammar.{IsIdent, IsLiteral, IsParam, IsTerm, IsVal, IsTuple, IsArith, IsMoreTerm, IsExpr, IsSet, IsListed}
 use Rattle.rs_parse.specs.Reader.{is_ident_token, unsigned_of, unsigned_at, negated_of, negated_at, negative_at, literal_at, param_at, val_at, term_at, arith_of, arith_of_mark, is_arith_token, arith_at, more_term_at, expr_at, set_at, listed_at, tuple_at}
-use Rattle.rs_parse.proofs.Readers.{IsReader, One, Then, Made, Either, IsToken, never, reads_one, reads_optional, then_reads, behind_reads, made_reads, either_reads, as_reads, token_begins, alone_begins}
+use Rattle.rs_parse.proofs.Readers.{IsReader, One, Then, Made, Either, IsToken, never, reads_one, reads_optional, then_reads, suffix_reads, made_reads, either_reads, as_reads, token_begins, alone_begins}
 use Rattle.rs_parse.proofs.Lists.{reads_list}
 use Rattle.rs_parse.proofs.NameRules.{mark_reads, ident_reads, ident_of_free}
 
@@ -59,7 +59,7 @@ Negative = Then (IsToken (tokens.Mark marks.Minus)) (λ minus. One negated_of)
 
 negative_reads : IsReader Negative never negative_at
 unfolding negative_at negated_at
-negative_reads = behind_reads (mark_reads marks.Minus) (λ minus. reads_one negated_of (tokens.Number 0) (values.Int (neg_ℤ (pos 0))) refl)
+negative_reads = suffix_reads (mark_reads marks.Minus) (λ minus. reads_one negated_of (tokens.Number 0) (values.Int (neg_ℤ (pos 0))) refl)
 
 literal_to : (value : Value) (ts : List Token) → Either Negative (One unsigned_of) value ts → IsLiteral value ts
 literal_to value ts (inl (minus, f, b, is, (t, m, e), p)) =
@@ -81,37 +81,37 @@ unsigned_no_minus (tokens.Mark mark) value e = absurd (none-some value e)
 pub literal_reads : IsReader IsLiteral never literal_at
 unfolding literal_at
 literal_reads = as_reads IsLiteral (either_reads (is_mark marks.Minus) negative_reads unsigned_reads
-    (λ value front rest p. token_begins (is_mark marks.Minus) (tokens.Mark marks.Minus) true (is_mark_self marks.Minus) p.1 p.2 front rest p.3 p.5)
-    (λ value front rest p ends. alone_begins (is_mark marks.Minus) p.0 false (unsigned_no_minus p.0 value p.1) front rest p.2))
+    (λ value prefix rest p. token_begins (is_mark marks.Minus) (tokens.Mark marks.Minus) true (is_mark_self marks.Minus) p.1 p.2 prefix rest p.3 p.5)
+    (λ value prefix rest p ends. alone_begins (is_mark marks.Minus) p.0 false (unsigned_no_minus p.0 value p.1) prefix rest p.2))
     literal_to literal_from
 
 -- a test that each token passes, or none, by which a literal may begin
 pub literal_begins : (is : Token → Bool) (c : Bool) → is (tokens.Mark marks.Minus) ≡ c → ((n : ℕ) → is (tokens.Number n) ≡ c) → ((text : List ℕ) → is (tokens.Text text) ≡ c)
-    → (value : Value) (front rest : List Token) → IsLiteral value front → begins is (front ++ rest) ≡ c
-literal_begins is c minus number text (values.Int z) front rest (n, lt, inl (e, at)) = alone_begins is (tokens.Number n) c (number n) front rest at
-literal_begins is c minus number text (values.Int z) front rest (n, lt, inr (e, (f, b, at, at_number, p))) = token_begins is (tokens.Mark marks.Minus) c minus f b front rest at p
-literal_begins is c minus number text (values.Text t) front rest at = alone_begins is (tokens.Text t) c (text t) front rest at
+    → (value : Value) (prefix rest : List Token) → IsLiteral value prefix → begins is (prefix ++ rest) ≡ c
+literal_begins is c minus number text (values.Int z) prefix rest (n, lt, inl (e, at)) = alone_begins is (tokens.Number n) c (number n) prefix rest at
+literal_begins is c minus number text (values.Int z) prefix rest (n, lt, inr (e, (f, b, at, at_number, p))) = token_begins is (tokens.Mark marks.Minus) c minus f b prefix rest at p
+literal_begins is c minus number text (values.Text t) prefix rest at = alone_begins is (tokens.Text t) c (text t) prefix rest at
 
 -- ---- parameters and terms
 
 pub param_reads : IsReader IsParam never param_at
 unfolding param_at
-param_reads = as_reads IsParam (behind_reads (mark_reads marks.Colon) (λ colon. ident_reads))
+param_reads = as_reads IsParam (suffix_reads (mark_reads marks.Colon) (λ colon. ident_reads))
     (λ param ts (colon, f, b, is, ident, p). (f, b, is, ident, p))
     (λ param ts (f, b, is, ident, p). (tt, f, b, is, ident, p))
 
-pub param_begins : (is : Token → Bool) (c : Bool) → is (tokens.Mark marks.Colon) ≡ c → (param : List ℕ) (front rest : List Token) → IsParam param front → begins is (front ++ rest) ≡ c
-param_begins is c colon param front rest (f, b, at, ident, p) = token_begins is (tokens.Mark marks.Colon) c colon f b front rest at p
+pub param_begins : (is : Token → Bool) (c : Bool) → is (tokens.Mark marks.Colon) ≡ c → (param : List ℕ) (prefix rest : List Token) → IsParam param prefix → begins is (prefix ++ rest) ≡ c
+param_begins is c colon param prefix rest (f, b, at, ident, p) = token_begins is (tokens.Mark marks.Colon) c colon f b prefix rest at p
 
-pub ident_begins : (name : List ℕ) (front rest : List Token) → IsIdent name front → begins is_ident_token (front ++ rest) ≡ true
-ident_begins name front rest (free, at) = alone_begins is_ident_token (tokens.Word name) true (ap is_some (ident_of_free name free)) front rest at
+pub ident_begins : (name : List ℕ) (prefix rest : List Token) → IsIdent name prefix → begins is_ident_token (prefix ++ rest) ≡ true
+ident_begins name prefix rest (free, at) = alone_begins is_ident_token (tokens.Word name) true (ap is_some (ident_of_free name free)) prefix rest at
 
 colon_no_minus : is_mark marks.Colon (tokens.Mark marks.Minus) ≡ false
 unfolding same_mark
 colon_no_minus = refl
 
-pub literal_no_colon : (value : Value) (front rest : List Token) → IsLiteral value front → begins (is_mark marks.Colon) (front ++ rest) ≡ false
-literal_no_colon value front rest is = literal_begins (is_mark marks.Colon) false colon_no_minus (λ n. refl) (λ text. refl) value front rest is
+pub literal_no_colon : (value : Value) (prefix rest : List Token) → IsLiteral value prefix → begins (is_mark marks.Colon) (prefix ++ rest) ≡ false
+literal_no_colon value prefix rest is = literal_begins (is_mark marks.Colon) false colon_no_minus (λ n. refl) (λ text. refl) value prefix rest is
 
 val_to : (term : Term) (ts : List Token) → Either (Made terms.Param IsParam) (Made terms.Lit IsLiteral) term ts → IsVal term ts
 val_to term ts (inl (param, is, e)) = subst (λ (t : Term). IsVal t ts) e is
@@ -125,14 +125,14 @@ val_from (terms.Param param) ts is = inl (param, is, refl)
 pub val_reads : IsReader IsVal never val_at
 unfolding val_at
 val_reads = as_reads IsVal (either_reads (is_mark marks.Colon) (made_reads terms.Param param_reads) (made_reads terms.Lit literal_reads)
-    (λ term front rest p. param_begins (is_mark marks.Colon) true (is_mark_self marks.Colon) p.0 front rest p.1)
-    (λ term front rest p ends. literal_no_colon p.0 front rest p.1))
+    (λ term prefix rest p. param_begins (is_mark marks.Colon) true (is_mark_self marks.Colon) p.0 prefix rest p.1)
+    (λ term prefix rest p ends. literal_no_colon p.0 prefix rest p.1))
     val_to val_from
 
-val_no_ident : (term : Term) (front rest : List Token) → IsVal term front → begins is_ident_token (front ++ rest) ≡ false
-val_no_ident (terms.Col column) front rest is = absurd is
-val_no_ident (terms.Lit value) front rest is = literal_begins is_ident_token false refl (λ n. refl) (λ text. refl) value front rest is
-val_no_ident (terms.Param param) front rest is = param_begins is_ident_token false refl param front rest is
+val_no_ident : (term : Term) (prefix rest : List Token) → IsVal term prefix → begins is_ident_token (prefix ++ rest) ≡ false
+val_no_ident (terms.Col column) prefix rest is = absurd is
+val_no_ident (terms.Lit value) prefix rest is = literal_begins is_ident_token false refl (λ n. refl) (λ text. refl) value prefix rest is
+val_no_ident (terms.Param param) prefix rest is = param_begins is_ident_token false refl param prefix rest is
 
 term_to : (term : Term) (ts : List Token) → Either (Made terms.Col IsIdent) IsVal term ts → IsTerm term ts
 term_to term ts (inl (column, is, e)) = subst (λ (t : Term). IsTerm t ts) e is
@@ -148,8 +148,8 @@ term_from (terms.Param param) ts is = inr is
 pub term_reads : IsReader IsTerm never term_at
 unfolding term_at
 term_reads = as_reads IsTerm (either_reads is_ident_token (made_reads terms.Col ident_reads) val_reads
-    (λ term front rest p. ident_begins p.0 front rest p.1)
-    (λ term front rest p ends. val_no_ident term front rest p))
+    (λ term prefix rest p. ident_begins p.0 prefix rest p.1)
+    (λ term prefix rest p ends. val_no_ident term prefix rest p))
     term_to term_from
 
 -- ---- expressions
@@ -177,17 +177,17 @@ arith_reads = as_reads IsArith (reads_one arith_of (tokens.Mark marks.Plus) arit
     (λ a ts is. subst (IsArith a) (sym is.2) (arith_is is.0 a is.1))
     arith_from
 
-arith_begins : (a : Arith) (one two front rest : List Token) → IsArith a one → front ≡ one ++ two → begins is_arith_token (front ++ rest) ≡ true
-arith_begins ariths.Add one two front rest at p = token_begins is_arith_token (tokens.Mark marks.Plus) true refl one two front rest at p
-arith_begins ariths.Sub one two front rest at p = token_begins is_arith_token (tokens.Mark marks.Minus) true refl one two front rest at p
-arith_begins ariths.Mul one two front rest at p = token_begins is_arith_token (tokens.Mark marks.Star) true refl one two front rest at p
+arith_begins : (a : Arith) (one two prefix rest : List Token) → IsArith a one → prefix ≡ one ++ two → begins is_arith_token (prefix ++ rest) ≡ true
+arith_begins ariths.Add one two prefix rest at p = token_begins is_arith_token (tokens.Mark marks.Plus) true refl one two prefix rest at p
+arith_begins ariths.Sub one two prefix rest at p = token_begins is_arith_token (tokens.Mark marks.Minus) true refl one two prefix rest at p
+arith_begins ariths.Mul one two prefix rest at p = token_begins is_arith_token (tokens.Mark marks.Star) true refl one two prefix rest at p
 
 abbrev arith_term : Arith → Term → Arith × Term
 arith_term a t = (a, t)
 
 more_term_reads : IsReader IsMoreTerm never more_term_at
 unfolding more_term_at
-more_term_reads = as_reads IsMoreTerm (behind_reads arith_reads (λ a. made_reads (arith_term a) term_reads))
+more_term_reads = as_reads IsMoreTerm (suffix_reads arith_reads (λ a. made_reads (arith_term a) term_reads))
     (λ more ts (a, f, b, is, (t, is_term, e), p). subst (λ (m : Arith × Term). IsMoreTerm m ts) e (f, b, is, is_term, p))
     (λ more ts (f, b, is, is_term, p). (more.0, f, b, is, (more.1, is_term, refl), p))
 
@@ -196,14 +196,14 @@ abbrev pub on_expr : Token → Bool
 on_expr t = is_arith_token t || never t
 
 more_reads : IsReader (Optional IsMoreTerm) on_expr (optional_at is_arith_token more_term_at)
-more_reads = reads_optional IsMoreTerm is_arith_token never more_term_at more_term_reads (λ more front rest p. arith_begins more.0 p.0 p.1 front rest p.2 p.4)
+more_reads = reads_optional IsMoreTerm is_arith_token never more_term_at more_term_reads (λ more prefix rest p. arith_begins more.0 p.0 p.1 prefix rest p.2 p.4)
 
 abbrev expr_of : Term → Option (Arith × Term) → Expr
 expr_of first more = record { first = first; more = more }
 
 pub expr_reads : IsReader IsExpr on_expr expr_at
 unfolding expr_at
-expr_reads = as_reads IsExpr (behind_reads term_reads (λ first. made_reads (expr_of first) more_reads))
+expr_reads = as_reads IsExpr (suffix_reads term_reads (λ first. made_reads (expr_of first) more_reads))
     (λ expr ts (first, f, b, is, (more, is_more, e), p). subst (λ (x : Expr). IsExpr x ts) e (f, b, is, is_more, p))
     (λ expr ts (f, b, is, is_more, p). (expr.first, f, b, is, (expr.more, is_more, refl), p))
 
@@ -212,7 +212,7 @@ set_of column expr = record { column = column; expr = expr }
 
 pub set_reads : IsReader IsSet on_expr set_at
 unfolding set_at
-set_reads = as_reads IsSet (behind_reads ident_reads (λ column. behind_reads (mark_reads marks.Equal) (λ equal. made_reads (set_of column) expr_reads)))
+set_reads = as_reads IsSet (suffix_reads ident_reads (λ column. suffix_reads (mark_reads marks.Equal) (λ equal. made_reads (set_of column) expr_reads)))
     (λ set ts (column, f, b, ident, (equal, f1, b1, is, (expr, is_expr, e), p1), p). subst (λ (x : Set). IsSet x ts) e (f, b, ident, (f1, b1, is, is_expr, p1), p))
     (λ set ts (f, b, ident, (f1, b1, is, is_expr, p1), p). (set.column, f, b, ident, (tt, f1, b1, is, (set.expr, is_expr, refl), p1), p))
 
@@ -237,7 +237,7 @@ row_of row close = row
 pub tuple_reads : IsReader IsTuple never tuple_at
 unfolding tuple_at
 tuple_reads = as_reads IsTuple
-    (behind_reads (mark_reads marks.Open) (λ opened. then_reads (listed_reads 15 val_reads refl) (λ row. made_reads (row_of row) (mark_reads marks.Close))
-    (λ row made behind rest q ends. alone_begins (on_listed never) (tokens.Mark marks.Close) false close_ends_vals behind rest q.1)))
+    (suffix_reads (mark_reads marks.Open) (λ opened. then_reads (listed_reads 15 val_reads refl) (λ row. made_reads (row_of row) (mark_reads marks.Close))
+    (λ row made suffix rest q ends. alone_begins (on_listed never) (tokens.Mark marks.Close) false close_ends_vals suffix rest q.1)))
     (λ row ts (opened, f, b, is, (found, f1, b1, listed, (closed, is_close, e), p1), p). subst (λ (r : List Term). IsTuple r ts) e (f, b, is, (f1, b1, listed, is_close, p1), p))
     (λ row ts (f, b, is, (f1, b1, listed, is_close, p1), p). (tt, f, b, is, (row, f1, b1, listed, (tt, is_close, refl), p1), p))

@@ -19,14 +19,14 @@ Spells text stmt = ((split_of text).whole ≡ true) × IsRequest stmt (split_of 
 
 -- some request begins with these tokens
 abbrev pub SomeBegins : List Token → Type 0
-SomeBegins ts = (stmt : Stmt) × (behind : List Token) × IsRequest stmt (ts ++ behind)
+SomeBegins ts = (stmt : Stmt) × (suffix : List Token) × IsRequest stmt (ts ++ suffix)
 
 -- the token of this number is the first by which the tokens are no longer those of a request
 pub record IsOffending (ts : List Token) (number : ℕ) : Type 0 where
   pub before : List Token
   pub token : Token
-  pub behind : List Token
-  pub parted : ts ≡ before ++ token ∷ behind
+  pub suffix : List Token
+  pub separated : ts ≡ before ++ token ∷ suffix
   pub counted : length before ≡ number
   pub begun : SomeBegins before
   pub barred : SomeBegins (before ++ token ∷ []) → ⊥

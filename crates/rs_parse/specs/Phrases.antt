@@ -16,7 +16,7 @@ Is t ts = ts ≡ t ∷ []
 
 -- one behind the other
 abbrev pub Both : (List Token → Type 0) → (List Token → Type 0) → List Token → Type 0
-Both P Q ts = (front behind : List Token) × P front × Q behind × (ts ≡ front ++ behind)
+Both P Q ts = (prefix suffix : List Token) × P prefix × Q suffix × (ts ≡ prefix ++ suffix)
 
 abbrev pub Spell : List (List Token → Type 0) → List Token → Type 0
 Spell [] ts = ts ≡ []
@@ -32,12 +32,12 @@ IsSeries P [] ts = ts ≡ []
 IsSeries P (x ∷ xs) ts = Both (P x) (IsSeries P xs) ts
 
 -- one phrase behind a separator
-abbrev pub Behind : {A : Type 0} → Token → Phrase A → Phrase A
-Behind separator P x ts = Both (Is separator) (P x) ts
+abbrev pub After : {A : Type 0} → Token → Phrase A → Phrase A
+After separator P x ts = Both (Is separator) (P x) ts
 
 abbrev pub IsList : {A : Type 0} → Token → Phrase A → Phrase (List A)
 IsList separator P [] ts = ⊥
-IsList separator P (x ∷ xs) ts = Both (P x) (IsSeries (Behind separator P) xs) ts
+IsList separator P (x ∷ xs) ts = Both (P x) (IsSeries (After separator P) xs) ts
 
 abbrev pub AtMost : {A : Type 0} → ℕ → Phrase (List A) → Phrase (List A)
 AtMost n P xs ts = (length xs ≤ n) × P xs ts

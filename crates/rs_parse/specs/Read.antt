@@ -66,12 +66,12 @@ series_at is_next next (suc n) ts = if begins is_next ts then (next ts >>= λ x.
 abbrev pub more_at : {A : Type 0} → (Token → Bool) → (List Token → Read A) → (List Token → Read A) → ℕ → List Token → Read (List A)
 more_at is_next first next n ts = first ts >>= λ x. series_at is_next next n x.1 >>= λ xs. Got (x.0 ∷ xs.0) xs.1
 
-abbrev pub behind_at : {A : Type 0} → (Token → Bool) → (List Token → Read A) → List Token → Read A
-behind_at is_separator item ts = pass_at is_separator ts >>= λ separator. item separator.1
+abbrev pub suffix_at : {A : Type 0} → (Token → Bool) → (List Token → Read A) → List Token → Read A
+suffix_at is_separator item ts = pass_at is_separator ts >>= λ separator. item separator.1
 
 -- one item, and at most so many further ones behind separators
 abbrev pub separated_at : {A : Type 0} → (Token → Bool) → (List Token → Read A) → ℕ → List Token → Read (List A)
-separated_at is_separator item n ts = more_at is_separator item (behind_at is_separator item) n ts
+separated_at is_separator item n ts = more_at is_separator item (suffix_at is_separator item) n ts
 
 -- one item, and any number of further ones behind separators: each has a token, so there are no more than tokens
 abbrev pub all_at : {A : Type 0} → (Token → Bool) → (List Token → Read A) → List Token → Read (List A)

@@ -100,13 +100,13 @@ taken_at at (Some token) others = put_first at token.0 (others token)
 
 -- How bytes are split that begin at this place of the text, and of which the first `inside` belong to a token that was
 -- taken before.
-abbrev pub split_behind : ℕ → ℕ → List ℕ → Split
-split_behind at inside [] = ends_at at Bool.true
-split_behind at (suc inside) (b ∷ bytes) = split_behind (at + 1) inside bytes
-split_behind at zero (b ∷ bytes) =
-    if is_blank b then split_behind (at + 1) zero bytes
-    else taken_at at (token_at b bytes) (λ token. split_behind (at + 1) (length bytes - length token.1) bytes)
+abbrev pub split_suffix : ℕ → ℕ → List ℕ → Split
+split_suffix at inside [] = ends_at at Bool.true
+split_suffix at (suc inside) (b ∷ bytes) = split_suffix (at + 1) inside bytes
+split_suffix at zero (b ∷ bytes) =
+    if is_blank b then split_suffix (at + 1) zero bytes
+    else taken_at at (token_at b bytes) (λ token. split_suffix (at + 1) (length bytes - length token.1) bytes)
 
 -- How a text is split: its tokens with their places, up to the text's end or the first byte reached at which no token begins.
 abbrev pub split_of : List ℕ → Split
-split_of text = split_behind 0 0 text
+split_of text = split_suffix 0 0 text

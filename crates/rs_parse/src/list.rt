@@ -1,7 +1,7 @@
 //! Reading lists.
 
 ghost use Rattle.std.specs.Prelude.{◌≡◌};
-ghost use Rattle.rs_parse.specs.Read.{Reads, begins, pass_at, behind_at, separated_at, all_at};
+ghost use Rattle.rs_parse.specs.Read.{Reads, begins, pass_at, suffix_at, separated_at, all_at};
 ghost use Rattle.rs_parse.specs.Separator as spec;
 
 use crate::cursor::Cursor;
@@ -50,12 +50,12 @@ fn pass(tokens: &mut Cursor<'_>, separator: Separator) -> Result<(), ReadFault>
     }
 }
 
-fn behind<T: ListItem>(
+fn suffix<T: ListItem>(
     alloc: Global,
     tokens: &mut Cursor<'_>,
     separator: Separator,
 ) -> Result<T, ReadFault>
-    ensures { Reads (behind_at (spec.is_separator separator) T.item_at tokens.old) result tokens.new }
+    ensures { Reads (suffix_at (spec.is_separator separator) T.item_at tokens.old) result tokens.new }
 {
     pass(tokens, separator)?;
     T::item(alloc, tokens)
@@ -76,7 +76,7 @@ pub fn listed<T: ListItem>(
         if !goes_on(tokens, separator) {
             return Ok(found);
         }
-        found.push(behind::<T>(alloc, tokens, separator)?)?;
+        found.push(suffix::<T>(alloc, tokens, separator)?)?;
     }
     Ok(found)
 }

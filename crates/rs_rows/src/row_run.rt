@@ -44,7 +44,7 @@ impl<'a> RowRun<'a> {
     }
 
     /// The same rows, lent once more.
-    pub fn again(&self) -> RowRun<'a>
+    pub fn view(&self) -> RowRun<'a>
         ensures { result ≡ self.now }
     {
         RowRun {

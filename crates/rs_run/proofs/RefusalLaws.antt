@@ -19,13 +19,13 @@ use Rattle.rs_world.specs.Accepted.{may_come, is_open_after, are_accepted}
 use Rattle.rs_run.specs.declared.source.Cause.{Cause}
 use Rattle.rs_run.specs.declared.source.Cause.TheVariants as causes
 use Rattle.rs_run.specs.declared.source.Refusal.{Refusal}
-use Rattle.rs_run.specs.Refusal.{IsSource, may_all_come, is_open_behind, IsLaterLine, LacksSettle}
+use Rattle.rs_run.specs.Refusal.{IsSource, may_all_come, is_open_after_all, IsLaterLine, LacksSettle}
 use Rattle.rs_run.specs.SourceReader.{Read, refused, with_events, end_by, further_by, source_at, source_of}
 
 -- ---- which events may come
 
 -- a list that is accepted is one of events that may come, and none of its asks lacks its settle
-accepted_parts : (given : List Event) (unsettled : Bool) → are_accepted unsettled given ≡ true → (may_all_come unsettled given ≡ true) × (is_open_behind unsettled given ≡ false)
+accepted_parts : (given : List Event) (unsettled : Bool) → are_accepted unsettled given ≡ true → (may_all_come unsettled given ≡ true) × (is_open_after_all unsettled given ≡ false)
 accepted_parts [] true h = absurd cc
 accepted_parts [] false h = (refl, refl)
 accepted_parts (event ∷ given) unsettled h =
@@ -47,12 +47,12 @@ event_lines_at line lines sites before event comment read = rw (comment, read) r
 comment_lines_at : (line : List ℕ) (lines : List (List ℕ)) (sites : Option ℕ) (before : ℕ) → is_comment (without_returns line) ≡ true → lines_at sites before (line ∷ lines) ≡ lines_at sites (before + 1) lines
 comment_lines_at line lines sites before comment = rw comment refl
 
-record Behind (event : Event) (read : Result (List Event) SchedFault) (given : List Event) : Type 0 where
+record After (event : Event) (read : Result (List Event) SchedFault) (given : List Event) : Type 0 where
   others : List Event
   read_is : read ≡ Ok others
   given_is : given ≡ event ∷ others
 
-with_ok : (event : Event) (read : Result (List Event) SchedFault) (given : List Event) → sched.with_events (event ∷ []) read ≡ Ok given → Behind event read given
+with_ok : (event : Event) (read : Result (List Event) SchedFault) (given : List Event) → sched.with_events (event ∷ []) read ≡ Ok given → After event read given
 with_ok event (Err fault) given e = absurd cc
 with_ok event (Ok others) given e = record { others = others; read_is = refl; given_is = cc }
 
@@ -60,18 +60,18 @@ with_ok event (Ok others) given e = record { others = others; read_is = refl; gi
 
 -- one of the lines gives an event that may not come
 record LaterAmong (unsettled : Bool) (sites : Option ℕ) (before : ℕ) (lines : List (List ℕ)) (at : ℕ) : Type 0 where
-  front : List (List ℕ)
+  prefix : List (List ℕ)
   line : List ℕ
-  behind : List (List ℕ)
-  parted : lines ≡ front ++ line ∷ behind
-  place : at ≡ before + length front + 1
+  suffix : List (List ℕ)
+  separated : lines ≡ prefix ++ line ∷ suffix
+  place : at ≡ before + length prefix + 1
   given : List Event
   event : Event
-  given_lines : AreLines front given
+  given_lines : AreLines prefix given
   event_line : without_returns line ≡ line_of event
   right : Completes sites (given ++ event ∷ [])
   may : may_all_come unsettled given ≡ true
-  may_not : may_come (is_open_behind unsettled given) event ≡ false
+  may_not : may_come (is_open_after_all unsettled given) event ≡ false
   -- where all lines are right, not all events may come
   not_all : (all : List Event) → lines_at sites before lines ≡ Ok all → may_all_come unsettled all ≡ false
 
@@ -80,7 +80,7 @@ record LacksAmong (unsettled : Bool) (sites : Option ℕ) (before : ℕ) (lines 
   given : List Event
   read : lines_at sites before lines ≡ Ok given
   may : may_all_come unsettled given ≡ true
-  left_open : is_open_behind unsettled given ≡ true
+  left_open : is_open_after_all unsettled given ≡ true
   place : at ≡ before + length lines + 1
 
 data Found (unsettled : Bool) (sites : Option ℕ) (before : ℕ) (lines : List (List ℕ)) (read : Read) : Type 0 where
@@ -105,14 +105,14 @@ found_comment unsettled sites before line lines read comment (lacks at is h) = l
   place = omega (arith, h.place);
 })
 found_comment unsettled sites before line lines read comment (later at is h) = later at is (record {
-  front = line ∷ h.front;
+  prefix = line ∷ h.prefix;
   line = h.line;
-  behind = h.behind;
-  parted = ap (λ (ls : List (List ℕ)). line ∷ ls) h.parted;
+  suffix = h.suffix;
+  separated = ap (λ (ls : List (List ℕ)). line ∷ ls) h.separated;
   place = omega (arith, h.place);
   given = h.given;
   event = h.event;
-  given_lines = comment_more line h.front h.given comment h.given_lines;
+  given_lines = comment_more line h.prefix h.given comment h.given_lines;
   event_line = h.event_line;
   right = h.right;
   may = h.may;
@@ -147,10 +147,10 @@ found_event unsettled sites before line lines event read here may (later at is h
     let all = event_lines_at line lines sites before event here.no_comment here.read in
     let rest = lines_at (sites_after sites event) (before + 1) lines in
     later at (ap (with_events (event ∷ [])) is) (record {
-      front = line ∷ h.front;
+      prefix = line ∷ h.prefix;
       line = h.line;
-      behind = h.behind;
-      parted = ap (λ (ls : List (List ℕ)). line ∷ ls) h.parted;
+      suffix = h.suffix;
+      separated = ap (λ (ls : List (List ℕ)). line ∷ ls) h.separated;
       place = omega (arith, h.place);
       given = event ∷ h.given;
       event = h.event;
@@ -162,7 +162,7 @@ found_event unsettled sites before line lines event read here may (later at is h
       not_all = λ given e. not_all_of given (with_ok event rest given (sym all ∙ e)) h.not_all;
     })
   where
-    not_all_of : (given : List Event) → Behind event (lines_at (sites_after sites event) (before + 1) lines) given
+    not_all_of : (given : List Event) → After event (lines_at (sites_after sites event) (before + 1) lines) given
         → ((all : List Event) → lines_at (sites_after sites event) (before + 1) lines ≡ Ok all → may_all_come (is_open_after unsettled event) all ≡ false) → may_all_come unsettled given ≡ false
     not_all_of given b others =
         ap (may_all_come unsettled) b.given_is ∙ ap (λ (t : Bool). may_come unsettled event && t) (others b.others b.read_is) ∙ and_false (may_come unsettled event)
@@ -173,10 +173,10 @@ found_later unsettled sites before line lines event here none may =
     let all = event_lines_at line lines sites before event here.no_comment here.read in
     let rest = lines_at (sites_after sites event) (before + 1) lines in
     later (before + 1) refl (record {
-      front = [];
+      prefix = [];
       line = line;
-      behind = lines;
-      parted = refl;
+      suffix = lines;
+      separated = refl;
       place = omega arith;
       given = [];
       event = event;
@@ -188,7 +188,7 @@ found_later unsettled sites before line lines event here none may =
       not_all = λ given e. not_all_of given (with_ok event rest given (sym all ∙ e));
     })
   where
-    not_all_of : (given : List Event) → Behind event (lines_at (sites_after sites event) (before + 1) lines) given → may_all_come unsettled given ≡ false
+    not_all_of : (given : List Event) → After event (lines_at (sites_after sites event) (before + 1) lines) given → may_all_come unsettled given ≡ false
     not_all_of given b = ap (may_all_come unsettled) b.given_is ∙ rw may refl
 
 -- behind an event that was read, some number of sites is known, and no more has to come
@@ -221,24 +221,24 @@ found_lines (line ∷ lines) unsettled sites before few feeds = by_comment (is_c
 
 -- ---- a later line is found
 
-later_again : (front : List (List ℕ)) (unsettled : Bool) (sites : Option ℕ) (before : ℕ) (given : List Event) (event : Event) (line : List ℕ) (behind : List (List ℕ)) (at : ℕ) → AreLines front given → without_returns line ≡ line_of event
-    → Completes sites (given ++ event ∷ []) → may_all_come unsettled given ≡ true → may_come (is_open_behind unsettled given) event ≡ false → at ≡ before + length front + 1 → source_at unsettled sites before (front ++ line ∷ behind) ≡ refused at causes.Later
-later_again [] unsettled sites before [] event line behind at written here right may may_not place =
+later_again : (prefix : List (List ℕ)) (unsettled : Bool) (sites : Option ℕ) (before : ℕ) (given : List Event) (event : Event) (line : List ℕ) (suffix : List (List ℕ)) (at : ℕ) → AreLines prefix given → without_returns line ≡ line_of event
+    → Completes sites (given ++ event ∷ []) → may_all_come unsettled given ≡ true → may_come (is_open_after_all unsettled given) event ≡ false → at ≡ before + length prefix + 1 → source_at unsettled sites before (prefix ++ line ∷ suffix) ≡ refused at causes.Later
+later_again [] unsettled sites before [] event line suffix at written here right may may_not place =
     let next = next_of sites event [] right in
     let is : at ≡ before + 1 = omega (arith, place) in
     rw (here, no_comment_line event, next.read, may_not, is) refl
-later_again [] unsettled sites before (first ∷ given) event line behind at written here right may may_not place = absurd written
-later_again (l ∷ front) unsettled sites before [] event line behind at written here right may may_not place =
-    let is : at ≡ (before + 1) + length front + 1 = omega (arith, place) in
-    rw written.0 (later_again front unsettled sites (before + 1) [] event line behind at written.1 here right may may_not is)
-later_again (l ∷ front) unsettled sites before (first ∷ given) event line behind at (inl comment) here right may may_not place =
-    let is : at ≡ (before + 1) + length front + 1 = omega (arith, place) in
-    rw comment.0 (later_again front unsettled sites (before + 1) (first ∷ given) event line behind at comment.1 here right may may_not is)
-later_again (l ∷ front) unsettled sites before (first ∷ given) event line behind at (inr one) here right may may_not place =
-    let is : at ≡ (before + 1) + length front + 1 = omega (arith, place) in
+later_again [] unsettled sites before (first ∷ given) event line suffix at written here right may may_not place = absurd written
+later_again (l ∷ prefix) unsettled sites before [] event line suffix at written here right may may_not place =
+    let is : at ≡ (before + 1) + length prefix + 1 = omega (arith, place) in
+    rw written.0 (later_again prefix unsettled sites (before + 1) [] event line suffix at written.1 here right may may_not is)
+later_again (l ∷ prefix) unsettled sites before (first ∷ given) event line suffix at (inl comment) here right may may_not place =
+    let is : at ≡ (before + 1) + length prefix + 1 = omega (arith, place) in
+    rw comment.0 (later_again prefix unsettled sites (before + 1) (first ∷ given) event line suffix at comment.1 here right may may_not is)
+later_again (l ∷ prefix) unsettled sites before (first ∷ given) event line suffix at (inr one) here right may may_not place =
+    let is : at ≡ (before + 1) + length prefix + 1 = omega (arith, place) in
     let next = next_of sites first (given ++ event ∷ []) right in
     let both = and_parts (may_come unsettled first) (may_all_come (is_open_after unsettled first) given) may in
-    let others = later_again front (is_open_after unsettled first) (sites_after sites first) (before + 1) given event line behind at one.1 here next.completes both.1 may_not is in
+    let others = later_again prefix (is_open_after unsettled first) (sites_after sites first) (before + 1) given event line suffix at one.1 here next.completes both.1 may_not is in
     rw (one.0, no_comment_line first, next.read, both.0, others) refl
 
 -- ---- results that are one
@@ -305,13 +305,13 @@ source_again bytes given source = by_found (found_bytes bytes short)
     by_found (later at is h) = let e = sym (h.not_all given reads) ∙ (accepted_parts given false source.accepted).0 in absurd cc
     by_found (lacks at is h) =
         let also = same_read h.given given (sym h.read ∙ reads) in
-        let e = sym h.left_open ∙ ap (is_open_behind false) also ∙ (accepted_parts given false source.accepted).1 in
+        let e = sym h.left_open ∙ ap (is_open_after_all false) also ∙ (accepted_parts given false source.accepted).1 in
         absurd cc
 
 pub later_line_again : (bytes : List ℕ) (at : ℕ) → IsLaterLine bytes at → source_of bytes ≡ refused at causes.Later
 later_line_again bytes at h =
     let place : at ≡ 0 + length h.before + 1 = omega (arith, h.place) in
-    source_of-short bytes h.short ∙ ap (source_at false None 0) h.parted ∙ later_again h.before false None 0 h.given h.event h.line h.behind at h.given_lines h.event_line h.right h.all_may h.may_not place
+    source_of-short bytes h.short ∙ ap (source_at false None 0) h.separated ∙ later_again h.before false None 0 h.given h.event h.line h.suffix at h.given_lines h.event_line h.right h.all_may h.may_not place
 
 pub lacks_again : (bytes : List ℕ) (at : ℕ) → LacksSettle bytes at → source_of bytes ≡ refused at causes.Later
 lacks_again bytes at h = by_found (found_bytes bytes h.schedule.short)
@@ -322,7 +322,7 @@ lacks_again bytes at h = by_found (found_bytes bytes h.schedule.short)
     by_found : Found false None 0 (lines_of bytes) (source_of bytes) → source_of bytes ≡ refused at causes.Later
     by_found (played others is right accepted) =
         let also = same_read h.given others (sym reads ∙ right) in
-        let e = sym h.unsettled ∙ ap (is_open_behind false) also ∙ (accepted_parts others false accepted).1 in
+        let e = sym h.unsettled ∙ ap (is_open_after_all false) also ∙ (accepted_parts others false accepted).1 in
         absurd cc
     by_found (bad line why is wrong) = let e = sym wrong ∙ reads in absurd cc
     by_found (later line is k) = let e = sym (k.not_all h.given reads) ∙ h.all_may in absurd cc
@@ -339,10 +339,10 @@ long_read bytes long = rw (lt-ltb 16777216 (length bytes) long) refl
 later_is : (bytes : List ℕ) (at : ℕ) → length bytes ≤ 16777216 → LaterAmong false None 0 (lines_of bytes) at → IsLaterLine bytes at
 later_is bytes at short h = record {
   short = short;
-  before = h.front;
+  before = h.prefix;
   line = h.line;
-  behind = h.behind;
-  parted = h.parted;
+  suffix = h.suffix;
+  separated = h.separated;
   place = omega (arith, h.place);
   given = h.given;
   event = h.event;

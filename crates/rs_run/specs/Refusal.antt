@@ -23,17 +23,17 @@ may_all_come unsettled [] = true
 may_all_come unsettled (event ∷ others) = may_come unsettled event && may_all_come (is_open_after unsettled event) others
 
 -- whether an ask has no settle behind it, after these events
-abbrev pub is_open_behind : Bool → List Event → Bool
-is_open_behind unsettled [] = unsettled
-is_open_behind unsettled (event ∷ others) = is_open_behind (is_open_after unsettled event) others
+abbrev pub is_open_after_all : Bool → List Event → Bool
+is_open_after_all unsettled [] = unsettled
+is_open_after_all unsettled (event ∷ others) = is_open_after_all (is_open_after unsettled event) others
 
 -- The line gives an event that may not come: the lines before it give events that may, and it is right behind them.
 pub record IsLaterLine (bytes : List ℕ) (at : ℕ) : Type 0 where
   pub short : length bytes ≤ 16777216
   pub before : List (List ℕ)
   pub line : List ℕ
-  pub behind : List (List ℕ)
-  pub parted : lines_of bytes ≡ before ++ line ∷ behind
+  pub suffix : List (List ℕ)
+  pub separated : lines_of bytes ≡ before ++ line ∷ suffix
   pub place : at ≡ length before + 1
   pub given : List Event
   pub event : Event
@@ -41,14 +41,14 @@ pub record IsLaterLine (bytes : List ℕ) (at : ℕ) : Type 0 where
   pub event_line : without_returns line ≡ line_of event
   pub right : IsValid (given ++ event ∷ [])
   pub all_may : IsTrue (may_all_come false given)
-  pub may_not : may_come (is_open_behind false given) event ≡ false
+  pub may_not : may_come (is_open_after_all false given) event ≡ false
 
 -- All lines give events that may come, and behind the last ask there is no settle: it is wanted behind the last line.
 pub record LacksSettle (bytes : List ℕ) (at : ℕ) : Type 0 where
   pub given : List Event
   pub schedule : IsSchedule bytes given
   pub all_may : IsTrue (may_all_come false given)
-  pub unsettled : IsTrue (is_open_behind false given)
+  pub unsettled : IsTrue (is_open_after_all false given)
   pub place : at ≡ length (lines_of bytes) + 1
 
 -- ---- refusals

@@ -3,7 +3,7 @@ use Rattle.std.specs.Prelude.{◌≡◌, ℕ, List, [], ◌∷◌, map, take, co
 use Rattle.std.specs.Io.KnownBytes.{Appends, IsAtEnd, Keeps}
 use Rattle.std.specs.Prelude.{String}
 use Rattle.std.specs.declared.alloc.Global.{Global}
-use Rattle.rs_base.specs.Streams.{AppendsFront}
+use Rattle.rs_base.specs.Streams.{AppendsPrefix}
 use Rattle.rs_sched.specs.declared.event.Event.{Event}
 use Rattle.rs_world.specs.declared.report.Report.{Report}
 use Rattle.rs_world.specs.Answered.{EachAskIsAnswered}
@@ -52,8 +52,8 @@ abbrev pub Owes : List (String Global) → Option (List ℕ) → List ℕ → Ty
 Owes words left text = (IsReplay words × IfSome left (λ bytes. OwesReplay (take most_read bytes) text)) ⊎ ((IsReplay words → ⊥) × (text ≡ codes "usage\n"))
 
 -- A front of what is to be written was written, or nothing.
-abbrev pub WritesFront : List (String Global) → Option (List ℕ) → Option (List ℕ) → Option (List ℕ) → Type 0
-WritesFront words left old new = ((text : List ℕ) × Owes words left text × AppendsFront old new text) ⊎ Keeps old new
+abbrev pub WritesPrefix : List (String Global) → Option (List ℕ) → Option (List ℕ) → Option (List ℕ) → Type 0
+WritesPrefix words left old new = ((text : List ℕ) × Owes words left text × AppendsPrefix old new text) ⊎ Keeps old new
 
 -- The report of the bytes that were left was written.
 abbrev pub WritesReport : Option (List ℕ) → Option (List ℕ) → Option (List ℕ) → Type 0

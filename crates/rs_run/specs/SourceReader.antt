@@ -22,8 +22,8 @@ refused line cause = Err (record { line = line; cause = cause })
 
 -- events before those that are still read
 abbrev pub with_events : List Event → Read → Read
-with_events front (Ok others) = Ok (front ++ others)
-with_events front (Err refusal) = Err refusal
+with_events prefix (Ok others) = Ok (prefix ++ others)
+with_events prefix (Err refusal) = Err refusal
 
 -- what the end is, where a sites line was read
 abbrev pub ended : Bool → ℕ → Read

@@ -121,9 +121,9 @@ pub fn run<S: Source, K: Sink>(alloc: Global, words: &[String], source: &mut S, 
     ensures source { result ≡ 3 → Rises (S.faults source.old) (S.faults source.new)
         × Keeps (K.written sink.old) (K.written sink.new) }
     ensures sink { result ≡ 4 → Rises (K.faults sink.old) (K.faults sink.new)
-        × spec.WritesFront words.now (S.left source.old) (K.written sink.old) (K.written sink.new) }
+        × spec.WritesPrefix words.now (S.left source.old) (K.written sink.old) (K.written sink.new) }
     ensures memory { result ≡ 5
-        → spec.WritesFront words.now (S.left source.old) (K.written sink.old) (K.written sink.new) }
+        → spec.WritesPrefix words.now (S.left source.old) (K.written sink.old) (K.written sink.new) }
     ensures others { result ≤ 5 }
 
     // Which status comes, where no device fails.

@@ -71,8 +71,8 @@ word_field words.Noise = refl
 abbrev pub field : List ℕ → List ℕ
 field line = take (field_len line) line
 
-abbrev pub behind : List ℕ → List ℕ
-behind line = drop (field_len line) line
+abbrev pub suffix : List ℕ → List ℕ
+suffix line = drop (field_len line) line
 
 -- a line that begins with a word has it as its first field
 pub first_field : (y : Word) (line : List ℕ) → BeginsWith y line → field line ≡ spelling y
@@ -82,22 +82,22 @@ first_field y line (inr e) = ap field (e.1 ∙ append_assoc (spelling y) (codes 
 pub first_word : (y : Word) (line : List ℕ) → BeginsWith y line → word_of (field line) ≡ Some y
 first_word y line h = ap word_of (first_field y line h) ∙ word_again y
 
-begins_at : (y : Word) (line front rest : List ℕ) → front ++ rest ≡ line → front ≡ spelling y → IsTrue (stops rest) → BeginsWith y line
-begins_at y line front [] parts is stop = inl (sym parts ∙ append-nil front ∙ is)
-begins_at y line front (b ∷ rest) parts is stop =
+begins_at : (y : Word) (line prefix rest : List ℕ) → prefix ++ rest ≡ line → prefix ≡ spelling y → IsTrue (stops rest) → BeginsWith y line
+begins_at y line prefix [] parts is stop = inl (sym parts ∙ append-nil prefix ∙ is)
+begins_at y line prefix (b ∷ rest) parts is stop =
     let space : b ≡ 32 = eqb-true b 32 stop in
     inr (rest, sym parts ∙ ap (λ (f : List ℕ). f ++ (b ∷ rest)) is ∙ ap (λ (c : ℕ). spelling y ++ (c ∷ rest)) space ∙ sym (append_assoc (spelling y) (codes " ") rest))
 
-behind_stops : (line : List ℕ) → IsTrue (stops (behind line))
-behind_stops [] = refl
-behind_stops (b ∷ line) = by_space (eqb b 32) refl (behind_stops line)
+suffix_stops : (line : List ℕ) → IsTrue (stops (suffix line))
+suffix_stops [] = refl
+suffix_stops (b ∷ line) = by_space (eqb b 32) refl (suffix_stops line)
   where
-    by_space : (test : Bool) → eqb b 32 ≡ test → IsTrue (stops (behind line)) → IsTrue (stops (behind (b ∷ line)))
+    by_space : (test : Bool) → eqb b 32 ≡ test → IsTrue (stops (suffix line)) → IsTrue (stops (suffix (b ∷ line)))
     by_space true e others = rw e e
     by_space false e others = let n : 1 + field_len line ≡ suc (field_len line) = omega arith in rw (e, n) others
 
 pub begins_with : (y : Word) (line : List ℕ) → field line ≡ spelling y → BeginsWith y line
-begins_with y line is = begins_at y line (field line) (behind line) (take-append-drop (field_len line) line) is (behind_stops line)
+begins_with y line is = begins_at y line (field line) (suffix line) (take-append-drop (field_len line) line) is (suffix_stops line)
 
 -- ---- what is read is right
 
@@ -151,11 +151,11 @@ pub later_is : (sites : ℕ) (line : List ℕ) (event : Event) → sites ≤ 16 
 unfolding later_line
 later_is sites line event le e = by_word (word_of (field line)) refl e
   where
-    by_word : (word : Option Word) → word_of (field line) ≡ word → event_of sites word (behind line) ≡ Ok event → IsRead sites line event
+    by_word : (word : Option Word) → word_of (field line) ≡ word → event_of sites word (suffix line) ≡ Ok event → IsRead sites line event
     by_word None w e = absurd cc
     by_word (Some y) w e =
-        let parts : spelling y ++ behind line ≡ line = ap (λ (f : List ℕ). f ++ behind line) (sym (word_is (field line) y w)) ∙ take-append-drop (field_len line) line in
-        subst (λ (l : List ℕ). IsRead sites l event) parts (read_word sites y (behind line) event le e)
+        let parts : spelling y ++ suffix line ≡ line = ap (λ (f : List ℕ). f ++ suffix line) (sym (word_is (field line) y w)) ∙ take-append-drop (field_len line) line in
+        subst (λ (l : List ℕ). IsRead sites l event) parts (read_word sites y (suffix line) event le e)
 
 -- ---- what is right is read
 
@@ -305,13 +305,13 @@ not_utf8 : (sites : ℕ) (line text : List ℕ) → IsAskOf sites line text → 
 not_utf8 sites line text ask u = ap (later_line sites) ask.written ∙ later_again sites (events.Ask ask.origin text) ask.fits ∙ rw u refl
 
 module _ (sites : ℕ) (line : List ℕ) (y : Word) (w : word_of (field line) ≡ Some y) (why : Why) (e : later_line sites line ≡ Err why) where
-  parts : spelling y ++ behind line ≡ line
-  parts = ap (λ (f : List ℕ). f ++ behind line) (sym (word_is (field line) y w)) ∙ take-append-drop (field_len line) line
+  parts : spelling y ++ suffix line ≡ line
+  parts = ap (λ (f : List ℕ). f ++ suffix line) (sym (word_is (field line) y w)) ∙ take-append-drop (field_len line) line
 
-  abbrev ask_line_is : (x : Origin × List ℕ) → y ≡ words.Ask → IsAsk sites (behind line) x.0 x.1 → IsAskOf sites line x.1
-  ask_line_is x is ask = record { origin = x.0; fits = ask.fits; written = sym parts ∙ ap (λ (z : Word). spelling z ++ behind line) is ∙ ask.written }
+  abbrev ask_line_is : (x : Origin × List ℕ) → y ≡ words.Ask → IsAsk sites (suffix line) x.0 x.1 → IsAskOf sites line x.1
+  ask_line_is x is ask = record { origin = x.0; fits = ask.fits; written = sym parts ∙ ap (λ (z : Word). spelling z ++ suffix line) is ∙ ask.written }
 
-  cause_of : Refused sites y (behind line) why → IsCause (Some sites) line why
+  cause_of : Refused sites y (suffix line) why → IsCause (Some sites) line why
   cause_of (again is cause) =
       let fits : BeginsWith words.Sites line = subst (λ (z : Word). BeginsWith z line) is (begins_with y line (word_is (field line) y w)) in
       let made : IsCause (Some sites) line whys.SitesAgain = record { fits = fits; first = below_again sites line } in
@@ -343,9 +343,9 @@ pub later_cause : (sites : ℕ) (line : List ℕ) (why : Why) → sites ≤ 16 �
 unfolding later_line
 later_cause sites line why le e = by_word (word_of (field line)) refl e
   where
-    by_word : (word : Option Word) → word_of (field line) ≡ word → event_of sites word (behind line) ≡ Err why → IsCause (Some sites) line why
+    by_word : (word : Option Word) → word_of (field line) ≡ word → event_of sites word (suffix line) ≡ Err why → IsCause (Some sites) line why
     by_word None w e' = unknown_cause sites line why w cc
-    by_word (Some y) w e' = cause_of sites line y w why e (refused_word sites y (behind line) why le e')
+    by_word (Some y) w e' = cause_of sites line y w why e (refused_word sites y (suffix line) why le e')
 
 -- such a line is not right
 pub later_wrong : (sites : ℕ) (line : List ℕ) (why : Why) → later_line sites line ≡ Err why → ¬ IsRightLine (Some sites) line
@@ -367,17 +367,17 @@ pub first_is : (line : List ℕ) (event : Event) → first_line line ≡ Ok even
 unfolding first_line
 first_is line event e = by_word (bytes_eq (field line) (codes "sites")) (bytes_eq-Decides (field line) (codes "sites")).0 e
   where
-    by_read : (read : Option Event) → field line ≡ codes "sites" → sites_at (behind line) ≡ read → of_sites read ≡ Ok event → IsFirst line event
+    by_read : (read : Option Event) → field line ≡ codes "sites" → sites_at (suffix line) ≡ read → of_sites read ≡ Ok event → IsFirst line event
     by_read None w r e = absurd cc
     by_read (Some given) w r e =
         let same : given ≡ event = cc in
-        let is = sites_is (behind line) given r in
-        let parts : line ≡ codes "sites" ++ behind line = sym (take-append-drop (field_len line) line) ∙ ap (λ (f : List ℕ). f ++ behind line) w in
+        let is = sites_is (suffix line) given r in
+        let parts : line ≡ codes "sites" ++ suffix line = sym (take-append-drop (field_len line) line) ∙ ap (λ (f : List ℕ). f ++ suffix line) w in
         record { number = is.0; number_right = is.1; is = sym same ∙ is.2; written = parts ∙ is.3 }
 
-    by_word : (test : Bool) → (test ≡ true → field line ≡ codes "sites") → cond test (of_sites (sites_at (behind line))) (Err whys.NoSites) ≡ Ok event → IsFirst line event
+    by_word : (test : Bool) → (test ≡ true → field line ≡ codes "sites") → cond test (of_sites (sites_at (suffix line))) (Err whys.NoSites) ≡ Ok event → IsFirst line event
     by_word false w e = absurd cc
-    by_word true w e = by_read (sites_at (behind line)) (w refl) refl e
+    by_word true w e = by_read (sites_at (suffix line)) (w refl) refl e
 
 first_err : (read : Option Event) (why : Why) → of_sites read ≡ Err why → why ≡ whys.NoSites
 first_err None why e = cc
@@ -387,9 +387,9 @@ pub first_why : (line : List ℕ) (why : Why) → first_line line ≡ Err why �
 unfolding first_line
 first_why line why e = by_word (bytes_eq (field line) (codes "sites")) e
   where
-    by_word : (test : Bool) → cond test (of_sites (sites_at (behind line))) (Err whys.NoSites) ≡ Err why → why ≡ whys.NoSites
+    by_word : (test : Bool) → cond test (of_sites (sites_at (suffix line))) (Err whys.NoSites) ≡ Err why → why ≡ whys.NoSites
     by_word false e = cc
-    by_word true e = first_err (sites_at (behind line)) why e
+    by_word true e = first_err (sites_at (suffix line)) why e
 
 pub first_wrong : (line : List ℕ) (why : Why) → first_line line ≡ Err why → ¬ IsRightLine None line
 first_wrong line why e = λ h. let right = ap first_line h.2 ∙ first_right h.0 h.1 in absurd cc

@@ -91,37 +91,37 @@ goes_of None (events.Settle count) others few h = absurd h
 goes_of None (events.Noise site bytes) others few h = absurd h
 
 -- a bad line, behind a front of lines with these events
-record IsBadBehind (sites : Option ℕ) (given : List Event) (line : List ℕ) (why : Why) : Type 0 where
+record IsBadAfter (sites : Option ℕ) (given : List Event) (line : List ℕ) (why : Why) : Type 0 where
   no_comment : is_comment (without_returns line) ≡ false
   not_right : ¬ IsRightLine (known sites given) (without_returns line)
   cause : IsCause (known sites given) (without_returns line) why
 
-bad_here : (sites : Option ℕ) (line : List ℕ) (why : Why) → Few sites → IsLine (without_returns line) → IsBadBehind sites [] line why → line_at sites (without_returns line) ≡ Err why
+bad_here : (sites : Option ℕ) (line : List ℕ) (why : Why) → Few sites → IsLine (without_returns line) → IsBadAfter sites [] line why → line_at sites (without_returns line) ≡ Err why
 bad_here None line why few right h = bad_is_refused None (without_returns line) why few right h.not_right h.cause
 bad_here (Some sites) line why few right h = bad_is_refused (Some sites) (without_returns line) why few right h.not_right h.cause
 
 place_next : (before n at : ℕ) → at ≡ before + (1 + n) + 1 → at ≡ (before + 1) + n + 1
 place_next before n at is = omega (arith, is)
 
-bad_again : (front : List (List ℕ)) (sites : Option ℕ) (before : ℕ) (given : List Event) (line : List ℕ) (behind : List (List ℕ)) (at : ℕ) (why : Why) → Few sites → Feedless (front ++ line ∷ behind)
-    → Continues sites given → AreLines front given → at ≡ before + length front + 1 → IsBadBehind sites given line why → lines_at sites before (front ++ line ∷ behind) ≡ Err (faults.BadLine at why)
-bad_again [] sites before [] line behind at why few feeds goes written place bad =
+bad_again : (prefix : List (List ℕ)) (sites : Option ℕ) (before : ℕ) (given : List Event) (line : List ℕ) (suffix : List (List ℕ)) (at : ℕ) (why : Why) → Few sites → Feedless (prefix ++ line ∷ suffix)
+    → Continues sites given → AreLines prefix given → at ≡ before + length prefix + 1 → IsBadAfter sites given line why → lines_at sites before (prefix ++ line ∷ suffix) ≡ Err (faults.BadLine at why)
+bad_again [] sites before [] line suffix at why few feeds goes written place bad =
     let read = bad_here sites line why few (line_of_part line feeds.0) bad in
     let is : at ≡ before + 1 = omega (arith, place) in
     rw (bad.no_comment, read, is) refl
-bad_again [] sites before (event ∷ given) line behind at why few feeds goes written place bad = absurd written
-bad_again (first ∷ front) sites before [] line behind at why few feeds goes written place bad =
-    rw written.0 (bad_again front sites (before + 1) [] line behind at why few feeds.1 goes written.1 (place_next before (length front) at (omega (arith, place))) bad)
-bad_again (first ∷ front) sites before (event ∷ given) line behind at why few feeds goes (inl comment) place bad =
-    rw comment.0 (bad_again front sites (before + 1) (event ∷ given) line behind at why few feeds.1 goes comment.1 (place_next before (length front) at (omega (arith, place))) bad)
-bad_again (first ∷ front) sites before (event ∷ given) line behind at why few feeds goes (inr here) place bad =
+bad_again [] sites before (event ∷ given) line suffix at why few feeds goes written place bad = absurd written
+bad_again (first ∷ prefix) sites before [] line suffix at why few feeds goes written place bad =
+    rw written.0 (bad_again prefix sites (before + 1) [] line suffix at why few feeds.1 goes written.1 (place_next before (length prefix) at (omega (arith, place))) bad)
+bad_again (first ∷ prefix) sites before (event ∷ given) line suffix at why few feeds goes (inl comment) place bad =
+    rw comment.0 (bad_again prefix sites (before + 1) (event ∷ given) line suffix at why few feeds.1 goes comment.1 (place_next before (length prefix) at (omega (arith, place))) bad)
+bad_again (first ∷ prefix) sites before (event ∷ given) line suffix at why few feeds goes (inr here) place bad =
     let next = goes_of sites event given few goes in
-    let behind_it : IsBadBehind (sites_after sites event) given line why = record {
+    let suffix_it : IsBadAfter (sites_after sites event) given line why = record {
       no_comment = bad.no_comment;
       not_right = subst (λ (s : Option ℕ). ¬ IsRightLine s (without_returns line)) next.knows bad.not_right;
       cause = subst (λ (s : Option ℕ). IsCause s (without_returns line) why) next.knows bad.cause;
     } in
-    let others = bad_again front (sites_after sites event) (before + 1) given line behind at why next.few feeds.1 next.goes here.1 (place_next before (length front) at (omega (arith, place))) behind_it in
+    let others = bad_again prefix (sites_after sites event) (before + 1) given line suffix at why next.few feeds.1 next.goes here.1 (place_next before (length prefix) at (omega (arith, place))) suffix_it in
     rw (here.0, no_comment_line event, next.read, others) refl
 
 none_again : (lines : List (List ℕ)) (before : ℕ) → AreLines lines [] → lines_at None before lines ≡ Err (faults.BadLine (before + length lines + 1) whys.NoSites)
@@ -139,10 +139,10 @@ pub fault_again : (bytes : List ℕ) (at : ℕ) (why : Why) → IsFault bytes at
 unfolding events_of
 fault_again bytes at why (inl many) = rw (lt-ltb 16777216 (length bytes) many.long, many.place, many.cause) refl
 fault_again bytes at why (inr (inl bad)) =
-    let feeds : Feedless (bad.before ++ bad.line ∷ bad.behind) = subst Feedless bad.parted (lines_feedless bytes) in
-    let behind : IsBadBehind None bad.given bad.line why = record { no_comment = not_true_false (is_comment (without_returns bad.line)) bad.no_comment; not_right = bad.not_right; cause = bad.cause } in
+    let feeds : Feedless (bad.before ++ bad.line ∷ bad.suffix) = subst Feedless bad.separated (lines_feedless bytes) in
+    let suffix : IsBadAfter None bad.given bad.line why = record { no_comment = not_true_false (is_comment (without_returns bad.line)) bad.no_comment; not_right = bad.not_right; cause = bad.cause } in
     let place : at ≡ 0 + length bad.before + 1 = omega (arith, bad.place) in
-    rw (not_ltb 16777216 (length bytes) bad.short, bad.parted) (bad_again bad.before None 0 bad.given bad.line bad.behind at why tt feeds bad.begun bad.given_right place behind)
+    rw (not_ltb 16777216 (length bytes) bad.short, bad.separated) (bad_again bad.before None 0 bad.given bad.line bad.suffix at why tt feeds bad.begun bad.given_right place suffix)
 fault_again bytes at why (inr (inr none)) =
     let place : 0 + length (lines_of bytes) + 1 ≡ at = omega (arith, none.place) in
     rw (not_ltb 16777216 (length bytes) none.short, none.cause) (none_again (lines_of bytes) 0 none.comments ∙ ap (λ (n : ℕ). Err (faults.BadLine n whys.NoSites)) place)

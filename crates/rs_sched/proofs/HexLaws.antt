@@ -129,7 +129,7 @@ bytes_of_hex_is (a ∷ b ∷ digits) bytes e =
     let one = hex_pair_is a b first.0 first.1 in
     let more = bytes_of_hex_is digits others.0 others.1 in
     let P : List ℕ → Type 0 = λ bs. (list_all is_byte bs ≡ true) × (a ∷ b ∷ digits ≡ flat_map hex_byte bs) in
-    let joined : a ∷ b ∷ digits ≡ hex_byte first.0 ++ flat_map hex_byte others.0 = ap (λ (r : List ℕ). a ∷ b ∷ r) more.1 ∙ ap (λ (front : List ℕ). front ++ flat_map hex_byte others.0) one.1 in
+    let joined : a ∷ b ∷ digits ≡ hex_byte first.0 ++ flat_map hex_byte others.0 = ap (λ (r : List ℕ). a ∷ b ∷ r) more.1 ∙ ap (λ (prefix : List ℕ). prefix ++ flat_map hex_byte others.0) one.1 in
     subst P (some_is (first.0 ∷ others.0) bytes others.2) (and_from _ _ one.0 more.0, joined)
 
 pub bytes_of_hex_again : (bytes : List ℕ) → list_all is_byte bytes ≡ true → bytes_of_hex (flat_map hex_byte bytes) ≡ Some bytes

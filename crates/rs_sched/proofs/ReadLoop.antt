@@ -32,19 +32,19 @@ no_event (Some n) before event new e =
     cc
 
 -- what is left behind a line that gave this event
-abbrev behind : Left → Event → Left
-behind left event = record { sites = sites_after left.sites event; before = left.before; lines = left.lines }
+abbrev suffix : Left → Event → Left
+suffix left event = record { sites = sites_after left.sites event; before = left.before; lines = left.lines }
 
 -- a line was read and gave this event
 record IsRead (left : Left) (read : Result Event Why) (event : Event) (new : Left) : Type 0 where
   event_is : read ≡ Ok event
-  new_is : new ≡ behind left event
+  new_is : new ≡ suffix left event
 
 event_by_is : (left : Left) (read : Result Event Why) (event : Event) (new : Left) → event_by left read ≡ Ok (Some event, new) → IsRead left read event new
 event_by_is left (Ok found) event new e =
-    let same = same_ok (Some found, behind left found) (Some event, new) e in
+    let same = same_ok (Some found, suffix left found) (Some event, new) e in
     let given : found ≡ event = cc in
-    record { event_is = ap (λ (x : Event). Ok x) given; new_is = sym same.1 ∙ ap (behind left) given }
+    record { event_is = ap (λ (x : Event). Ok x) given; new_is = sym same.1 ∙ ap (suffix left) given }
 event_by_is left (Err why) event new e = absurd cc
 
 -- lines give this event, and then those of what is left
@@ -78,7 +78,7 @@ none_next sites before (line ∷ lines) new e = by_comment (is_comment (without_
   where
     no_none : (left : Left) (read : Result Event Why) → event_by left read ≡ Ok (None, new) → ⊥
     no_none left (Ok found) e =
-        let same = (same_ok (Some found, behind left found) (None, new) e).0 in
+        let same = (same_ok (Some found, suffix left found) (None, new) e).0 in
         cc
     no_none left (Err why) e = cc
 

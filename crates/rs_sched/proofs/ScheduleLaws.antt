@@ -14,7 +14,7 @@ use Rattle.rs_sched.specs.Schedule.{IsLater, AreLater, AreLines, IsValid, IsSche
 use Rattle.rs_sched.specs.Faults.{IsRightLine, IsCause, sites_of, IsBegun, IsFault}
 use Rattle.rs_sched.specs.Reader.{lines_at, line_at, at_end, further, sites_after, with_events, events_of}
 use Rattle.std.specs.Prelude.{IfOk, IfErr}
-use Rattle.rs_sched.specs.Reading.{GivesSchedule, FailsSchedule, TellsFault}
+use Rattle.rs_sched.specs.Reading.{GivesSchedule, FailsSchedule, ReportsFault}
 use Rattle.rs_sched.proofs.LineLaws.{line_of_part}
 use Rattle.rs_sched.proofs.CauseLaws.{later_is, later_right, later_cause, later_wrong, first_is, first_right, first_cause, first_wrong}
 
@@ -213,14 +213,14 @@ schedule_once bytes given others h k = let e = events_again bytes given h in let
 
 -- one of the lines is bad
 record BadAmong (sites : Option ℕ) (before : ℕ) (lines : List (List ℕ)) (at : ℕ) (why : Why) : Type 0 where
-  front : List (List ℕ)
+  prefix : List (List ℕ)
   line : List ℕ
-  behind : List (List ℕ)
-  parted : lines ≡ front ++ line ∷ behind
-  place : at ≡ before + length front + 1
+  suffix : List (List ℕ)
+  separated : lines ≡ prefix ++ line ∷ suffix
+  place : at ≡ before + length prefix + 1
   given : List Event
   begun : Continues sites given
-  written : AreLines front given
+  written : AreLines prefix given
   no_comment : is_comment (without_returns line) ≡ false
   not_right : ¬ IsRightLine (known sites given) (without_returns line)
   cause : IsCause (known sites given) (without_returns line) why
@@ -246,14 +246,14 @@ end_failed None before fault e =
 -- a comment stands in front
 comment_failed : (sites : Option ℕ) (before : ℕ) (line : List ℕ) (lines : List (List ℕ)) (fault : SchedFault) → IsTrue (is_comment (without_returns line)) → Failed sites (before + 1) lines fault → Failed sites before (line ∷ lines) fault
 comment_failed sites before line lines fault comment (bad at why is h) = bad at why is (record {
-  front = line ∷ h.front;
+  prefix = line ∷ h.prefix;
   line = h.line;
-  behind = h.behind;
-  parted = ap (λ (ls : List (List ℕ)). line ∷ ls) h.parted;
+  suffix = h.suffix;
+  separated = ap (λ (ls : List (List ℕ)). line ∷ ls) h.separated;
   place = omega (arith, h.place);
   given = h.given;
   begun = h.begun;
-  written = comment_more line h.front h.given comment h.written;
+  written = comment_more line h.prefix h.given comment h.written;
   no_comment = h.no_comment;
   not_right = h.not_right;
   cause = h.cause;
@@ -273,10 +273,10 @@ known_none (Some sites) line event few right e unknown = cc
 event_failed : (sites : Option ℕ) (before : ℕ) (line : List ℕ) (lines : List (List ℕ)) (event : Event) (fault : SchedFault) → (sites_after sites event ≡ None → ⊥) → Follows sites (without_returns line) event
     → Failed (sites_after sites event) (before + 1) lines fault → Failed sites before (line ∷ lines) fault
 event_failed sites before line lines event fault some follows (bad at why is h) = bad at why is (record {
-  front = line ∷ h.front;
+  prefix = line ∷ h.prefix;
   line = h.line;
-  behind = h.behind;
-  parted = ap (λ (ls : List (List ℕ)). line ∷ ls) h.parted;
+  suffix = h.suffix;
+  separated = ap (λ (ls : List (List ℕ)). line ∷ ls) h.separated;
   place = omega (arith, h.place);
   given = event ∷ h.given;
   begun = follows.begins h.given h.begun;
@@ -313,10 +313,10 @@ lines_failed (line ∷ lines) sites before fault few feeds e = by_comment (is_co
     by_line (Err why) r c e others =
         let is : fault ≡ faults.BadLine (before + 1) why = cc in
         let made : BadAmong sites before (line ∷ lines) (before + 1) why = record {
-          front = [];
+          prefix = [];
           line = line;
-          behind = lines;
-          parted = refl;
+          suffix = lines;
+          separated = refl;
           place = omega arith;
           given = [];
           begun = none_begun sites;
@@ -348,10 +348,10 @@ fault_of bytes at why short (bad k w is h) =
     let also : w ≡ why = cc in
     let made : IsFault bytes k w = inr (inl (record {
       short = short;
-      before = h.front;
+      before = h.prefix;
       line = h.line;
-      behind = h.behind;
-      parted = h.parted;
+      suffix = h.suffix;
+      separated = h.separated;
       place = omega (arith, h.place);
       given = h.given;
       begun = h.begun;
@@ -388,10 +388,10 @@ parse_found bytes (Err fault) e = tt
 pub parse_only : (bytes : List ℕ) (result : Result (List Event) SchedFault) → GivesSchedule result (events_of bytes) → (given : List Event) → IsSchedule bytes given → GivesSchedule result (Ok given)
 parse_only bytes result e given h = subst (GivesSchedule result) (events_again bytes given h) e
 
-tells : (bytes : List ℕ) (fault : SchedFault) → FailsSchedule fault (events_of bytes) → TellsFault bytes fault
-tells bytes (faults.BadLine at why) e = fault_is bytes at why e
-tells bytes faults.NoMemory e = tt
+reports : (bytes : List ℕ) (fault : SchedFault) → FailsSchedule fault (events_of bytes) → ReportsFault bytes fault
+reports bytes (faults.BadLine at why) e = fault_is bytes at why e
+reports bytes faults.NoMemory e = tt
 
-pub parse_fault : (bytes : List ℕ) (result : Result (List Event) SchedFault) → GivesSchedule result (events_of bytes) → IfErr result (λ fault. TellsFault bytes fault)
+pub parse_fault : (bytes : List ℕ) (result : Result (List Event) SchedFault) → GivesSchedule result (events_of bytes) → IfErr result (λ fault. ReportsFault bytes fault)
 parse_fault bytes (Ok given) e = tt
-parse_fault bytes (Err fault) e = tells bytes fault e
+parse_fault bytes (Err fault) e = reports bytes fault e

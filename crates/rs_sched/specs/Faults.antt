@@ -91,8 +91,8 @@ pub record IsBadLine (bytes : List ℕ) (at : ℕ) (why : Why) : Type 0 where
   pub short : length bytes ≤ 16777216
   pub before : List (List ℕ)
   pub line : List ℕ
-  pub behind : List (List ℕ)
-  pub parted : lines_of bytes ≡ before ++ line ∷ behind
+  pub suffix : List (List ℕ)
+  pub separated : lines_of bytes ≡ before ++ line ∷ suffix
   pub place : at ≡ length before + 1
   pub given : List Event
   pub begun : IsBegun given

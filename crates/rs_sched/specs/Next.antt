@@ -27,8 +27,8 @@ first_of [] = []
 first_of (line ∷ lines) = line
 
 -- the first line was read
-abbrev pub behind_first : Left → Left
-behind_first left = record { sites = left.sites; before = left.before + 1; lines = drop 1 left.lines }
+abbrev pub suffix_first : Left → Left
+suffix_first left = record { sites = left.sites; before = left.before + 1; lines = drop 1 left.lines }
 
 -- the event of the line that was just read
 abbrev pub event_by : Left → Result Event Why → Result (Option Event × Left) SchedFault

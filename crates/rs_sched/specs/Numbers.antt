@@ -43,4 +43,4 @@ noise_of (b ∷ digits) = if bytes_eq (b ∷ digits) (codes "-") then Some [] el
 
 -- bytes before those that are still read
 abbrev pub with_bytes : List ℕ → Option (List ℕ) → Option (List ℕ)
-with_bytes front read = read >>= λ bytes. Some (front ++ bytes)
+with_bytes prefix read = read >>= λ bytes. Some (prefix ++ bytes)

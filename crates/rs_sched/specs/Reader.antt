@@ -190,8 +190,8 @@ sites_after None (events.Noise site bytes) = None
 
 -- events before those that are still read
 abbrev pub with_events : List Event → Result (List Event) SchedFault → Result (List Event) SchedFault
-with_events front (Ok others) = Ok (front ++ others)
-with_events front (Err fault) = Err fault
+with_events prefix (Ok others) = Ok (prefix ++ others)
+with_events prefix (Err fault) = Err fault
 
 -- the event of line `at`, and those behind it
 abbrev pub further : ℕ → Result Event Why → (Event → Result (List Event) SchedFault) → Result (List Event) SchedFault

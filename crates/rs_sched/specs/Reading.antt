@@ -32,6 +32,6 @@ abbrev pub GivesSchedule : Result (List Event) SchedFault → Result (List Event
 GivesSchedule (Ok events) read = read ≡ Ok events
 GivesSchedule (Err fault) read = FailsSchedule fault read
 
-abbrev pub TellsFault : List ℕ → SchedFault → Type 0
-TellsFault bytes (faults.BadLine line why) = IsFault bytes line why
-TellsFault bytes faults.NoMemory = Unit {0}
+abbrev pub ReportsFault : List ℕ → SchedFault → Type 0
+ReportsFault bytes (faults.BadLine line why) = IsFault bytes line why
+ReportsFault bytes faults.NoMemory = Unit {0}

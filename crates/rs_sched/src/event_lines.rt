@@ -84,7 +84,7 @@ impl<'a> EventLines<'a> {
     fn take_line(&mut self) -> &'a [u8]
         requires { spec.is_none self.now.lines ≡ false }
         ensures line { result.now ≡ without_returns (spec.first_of self.old.lines) }
-        ensures rest { self.new ≡ spec.behind_first self.old }
+        ensures rest { self.new ≡ spec.suffix_first self.old }
     {
         let line = without_returns(self.left.next());
         self.line += 1;

@@ -27,12 +27,12 @@ fn line_len(bytes: &[u8]) -> usize
     bytes.iter().take_while(|byte| **byte != b'\n').count()
 }
 
-fn behind_feed(rest: &[u8]) -> &[u8]
+fn after_feed(rest: &[u8]) -> &[u8]
     ensures { result.now ≡ drop 1 rest.now }
 {
     match rest {
         [] => rest,
-        [_, behind @ ..] => behind,
+        [_, suffix @ ..] => suffix,
     }
 }
 
@@ -55,7 +55,7 @@ impl<'a> Lines<'a> {
         ensures rest { self.new ≡ drop 1 (drop (prefix_len spec.is_before_feed self.old) self.old) }
     {
         let (line, rest) = self.left.split_at(line_len(self.left));
-        self.left = behind_feed(rest);
+        self.left = after_feed(rest);
         line
     }
 }
@@ -65,11 +65,11 @@ pub fn without_returns(line: &[u8]) -> &[u8]
     ensures { result.now ≡ spec.without_returns line.now }
 {
     let mut left = line;
-    while let [front @ .., last] = left {
+    while let [prefix @ .., last] = left {
         if *last != b'\r' {
             return left;
         }
-        left = front;
+        left = prefix;
     }
     left
 }

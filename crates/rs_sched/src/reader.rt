@@ -4,7 +4,7 @@ ghost use Rattle.std.specs.Prelude.{◌≡◌, List, None, Ok, IfOk, IfErr};
 ghost use Rattle.rs_sched.specs.declared.event.Event.{Event};
 ghost use Rattle.rs_sched.specs.Schedule.{IsSchedule};
 ghost use Rattle.rs_sched.specs.Reader as spec;
-ghost use Rattle.rs_sched.specs.Reading.{GivesSchedule, TellsFault};
+ghost use Rattle.rs_sched.specs.Reading.{GivesSchedule, ReportsFault};
 
 use crate::event::Events;
 use crate::event_lines::EventLines;
@@ -50,7 +50,7 @@ pub fn parse_schedule(alloc: Global, bytes: &[u8]) -> Result<Events, SchedFault>
     // What is a schedule is read, unless memory is wanting.
     ensures only { (given : List Event) → IsSchedule bytes.now given → GivesSchedule result (Ok given) }
     // A refusal says the first bad line, and the first cause that fits it.
-    ensures fault { IfErr result (λ fault. TellsFault bytes.now fault) }
+    ensures fault { IfErr result (λ fault. ReportsFault bytes.now fault) }
     // Which events or which fault it is.
     ensures exact { GivesSchedule result (spec.events_of bytes.now) }
 {

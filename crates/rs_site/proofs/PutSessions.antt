@@ -17,8 +17,8 @@ pub session_beside : (user : List ℕ) (session : Session) (book : Book) (other 
 session_beside user session book other differ = rw (lookup_beside nat_list_cmp_total user session other (apart exact_bytes other user differ) book) refl
 
 -- users are the same or not
-pub user_tells : (a b : List ℕ) → (a ≡ b) ⊎ (a ≢ b)
-user_tells a b = by_test (bytes_eq a b) refl
+pub user_is : (a b : List ℕ) → (a ≡ b) ⊎ (a ≢ b)
+user_is a b = by_test (bytes_eq a b) refl
   where
     by_test : (t : Bool) → bytes_eq a b ≡ t → (a ≡ b) ⊎ (a ≢ b)
     by_test true e = inl ((bytes_eq-Decides a b).0 e)

@@ -3,7 +3,7 @@ use Rattle.std.proofs.Common.{◌≡◌, ℕ, ◌≤◌, min, List, length, None
 use Rattle.rs_parse.specs.Parsing.{Parsed, Statement, FaultAt, parsed_of, IsFault, AtToken, NoToken, AtEnd}
 use Rattle.rs_parse.proofs.ParseLaws.{parsed_spelled, fault_placed}
 use Rattle.rs_parse.proofs.Splits.{start_within, end_within}
-use Rattle.rs_site.specs.Statement.{statement_said, statement_of, place_said, place_told, SaysNothing}
+use Rattle.rs_site.specs.Statement.{statement_said, statement_of, place_said, offset_replied, SaysNothing}
 
 -- a fault stands in the text or at its end
 fault_within : (text : List ℕ) (place : ℕ) → IsFault text place → place ≤ length text
@@ -19,6 +19,6 @@ says_nothing text (FaultAt place) short e none =
     inl (subst (IsFault text) same fault)
 
 -- the place that is told is that of the text's fault
-pub told_nothing : (text : List ℕ) → length text ≤ 8192 → statement_of text ≡ None → SaysNothing text (place_told text)
-unfolding statement_of place_told
-told_nothing text short none = says_nothing text (parsed_of text) short refl none
+pub reported_nothing : (text : List ℕ) → length text ≤ 8192 → statement_of text ≡ None → SaysNothing text (offset_replied text)
+unfolding statement_of offset_replied
+reported_nothing text short none = says_nothing text (parsed_of text) short refl none

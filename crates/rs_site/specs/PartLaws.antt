@@ -9,7 +9,7 @@ use Rattle.rs_msg.specs.Limits.{IsOriginWithin, IsWithin}
 use Rattle.rs_msg.specs.Written.{message_bytes}
 use Rattle.rs_site.specs.declared.outs.Told.{Told}
 use Rattle.rs_site.specs.Asking.{has_part}
-use Rattle.rs_site.specs.Parts.{parts_of, part_bytes, message_of_told}
+use Rattle.rs_site.specs.Parts.{parts_of, part_bytes, message_of_part}
 
 -- the parts of a text, one after the other, are the text
 abbrev pub PartsAreText : Type 0
@@ -21,8 +21,8 @@ HasEachPart = (origin : Origin) (reply : Reply) (part : ℕ) → has_part origin
 
 -- a message that tells a part is within its limits
 abbrev pub PartIsWithin : Type 0
-PartIsWithin = (told : Told) (message : Message) → IsOriginWithin told.origin → message_of_told told ≡ Some message → IsWithin message
+PartIsWithin = (reported : Told) (message : Message) → IsOriginWithin reported.origin → message_of_part reported ≡ Some message → IsWithin message
 
 -- a message that tells a part fits a datagram
 abbrev pub PartFits : Type 0
-PartFits = (told : Told) (message : Message) → IsOriginWithin told.origin → message_of_told told ≡ Some message → length (message_bytes message) ≤ 32768
+PartFits = (reported : Told) (message : Message) → IsOriginWithin reported.origin → message_of_part reported ≡ Some message → length (message_bytes message) ≤ 32768

@@ -25,12 +25,12 @@ abbrev pub part_message : Origin → ℕ → List ℕ → Message
 part_message origin part text = messages.Reply (record { origin = origin; part = part; parts = parts_of text; bytes = part_bytes text part })
 
 -- the whole text of which a part is told
-abbrev pub told_text : Told → List ℕ
-told_text told = printed_reply told.origin told.reply
+abbrev pub reply_text : Told → List ℕ
+reply_text reported = printed_reply reported.origin reported.reply
 
 -- The message that tells the part. There is none where the printed reply doesn't have this part, or has too many parts.
-abbrev pub message_of_told : Told → Option Message
-message_of_told told =
-    if has_part told.origin told.reply told.part && nat_lt (parts_of (told_text told)) parts_limit
-    then Some (part_message told.origin told.part (told_text told))
+abbrev pub message_of_part : Told → Option Message
+message_of_part reported =
+    if has_part reported.origin reported.reply reported.part && nat_lt (parts_of (reply_text reported)) parts_limit
+    then Some (part_message reported.origin reported.part (reply_text reported))
     else None

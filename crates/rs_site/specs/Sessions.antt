@@ -45,5 +45,5 @@ is_there None = false
 is_there (Some reply) = true
 
 -- the last request is answered, or there was none: the next one may come
-abbrev pub may_go_on : Session → Bool
-may_go_on session = session.last == 0 || is_there session.reply
+abbrev pub last_is_answered : Session → Bool
+last_is_answered session = session.last == 0 || is_there session.reply

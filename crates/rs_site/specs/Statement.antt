@@ -20,8 +20,8 @@ place_said (FaultAt place) = min place 4294967295
 place_said (Statement stmt) = 0
 
 -- what is told of a text that says no statement that is executed
-unfoldable pub place_told : List ℕ → ℕ
-place_told text = place_said (parsed_of text)
+unfoldable pub offset_replied : List ℕ → ℕ
+offset_replied text = place_said (parsed_of text)
 
 -- The text says no statement that is executed: it has its fault at this place; or it spells a statement that isn't executed
 -- so far, and the place is 0.

@@ -4,12 +4,12 @@ use Rattle.rs_base.specs.declared.txn.Origin.{Origin}
 use Rattle.rs_base.specs.declared.reply.Reply.{Reply}
 use Rattle.rs_base.specs.declared.reply.Reply.TheVariants as replies
 use Rattle.rs_site.specs.declared.session.Session.{Session}
-use Rattle.rs_site.specs.Sessions.{session_of, may_go_on}
+use Rattle.rs_site.specs.Sessions.{session_of, last_is_answered}
 use Rattle.rs_site.specs.State.{SiteState}
 
 -- the number is above the next one, or is the next one while the last request has no reply
 abbrev pub IsAhead : Session → ℕ → Type 0
-IsAhead session number = (session.last + 1 < number) ⊎ ((number ≡ session.last + 1) × IsFalse (may_go_on session))
+IsAhead session number = (session.last + 1 < number) ⊎ ((number ≡ session.last + 1) × IsFalse (last_is_answered session))
 
 -- Nothing fails, and nothing is shown, in this stage. What is done, denied or no request is said by other laws.
 abbrev pub IsTrueReply : SiteState → Origin → Reply → Type 0

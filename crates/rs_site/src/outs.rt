@@ -38,8 +38,8 @@ pub struct Outs {
 }
 
 /// Nothing comes out.
-pub(crate) fn nothing(alloc: Global) -> Outs
-    ensures { result ≡ spec.nothing }
+pub(crate) fn no_outs(alloc: Global) -> Outs
+    ensures { result ≡ spec.no_outs }
 {
     Outs {
         sends: Items::new(alloc),
@@ -49,23 +49,23 @@ pub(crate) fn nothing(alloc: Global) -> Outs
 }
 
 /// A part of a reply goes to a peer.
-pub(crate) fn tells(
+pub(crate) fn reply_with(
     alloc: Global,
     to: &Peer,
     origin: &Origin,
     part: u32,
     reply: Reply,
 ) -> Result<Outs, NoMemory>
-    ensures { IfOk result (λ outs. outs ≡ spec.tells to.now origin.now part reply) }
+    ensures { IfOk result (λ outs. outs ≡ spec.reply_with to.now origin.now part reply) }
 {
-    let told = Told {
+    let reported = Told {
         to: *to,
         origin: *origin,
         part,
         reply,
     };
-    let mut outs = nothing(alloc);
-    outs.replies = one_item(alloc, told)?;
+    let mut outs = no_outs(alloc);
+    outs.replies = one_item(alloc, reported)?;
     Ok(outs)
 }
 
@@ -77,9 +77,9 @@ pub(crate) fn commits(
     reply: Reply,
     decided: Decided,
 ) -> Result<Outs, NoMemory>
-    ensures { IfOk result (λ outs. outs ≡ record (spec.tells to.now origin.now 0 reply) { decided = decided ∷ [] }) }
+    ensures { IfOk result (λ outs. outs ≡ record (spec.reply_with to.now origin.now 0 reply) { decided = decided ∷ [] }) }
 {
-    let mut outs = tells(alloc, to, origin, 0, reply)?;
+    let mut outs = reply_with(alloc, to, origin, 0, reply)?;
     outs.decided = one_item(alloc, decided)?;
     Ok(outs)
 }

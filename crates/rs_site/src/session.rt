@@ -72,8 +72,8 @@ impl Sessions {
     }
 
     /// Whether the user's next request may come: the last one is answered, or there was none.
-    pub fn may_go_on(&self, user: &Ident) -> bool
-        ensures { result ≡ spec.may_go_on (spec.session_of user.now self.now) }
+    pub fn last_is_answered(&self, user: &Ident) -> bool
+        ensures { result ≡ spec.last_is_answered (spec.session_of user.now self.now) }
     {
         self.last(user) == 0 || self.reply(user).is_some()
     }

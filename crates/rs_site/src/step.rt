@@ -8,7 +8,7 @@ ghost use Rattle.rs_site.specs.Step as spec;
 ghost use Rattle.rs_site.specs.declared.input.Input.TheVariants as inputs;
 
 use crate::input::Input;
-use crate::outs::{Outs, nothing};
+use crate::outs::{Outs, no_outs};
 use crate::site::Site;
 use rs_base::{NoMemory, Peer, ReadFault};
 use rs_msg::{Message, decode};
@@ -25,7 +25,7 @@ impl Site {
     {
         match message {
             Message::Ask(ask) => self.on_ask(alloc, from, ask),
-            Message::Reply(_) => Ok(nothing(alloc)),
+            Message::Reply(_) => Ok(no_outs(alloc)),
         }
     }
 
@@ -35,11 +35,11 @@ impl Site {
         ensures err { OnErr result (self.new ≡ self.old) }
     {
         if MOST_BYTES < bytes.len() {
-            return Ok(nothing(alloc));
+            return Ok(no_outs(alloc));
         }
         match decode(alloc, bytes) {
             Ok(message) => self.on_message(alloc, from, message),
-            Err(ReadFault::Malformed) => Ok(nothing(alloc)),
+            Err(ReadFault::Malformed) => Ok(no_outs(alloc)),
             Err(ReadFault::NoMemory) => Err(NoMemory),
         }
     }
@@ -52,7 +52,7 @@ impl Site {
     {
         match input {
             Input::Datagram(from, bytes) => self.on_datagram(alloc, from, bytes.as_slice()),
-            Input::Tick => Ok(nothing(alloc)),
+            Input::Tick => Ok(no_outs(alloc)),
         }
     }
 
@@ -61,7 +61,7 @@ impl Site {
     /// wanting, the site stays as it was.
     pub fn step(&mut self, alloc: Global, input: &Input) -> Result<Outs, NoMemory>
         ensures ok { IfOk result (λ outs. spec.site_step self.old input.now ≡ (self.new, outs)) }
-        ensures dropped { (from : Peer) (bytes : List ℕ) → input.now ≡ inputs.Datagram from bytes → IsDropped self.old bytes → IfOk result (λ outs. (self.new ≡ self.old) × (outs ≡ asking.nothing)) }
+        ensures dropped { (from : Peer) (bytes : List ℕ) → input.now ≡ inputs.Datagram from bytes → IsDropped self.old bytes → IfOk result (λ outs. (self.new ≡ self.old) × (outs ≡ asking.no_outs)) }
         ensures err { OnErr result (self.new ≡ self.old) }
     {
         self.on_input(alloc, input)

@@ -23,5 +23,5 @@ flat_map-enumerate-more {X} {A} print n xs i place x lt is at =
     ∙ ap (λ (k : ℕ). flat_map print (enumerate_from n (take i xs)) ++ (print (k, x) ++ [])) len
     ∙ ap (λ (end : List A). flat_map print (enumerate_from n (take i xs)) ++ end) (append-nil (print (place, x)))
 
-pub put_more : (start front middle new piece whole : List ℕ) → whole ≡ front ++ piece → middle ≡ start ++ front → new ≡ middle ++ piece → new ≡ start ++ whole
-put_more start front middle new piece whole parts one two = rw (two, one, parts) (append_assoc start front piece)
+pub put_more : (start prefix middle new piece whole : List ℕ) → whole ≡ prefix ++ piece → middle ≡ start ++ prefix → new ≡ middle ++ piece → new ≡ start ++ whole
+put_more start prefix middle new piece whole parts one two = rw (two, one, parts) (append_assoc start prefix piece)

@@ -17,9 +17,9 @@ use Rattle.rs_site.specs.Truth.{IsTrueReply}
 use Rattle.rs_site.specs.declared.outs.Decided.{Decided}
 use Rattle.rs_world.specs.declared.report.Given.{Given}
 use Rattle.rs_world.specs.declared.report.Report.{Report}
-use Rattle.rs_world.specs.Course.{Happening, Post, Deliver, course, report_of}
-use Rattle.rs_world.specs.History.{database_of, outcome_behind}
-use Rattle.rs_world.specs.Moments.{happenings, world_after, Hears, Takes}
+use Rattle.rs_world.specs.Course.{Action, Post, Deliver, course, report_of}
+use Rattle.rs_world.specs.History.{database_of, outcome_after}
+use Rattle.rs_world.specs.States.{actions, world_after, Receives, Accepts}
 
 -- the reply tells what became of a request that was taken
 abbrev pub IsFinal : Reply → Type 0
@@ -50,11 +50,11 @@ pub record IsMeaningAt (history : List Decided) (i : ℕ) (given : Given) : Type
   pub there : slice_get history i ≡ Some entry
   pub origin : entry.origin ≡ given.origin
   pub outcome : Outcome
-  pub meaning : outcome_behind (take i history) entry ≡ Some outcome
+  pub meaning : outcome_after (take i history) entry ≡ Some outcome
   pub reply : given.reply ≡ reply_of outcome
 
 -- The request of this entry was told that it is committed.
-pub record IsTold (givens : List Given) (entry : Decided) : Type 0 where
+pub record IsReplied (givens : List Given) (entry : Decided) : Type 0 where
   pub place : ℕ
   pub given : Given
   pub there : slice_get givens place ≡ Some given
@@ -63,10 +63,10 @@ pub record IsTold (givens : List Given) (entry : Decided) : Type 0 where
 
 -- The reply of this place was given when the site heard its request, and is true by what the site was then.
 pub record IsGivenTruly (events : List Event) (place : ℕ) (given : Given) : Type 0 where
-  pub before : List Happening
+  pub before : List Action
   pub site : SiteState
   pub text : List ℕ
-  pub hears : Hears events before site given.origin text
+  pub receives : Receives events before site given.origin text
   pub number : length (world_after before).replies ≡ place
   -- and the delivery gave it
   pub gives : slice_get (world_after (before ++ Deliver ∷ [])).replies place ≡ Some given
@@ -75,7 +75,7 @@ pub record IsGivenTruly (events : List Event) (place : ℕ) (given : Given) : Ty
 -- The request was taken with a text that says no statement that is executed, and for which this place is told.
 pub record IsNoRequest (events : List Event) (origin : Origin) (place : ℕ) : Type 0 where
   pub text : List ℕ
-  pub takes : Takes events origin text
+  pub accepts : Accepts events origin text
   pub no_request : statement_of text ≡ None
   pub says : SaysNothing text place
 
@@ -85,20 +85,20 @@ pub record Explains (events : List Event) (report : Report) : Type 0 where
   -- no two entries have one transaction or one request
   pub entries_distinct : (i j : ℕ) (a b : Decided) → i < j → slice_get report.history i ≡ Some a → slice_get report.history j ≡ Some b → (a.txn ≢ b.txn) × (a.origin ≢ b.origin)
   -- each entry was asked, and taken by its site, with its text
-  pub entries_asked : (i : ℕ) (entry : Decided) → slice_get report.history i ≡ Some entry → Takes events entry.origin entry.text
+  pub entries_asked : (i : ℕ) (entry : Decided) → slice_get report.history i ≡ Some entry → Accepts events entry.origin entry.text
   -- each entry has its reply
-  pub entries_told : (i : ℕ) (entry : Decided) → slice_get report.history i ≡ Some entry → IsTold report.replies entry
+  pub entries_replied : (i : ℕ) (entry : Decided) → slice_get report.history i ≡ Some entry → IsReplied report.replies entry
   -- the history at each moment is a front of that at each later one, and the last is the report's
-  pub history_grows : (before between behind : List Happening) → happenings events ≡ before ++ between ++ behind
+  pub history_grows : (before between suffix : List Action) → actions events ≡ before ++ between ++ suffix
       → (more : List Decided) × ((world_after (before ++ between)).history ≡ (world_after before).history ++ more)
-  pub history_is_last : report.history ≡ (world_after (happenings events)).history
+  pub history_is_last : report.history ≡ (world_after (actions events)).history
   -- each reply that tells of a committed request is the meaning of its entry over the database of the entries before it
   pub answers_are_meaning : (k : ℕ) (given : Given) → slice_get report.replies k ≡ Some given → IsCommitted given.reply → (i : ℕ) × IsMeaningAt report.history i given
   -- an entry that was denied changed nothing
-  pub denied_changes_nothing : (i : ℕ) (entry : Decided) (cause : Denial) → slice_get report.history i ≡ Some entry → outcome_behind (take i report.history) entry ≡ Some (Err cause) → database_of (take (i + 1) report.history) ≡ database_of (take i report.history)
+  pub denied_changes_nothing : (i : ℕ) (entry : Decided) (cause : Denial) → slice_get report.history i ≡ Some entry → outcome_after (take i report.history) entry ≡ Some (Err cause) → database_of (take (i + 1) report.history) ≡ database_of (take i report.history)
   -- an entry whose reply was given before the request of another was asked stands before that
-  pub after_what_was_reported : (before behind : List Happening) (k i j : ℕ) (given : Given) (a b : Decided)
-      → happenings events ≡ before ++ behind
+  pub after_what_was_reported : (before suffix : List Action) (k i j : ℕ) (given : Given) (a b : Decided)
+      → actions events ≡ before ++ suffix
       → slice_get (world_after before).replies k ≡ Some given → IsCommitted given.reply
       → slice_get report.history i ≡ Some a → a.origin ≡ given.origin
       → slice_get report.history j ≡ Some b → ((text : List ℕ) → Contains before (Post b.origin text) → ⊥)
@@ -108,11 +108,11 @@ pub record Explains (events : List Event) (report : Report) : Type 0 where
   -- a text that was told to be no request says no statement that is executed, and its fault stands at the place that was told
   pub syntax_true : (k place : ℕ) (given : Given) → slice_get report.replies k ≡ Some given → given.reply ≡ replies.Syntax place → IsNoRequest events given.origin place
   -- what a request is told again is what it was told first
-  pub told_again_the_same : (k l : ℕ) (a b : Given) → slice_get report.replies k ≡ Some a → slice_get report.replies l ≡ Some b → a.origin ≡ b.origin → IsFinal a.reply → IsFinal b.reply → a.reply ≡ b.reply
+  pub repeated_replies_agree : (k l : ℕ) (a b : Given) → slice_get report.replies k ≡ Some a → slice_get report.replies l ≡ Some b → a.origin ≡ b.origin → IsFinal a.reply → IsFinal b.reply → a.reply ≡ b.reply
   -- no stored section ran
   pub runs_stand : report.runs ≡ 0
   -- at each moment a site's database is that of the history so far
-  pub stores_follow : (before behind : List Happening) (number : ℕ) (site : SiteState) → happenings events ≡ before ++ behind
+  pub stores_follow : (before suffix : List Action) (number : ℕ) (site : SiteState) → actions events ≡ before ++ suffix
       → slice_get (world_after before).sites number ≡ Some site → site.database ≡ database_of (world_after before).history
   -- the one site shows the database of the whole history, its tables in order of names
   pub stores_agree : report.sites ≡ (record { site = 1; epoch = 1; tables = database_of report.history }) ∷ []

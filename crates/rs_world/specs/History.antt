@@ -20,5 +20,5 @@ abbrev pub database_of : List Decided → Database
 database_of history = fold (λ db entry. (effect db entry).0) (empty 1) history
 
 -- the outcome of an entry behind this history
-abbrev pub outcome_behind : List Decided → Decided → Option Outcome
-outcome_behind history entry = (effect (database_of history) entry).1
+abbrev pub outcome_after : List Decided → Decided → Option Outcome
+outcome_after history entry = (effect (database_of history) entry).1

@@ -58,7 +58,7 @@ impl World {
             Event::Sites(last) => self.open_sites(alloc, *last),
             Event::Ask { origin, text } => self.post(alloc, origin, text),
             Event::Settle(None) => self.settle(alloc),
-            Event::Noise(site, bytes) => self.hear_noise(alloc, *site, bytes),
+            Event::Noise(site, bytes) => self.receive_noise(alloc, *site, bytes),
             Event::Settle(Some(_)) => Ok(()),
             Event::Deliver(_) | Event::Lose(_) => Ok(()),
             Event::Tick(_, _) | Event::Stop(_, _, _) => Ok(()),

@@ -24,7 +24,7 @@ pub split_at-requires : goal.split_at-requires
 split_at-requires c =
     let places = c.args.places.now in
     let rest = c.loop-rest.rest.now in
-    let front : c.run_length.result ≡ prefix_len (alike_to places c.first-item.result) rest
+    let prefix : c.run_length.result ≡ prefix_len (alike_to places c.first-item.result) rest
     = c.run_length.ensures ∙ ap (λ (row : List Value). prefix_len (alike_to places row) rest) c.as_slice.ensures in
     omega (arith, prefix_len-le-length (alike_to places c.first-item.result) rest)
 
@@ -32,11 +32,11 @@ pub returns-in_err-push_group : goal.returns-in_err-push_group
 returns-in_err-push_group c =
     let places = c.args.places.now in
     let rest = c.loop-rest.rest.now in
-    let front : c.run_length.result ≡ prefix_len (alike_to places c.first-item.result) rest
+    let prefix : c.run_length.result ≡ prefix_len (alike_to places c.first-item.result) rest
     = c.run_length.ensures ∙ ap (λ (row : List Value). prefix_len (alike_to places row) rest) c.as_slice.ensures in
     let some : 0 < length rest = omega arith in
-    let cut = run_cut places c.first-item.result rest c.run_length.result some c.first-item.is front c.loop-rest.invariant.1 in
-    let left : grouped_by places rest ≡ c.split_at.result.0.now ∷ grouped_by places c.split_at.result.1.now = rw (c.split_at.ensures.front, c.split_at.ensures.back) cut in
+    let cut = run_cut places c.first-item.result rest c.run_length.result some c.first-item.is prefix c.loop-rest.invariant.1 in
+    let left : grouped_by places rest ≡ c.split_at.result.0.now ∷ grouped_by places c.split_at.result.1.now = rw (c.split_at.ensures.prefix, c.split_at.ensures.back) cut in
     let sums : (group_overflows c.args.items.now c.split_at.result.0.now || any_overflows c.args.items.now (grouped_by places c.split_at.result.1.now)) ≡ any_overflows c.args.items.now (grouped_by places c.args.rows.now)
     = sym (ap (any_overflows c.args.items.now) left) ∙ c.loop-rest.invariant.0.sums in
     grind (arith, common_steps)
@@ -46,11 +46,11 @@ loop-rest-preserved c =
     let places = c.args.places.now in
     let items = c.args.items.now in
     let rest = c.loop-rest.rest.now in
-    let front : c.run_length.result ≡ prefix_len (alike_to places c.first-item.result) rest
+    let prefix : c.run_length.result ≡ prefix_len (alike_to places c.first-item.result) rest
     = c.run_length.ensures ∙ ap (λ (row : List Value). prefix_len (alike_to places row) rest) c.as_slice.ensures in
     let some : 0 < length rest = omega arith in
-    let cut = run_cut places c.first-item.result rest c.run_length.result some c.first-item.is front c.loop-rest.invariant.1 in
-    let left : grouped_by places rest ≡ c.split_at.result.0.now ∷ grouped_by places c.split_at.result.1.now = rw (c.split_at.ensures.front, c.split_at.ensures.back) cut in
+    let cut = run_cut places c.first-item.result rest c.run_length.result some c.first-item.is prefix c.loop-rest.invariant.1 in
+    let left : grouped_by places rest ≡ c.split_at.result.0.now ∷ grouped_by places c.split_at.result.1.now = rw (c.split_at.ensures.prefix, c.split_at.ensures.back) cut in
     let groups = grouped_by places c.args.rows.now in
     let so_far = subst (λ (left : List (List (List Value))). Progress items c.loop-rest.given.items left groups) left c.loop-rest.invariant.0 in (
       progress_more items c.loop-rest.given.items c.split_at.result.0.now (grouped_by places c.split_at.result.1.now) groups so_far c.push_group.new.rows.items c.in_ok-push_group.ensures.0 c.in_ok-push_group.ensures.1,
@@ -61,8 +61,8 @@ pub loop-rest-smaller : goal.loop-rest-smaller
 loop-rest-smaller c =
     let places = c.args.places.now in
     let rest = c.loop-rest.rest.now in
-    let front : c.run_length.result ≡ prefix_len (alike_to places c.first-item.result) rest
+    let prefix : c.run_length.result ≡ prefix_len (alike_to places c.first-item.result) rest
     = c.run_length.ensures ∙ ap (λ (row : List Value). prefix_len (alike_to places row) rest) c.as_slice.ensures in
     let some : 0 < length rest = omega arith in
-    let more = run_some places c.first-item.result rest c.run_length.result some c.first-item.is front in
+    let more = run_some places c.first-item.result rest c.run_length.result some c.first-item.is prefix in
     omega arith

@@ -1,7 +1,7 @@
 use Rattle.std.proofs.Common.{◌≡◌, ℕ, ◌+◌, List, ◌++◌, length, min, take, drop, sym, ap, ◌∙◌, arith}
 use Rattle.std.proofs.lemmas.List.{drop-drop}
 use Rattle.std.proofs.lemmas.Grind.{common_steps}
-use Rattle.rs_base.proofs.Streams.{copied_front, nothing_left}
+use Rattle.rs_base.proofs.Streams.{copied_prefix, nothing_left}
 use Rattle.rs_base.proofs.sure.SureSourceSource.read.Goals as goal
 
 pub returns-clause-bytes : goal.returns-clause-bytes
@@ -13,6 +13,6 @@ returns-clause-bytes c =
     let rest : drop (c.self.inside.at + n) c.self.inside.bytes ≡ drop n left = sym (drop-drop n c.self.inside.at c.self.inside.bytes) in
     let count : n ≡ min (length left) (length into) = grind (arith, common_steps) in
     let copied : piece ≡ take n left ++ drop n into = grind (arith, common_steps) in (
-      sym c.self.view_is ∙ copied_front left into piece n count copied ∙ ap (λ (bs : List ℕ). take n piece ++ bs) (sym rest),
+      sym c.self.view_is ∙ copied_prefix left into piece n count copied ∙ ap (λ (bs : List ℕ). take n piece ++ bs) (sym rest),
       λ none room. rest ∙ nothing_left left into piece n count copied none room,
     )

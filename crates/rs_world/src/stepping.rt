@@ -3,7 +3,7 @@
 ghost use Rattle.std.specs.Prelude.{◌≡◌, ◌++◌, map, flat_map, OnOk};
 ghost use Rattle.rs_world.specs.Course as spec;
 
-use crate::queue::turned;
+use crate::queue::reversed;
 use crate::report::{Given, ReplyList};
 use crate::world::{Datagram, World};
 use rs_base::{Bytes, Datagrams, NoMemory, Peer, SiteNo};
@@ -38,21 +38,21 @@ fn send_all(
 ) -> Result<(), NoMemory>
     ensures { OnOk result (sent.new ≡ sent.old ++ flat_map (spec.sent_by site) sends) }
 {
-    let mut left = turned(alloc, sends)?;
+    let mut left = reversed(alloc, sends)?;
     while let Some((to, bytes)) = left.pop() {
         send_one(sent, site, to, bytes)?;
     }
     Ok(())
 }
 
-fn give_all(alloc: Global, replies: &mut ReplyList, told: Tolds) -> Result<(), NoMemory>
-    ensures { OnOk result (replies.new ≡ replies.old ++ map spec.given_of told) }
+fn give_all(alloc: Global, replies: &mut ReplyList, reported: Tolds) -> Result<(), NoMemory>
+    ensures { OnOk result (replies.new ≡ replies.old ++ map spec.given_of reported) }
 {
-    let mut left = turned(alloc, told)?;
-    while let Some(told) = left.pop() {
+    let mut left = reversed(alloc, reported)?;
+    while let Some(reported) = left.pop() {
         replies.push(Given {
-            origin: told.origin,
-            reply: told.reply,
+            origin: reported.origin,
+            reply: reported.reply,
         })?;
     }
     Ok(())
@@ -80,7 +80,7 @@ impl World {
         site: SiteNo,
         input: &Input,
     ) -> Result<(), NoMemory>
-        ensures { OnOk result (self.new ≡ spec.taken_by self.old site input.now) }
+        ensures { OnOk result (self.new ≡ spec.stepped_by self.old site input.now) }
     {
         match self.sites.step(alloc, site, input)? {
             Some(outs) => self.take_outs(alloc, site, outs),

@@ -9,6 +9,6 @@ use Rattle.rs_world.specs.Course.{course, report_of}
 use Rattle.rs_world.specs.Explains.{IsFinal}
 use Rattle.rs_world.proofs.Holding.{holds_last}
 
-pub told_again_the_same : (all : List Event) → IsValid all → IsTrue (are_accepted false all)
+pub repeated_replies_agree : (all : List Event) → IsValid all → IsTrue (are_accepted false all)
     → (k l : ℕ) (a b : Given) → slice_get (report_of (course all)).replies k ≡ Some a → slice_get (report_of (course all)).replies l ≡ Some b → a.origin ≡ b.origin → IsFinal a.reply → IsFinal b.reply → a.reply ≡ b.reply
-told_again_the_same all valid are = (holds_last all valid are).holds.kept.again
+repeated_replies_agree all valid are = (holds_last all valid are).holds.kept.again

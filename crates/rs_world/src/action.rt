@@ -44,7 +44,7 @@ fn input_of(alloc: Global, from: Peer, bytes: &Bytes) -> Result<Input, NoMemory>
 
 impl World {
     pub(crate) fn open_sites(&mut self, alloc: Global, last: SiteNo) -> Result<(), NoMemory>
-        ensures { OnOk result (self.new ≡ spec.happen self.old (spec.Open last)) }
+        ensures { OnOk result (self.new ≡ spec.act self.old (spec.Open last)) }
     {
         self.sites = Sites::open(alloc, last)?;
         Ok(())
@@ -56,20 +56,20 @@ impl World {
         origin: &Origin,
         text: &Bytes,
     ) -> Result<(), NoMemory>
-        ensures { OnOk result (self.new ≡ spec.happen self.old (spec.Post origin.now text.now)) }
+        ensures { OnOk result (self.new ≡ spec.act self.old (spec.Post origin.now text.now)) }
     {
         self.sent.push(ask_datagram(alloc, origin, text)?)?;
         Ok(())
     }
 
     /// A site is given bytes, where they are no message.
-    pub(crate) fn hear_noise(
+    pub(crate) fn receive_noise(
         &mut self,
         alloc: Global,
         site: SiteNo,
         bytes: &Bytes,
     ) -> Result<(), NoMemory>
-        ensures { OnOk result (self.new ≡ spec.happen self.old (spec.Noise site bytes.now)) }
+        ensures { OnOk result (self.new ≡ spec.act self.old (spec.Noise site bytes.now)) }
     {
         match decode(alloc, bytes.as_slice()) {
             Ok(_) => Ok(()),
@@ -89,7 +89,7 @@ impl World {
 
     /// The first datagram that wasn't delivered yet is, if there is one.
     fn deliver_next(&mut self, alloc: Global) -> Result<(), NoMemory>
-        ensures { OnOk result (self.new ≡ spec.happen self.old spec.Deliver) }
+        ensures { OnOk result (self.new ≡ spec.act self.old spec.Deliver) }
     {
         let Some(datagram) = self.sent.as_slice().get(self.delivered) else {
             return Ok(());
@@ -103,7 +103,7 @@ impl World {
     /// So many deliveries at most. Where nothing is left to deliver, no more are made.
     #[tactic(auto, using(crate::proofs::Deliveries::none_left, crate::proofs::Deliveries::one_of))]
     fn deliver_most(&mut self, alloc: Global, most: usize) -> Result<(), NoMemory>
-        ensures { OnOk result (self.new ≡ fold spec.happen self.old (replicate most spec.Deliver)) }
+        ensures { OnOk result (self.new ≡ fold spec.act self.old (replicate most spec.Deliver)) }
     {
         for _ in 0..most {
             if self.is_settled() {
@@ -116,7 +116,7 @@ impl World {
 
     #[tactic(auto, unfolding(crate::specs::Course::deliveries))]
     pub(crate) fn settle(&mut self, alloc: Global) -> Result<(), NoMemory>
-        ensures { OnOk result (self.new ≡ fold spec.happen self.old spec.deliveries) }
+        ensures { OnOk result (self.new ≡ fold spec.act self.old spec.deliveries) }
     {
         self.deliver_most(alloc, MOST_DELIVERIES)
     }

@@ -62,7 +62,7 @@ impl Told {
     /// The message that tells this part of the printed reply. There is none where the printed reply doesn't have this
     /// part, or has 2^32 parts or more. Fails where memory is wanting.
     pub fn message(&self, alloc: Global) -> Result<Option<Message>, NoMemory>
-        ensures { IfOk result (λ message. message ≡ spec.message_of_told self.now) }
+        ensures { IfOk result (λ message. message ≡ spec.message_of_part self.now) }
     {
         let mut text = Bytes::new(alloc);
         print_reply(alloc, &self.origin, &self.reply, &mut text)?;

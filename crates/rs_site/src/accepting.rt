@@ -4,9 +4,9 @@ ghost use Rattle.std.specs.Prelude.{◌≡◌, ◌+◌, ◌<◌, IfOk, IfErr, On
 ghost use Rattle.rs_mean.specs.Changes.{changed};
 ghost use Rattle.rs_site.specs.Asking as spec;
 ghost use Rattle.rs_site.specs.State.{next_txn};
-ghost use Rattle.rs_site.specs.Statement.{statement_of, place_told};
+ghost use Rattle.rs_site.specs.Statement.{statement_of, offset_replied};
 
-use crate::outs::{Decided, Outs, commits, nothing, tells};
+use crate::outs::{Decided, Outs, commits, no_outs, reply_with};
 use crate::session::Session;
 use crate::site::Site;
 use rs_base::{Bytes, NoMemory, Origin, Peer, Reply, Txn};
@@ -25,25 +25,25 @@ fn reply_of(outcome: Outcome) -> Reply
 }
 
 /// The place of a fault as a reply tells it.
-fn told(place: usize) -> u32
+fn reported(place: usize) -> u32
     ensures { result ≡ min place 4294967295 }
 {
     u32::try_from(place).unwrap_or(u32::MAX)
 }
 
 /// The statement of a text, where it is one that is executed so far, and else what is told of the text.
-#[tactic(auto, unfolding(crate::specs::Statement::statement_of, crate::specs::Statement::place_told))]
+#[tactic(auto, unfolding(crate::specs::Statement::statement_of, crate::specs::Statement::offset_replied))]
 fn statement(alloc: Global, text: &[u8]) -> Result<Result<Stmt, u32>, NoMemory>
     ensures statement { IfOk result (λ said. IfOk said (λ stmt. statement_of text.now ≡ Some stmt)) }
     ensures none { IfOk result (λ said. OnErr said (statement_of text.now ≡ None)) }
-    ensures place { IfOk result (λ said. IfErr said (λ place. place ≡ place_told text.now)) }
+    ensures place { IfOk result (λ said. IfErr said (λ place. place ≡ offset_replied text.now)) }
 {
     match parse(alloc, text) {
         Ok(stmt) => match Stmt::built(stmt) {
             Some(stmt) => Ok(Ok(stmt)),
             None => Ok(Err(0)),
         },
-        Err(ParseFault::Syntax { place }) => Ok(Err(told(place))),
+        Err(ParseFault::Syntax { place }) => Ok(Err(reported(place))),
         Err(ParseFault::NoMemory) => Err(NoMemory),
     }
 }
@@ -134,11 +134,11 @@ impl Site {
         text: Bytes,
         stmt: Stmt,
     ) -> Result<Outs, NoMemory>
-        ensures ok { IfOk result (λ outs. spec.taken_as self.old from.now origin.now text (Some stmt) ≡ (self.new, outs)) }
+        ensures ok { IfOk result (λ outs. spec.accepted_as self.old from.now origin.now text (Some stmt) ≡ (self.new, outs)) }
         ensures err { OnErr result (self.new ≡ self.old) }
     {
         if self.begun == u64::MAX {
-            return Ok(nothing(alloc));
+            return Ok(no_outs(alloc));
         }
         self.execute(alloc, from, origin, text, stmt)
     }
@@ -154,7 +154,7 @@ impl Site {
         ensures ok { IfOk result (λ outs. spec.no_request self.old from.now origin.now place ≡ (self.new, outs)) }
         ensures err { OnErr result (self.new ≡ self.old) }
     {
-        let outs = tells(alloc, from, origin, 0, Reply::Syntax(place))?;
+        let outs = reply_with(alloc, from, origin, 0, Reply::Syntax(place))?;
         self.remember(origin, Reply::Syntax(place))?;
         Ok(outs)
     }
@@ -167,7 +167,7 @@ impl Site {
         origin: &Origin,
         text: Bytes,
     ) -> Result<Outs, NoMemory>
-        ensures ok { IfOk result (λ outs. spec.taken self.old from.now origin.now text ≡ (self.new, outs)) }
+        ensures ok { IfOk result (λ outs. spec.accepted self.old from.now origin.now text ≡ (self.new, outs)) }
         ensures err { OnErr result (self.new ≡ self.old) }
     {
         match statement(alloc, text.as_slice())? {

@@ -7,46 +7,46 @@ use Rattle.std.proofs.lemmas.List.{take_at, drop_at, take-append-drop}
 use Rattle.std.proofs.lemmas.List.Folds.{list_all-append}
 use Rattle.std.proofs.lemmas.Option.{same_Some}
 use Rattle.rs_base.specs.Ident.{is_ident, is_name_byte, begins_with_letter, are_name_bytes}
-use Rattle.rs_name.specs.Reader.{is_before, behind, parted}
+use Rattle.rs_name.specs.Reader.{is_before, suffix, separated}
 
 -- ---- what is written is read
 
-until : (mark : ℕ) (front rest : List ℕ) → list_all (is_before mark) front ≡ true → prefix_len (is_before mark) (front ++ (mark ∷ rest)) ≡ length front
+until : (mark : ℕ) (prefix rest : List ℕ) → list_all (is_before mark) prefix ≡ true → prefix_len (is_before mark) (prefix ++ (mark ∷ rest)) ≡ length prefix
 until mark [] rest all = rw (eq-eqb mark mark refl) refl
-until mark (b ∷ front) rest all =
-    let both = and_parts (is_before mark b) (list_all (is_before mark) front) all in
-    let others : prefix_len (is_before mark) (front ++ (mark ∷ rest)) ≡ length front = until mark front rest both.1 in
+until mark (b ∷ prefix) rest all =
+    let both = and_parts (is_before mark b) (list_all (is_before mark) prefix) all in
+    let others : prefix_len (is_before mark) (prefix ++ (mark ∷ rest)) ≡ length prefix = until mark prefix rest both.1 in
     rw both.0 (omega (arith, others))
 
-pub parted_again : (mark : ℕ) (front rest : List ℕ) → list_all (is_before mark) front ≡ true → parted mark (front ++ (mark ∷ rest)) ≡ Some (front, rest)
-unfolding parted
-parted_again mark front rest all = rw (until mark front rest all, take_at front (mark ∷ rest) (length front) refl, drop_at front (mark ∷ rest) (length front) refl) refl
+pub separated_again : (mark : ℕ) (prefix rest : List ℕ) → list_all (is_before mark) prefix ≡ true → separated mark (prefix ++ (mark ∷ rest)) ≡ Some (prefix, rest)
+unfolding separated
+separated_again mark prefix rest all = rw (until mark prefix rest all, take_at prefix (mark ∷ rest) (length prefix) refl, drop_at prefix (mark ∷ rest) (length prefix) refl) refl
 
 -- ---- what is read is written so
 
-behind_is : (front left : List ℕ) (x : List ℕ × List ℕ) → behind front left ≡ Some x → (b : ℕ) × (left ≡ b ∷ x.1) × (front ≡ x.0)
-behind_is front [] x e = absurd cc
-behind_is front (b ∷ left) x e = let same = same_Some (front, left) x e in (b, ap (λ (p : List ℕ × List ℕ). b ∷ p.1) same, ap (λ (p : List ℕ × List ℕ). p.0) same)
+suffix_is : (prefix left : List ℕ) (x : List ℕ × List ℕ) → suffix prefix left ≡ Some x → (b : ℕ) × (left ≡ b ∷ x.1) × (prefix ≡ x.0)
+suffix_is prefix [] x e = absurd cc
+suffix_is prefix (b ∷ left) x e = let same = same_Some (prefix, left) x e in (b, ap (λ (p : List ℕ × List ℕ). b ∷ p.1) same, ap (λ (p : List ℕ × List ℕ). p.0) same)
 
 suc_of : (n : ℕ) → 1 + n ≡ suc n
 suc_of n = omega arith
 
 -- what stands behind those before the mark begins with it
-first_behind : (mark : ℕ) (bytes : List ℕ) (b : ℕ) (rest : List ℕ) → drop (prefix_len (is_before mark) bytes) bytes ≡ b ∷ rest → b ≡ mark
-first_behind mark [] b rest e = absurd cc
-first_behind mark (c ∷ bytes) b rest e = by_first (eqb_tells c mark) e (first_behind mark bytes b rest)
+first_suffix : (mark : ℕ) (bytes : List ℕ) (b : ℕ) (rest : List ℕ) → drop (prefix_len (is_before mark) bytes) bytes ≡ b ∷ rest → b ≡ mark
+first_suffix mark [] b rest e = absurd cc
+first_suffix mark (c ∷ bytes) b rest e = by_first (eqb_tells c mark) e (first_suffix mark bytes b rest)
   where
     by_first : ((eqb c mark ≡ true) × (c ≡ mark)) ⊎ ((eqb c mark ≡ false) × (c ≡ mark → ⊥)) → drop (prefix_len (is_before mark) (c ∷ bytes)) (c ∷ bytes) ≡ b ∷ rest → (drop (prefix_len (is_before mark) bytes) bytes ≡ b ∷ rest → b ≡ mark) → b ≡ mark
     by_first (inl same) e others = let at : c ∷ bytes ≡ b ∷ rest = rw same.0 at e in cc
     by_first (inr other) e others = others (rw (other.0, suc_of (prefix_len (is_before mark) bytes)) at e)
 
-pub parted_is : (mark : ℕ) (bytes : List ℕ) (x : List ℕ × List ℕ) → parted mark bytes ≡ Some x → bytes ≡ x.0 ++ (mark ∷ x.1)
-unfolding parted
-parted_is mark bytes x e =
+pub separated_is : (mark : ℕ) (bytes : List ℕ) (x : List ℕ × List ℕ) → separated mark bytes ≡ Some x → bytes ≡ x.0 ++ (mark ∷ x.1)
+unfolding separated
+separated_is mark bytes x e =
     let len = prefix_len (is_before mark) bytes in
-    let parts = behind_is (take len bytes) (drop len bytes) x e in
-    let first = first_behind mark bytes parts.0 x.1 parts.1 in
-    sym (take-append-drop len bytes) ∙ ap (λ (rest : List ℕ). take len bytes ++ rest) parts.1 ∙ ap (λ (front : List ℕ). front ++ (parts.0 ∷ x.1)) parts.2 ∙ ap (λ (b : ℕ). x.0 ++ (b ∷ x.1)) first
+    let parts = suffix_is (take len bytes) (drop len bytes) x e in
+    let first = first_suffix mark bytes parts.0 x.1 parts.1 in
+    sym (take-append-drop len bytes) ∙ ap (λ (rest : List ℕ). take len bytes ++ rest) parts.1 ∙ ap (λ (prefix : List ℕ). prefix ++ (parts.0 ∷ x.1)) parts.2 ∙ ap (λ (b : ℕ). x.0 ++ (b ∷ x.1)) first
 
 -- ---- bytes without the mark
 
@@ -63,5 +63,5 @@ all_before p mark h (b ∷ bytes) all =
 pub ident_free : (mark : ℕ) → is_name_byte mark ≡ false → (ident : List ℕ) → IsTrue (is_ident ident) → list_all (is_before mark) ident ≡ true
 ident_free mark h ident is = all_before is_name_byte mark h ident (and_parts (leb (length ident) 24 && begins_with_letter ident) (are_name_bytes ident) is).1
 
-pub both_free : (mark : ℕ) (front rest : List ℕ) → list_all (is_before mark) front ≡ true → list_all (is_before mark) rest ≡ true → list_all (is_before mark) (front ++ rest) ≡ true
-both_free mark front rest all others = list_all-append (is_before mark) front rest ∙ and_from (list_all (is_before mark) front) (list_all (is_before mark) rest) all others
+pub both_free : (mark : ℕ) (prefix rest : List ℕ) → list_all (is_before mark) prefix ≡ true → list_all (is_before mark) rest ≡ true → list_all (is_before mark) (prefix ++ rest) ≡ true
+both_free mark prefix rest all others = list_all-append (is_before mark) prefix rest ∙ and_from (list_all (is_before mark) prefix) (list_all (is_before mark) rest) all others
