@@ -29,4 +29,4 @@ pub use reserved::is_reserved;
 pub use select::{Item, Key, KeyBy, Keys, Select, SelectItems, TableRef, TableRefs};
 pub use shape::{Places, Shape, ShapeItem, ShapeItems, ShapeKey, ShapeKeys};
 pub use stmt::{Dml, Dmls, Idents, Stmt};
-pub use token::{Mark, Token, Tokens};
+pub use token::{Symbol, Token, Tokens};

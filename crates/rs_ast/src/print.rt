@@ -9,7 +9,7 @@ use crate::ending::Ending;
 use crate::reserved::is_reserved;
 use crate::spell::Spell;
 use crate::stmt::Stmt;
-use crate::token::{Mark, Token, Tokens};
+use crate::token::{Symbol, Token, Tokens};
 use rs_base::{Bytes, NoMemory, Txt, Value, print_number, print_value};
 use std::alloc::Global;
 
@@ -40,27 +40,27 @@ fn put_text(alloc: Global, out: &mut Bytes, text: &Txt) -> Result<(), NoMemory>
     print_value(alloc, &value, out)
 }
 
-#[tactic(auto, unfolding(crate::specs::Printed::printed_mark))]
-fn mark_text(mark: Mark) -> &'static [u8]
-    ensures { result.now ≡ spec.printed_mark mark }
+#[tactic(auto, unfolding(crate::specs::Printed::printed_symbol))]
+fn symbol_text(symbol: Symbol) -> &'static [u8]
+    ensures { result.now ≡ spec.printed_symbol symbol }
 {
-    match mark {
-        Mark::Open => b"(",
-        Mark::Close => b")",
-        Mark::Comma => b",",
-        Mark::Dot => b".",
-        Mark::Semicolon => b";",
-        Mark::At => b"@",
-        Mark::Star => b"*",
-        Mark::Colon => b":",
-        Mark::Plus => b"+",
-        Mark::Minus => b"-",
-        Mark::Equal => b"=",
-        Mark::NotEqual => b"<>",
-        Mark::Less => b"<",
-        Mark::LessOrEqual => b"<=",
-        Mark::Greater => b">",
-        Mark::GreaterOrEqual => b">=",
+    match symbol {
+        Symbol::Open => b"(",
+        Symbol::Close => b")",
+        Symbol::Comma => b",",
+        Symbol::Dot => b".",
+        Symbol::Semicolon => b";",
+        Symbol::At => b"@",
+        Symbol::Star => b"*",
+        Symbol::Colon => b":",
+        Symbol::Plus => b"+",
+        Symbol::Minus => b"-",
+        Symbol::Equal => b"=",
+        Symbol::NotEqual => b"<>",
+        Symbol::Less => b"<",
+        Symbol::LessOrEqual => b"<=",
+        Symbol::Greater => b">",
+        Symbol::GreaterOrEqual => b">=",
     }
 }
 
@@ -72,7 +72,7 @@ fn put_token(alloc: Global, out: &mut Bytes, token: &Token) -> Result<(), NoMemo
         Token::Word(word) => put_word(out, word.as_bytes()),
         Token::Number(n) => print_number(alloc, *n, out),
         Token::Text(text) => put_text(alloc, out, text),
-        Token::Mark(mark) => out.extend(mark_text(*mark)),
+        Token::Symbol(symbol) => out.extend(symbol_text(*symbol)),
     }
 }
 

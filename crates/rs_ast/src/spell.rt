@@ -12,7 +12,7 @@ mod select;
 mod stmt;
 mod value;
 
-use crate::token::{Mark, Token, Tokens};
+use crate::token::{Symbol, Token, Tokens};
 use rs_base::{Ident, NoMemory};
 use std::alloc::Global;
 
@@ -62,10 +62,10 @@ fn number(n: u64, out: &mut Tokens) -> Result<(), NoMemory>
     Ok(())
 }
 
-fn mark(mark: Mark, out: &mut Tokens) -> Result<(), NoMemory>
-    ensures { OnOk result (out.new ≡ out.old ++ tokens.Mark mark ∷ []) }
+fn symbol(symbol: Symbol, out: &mut Tokens) -> Result<(), NoMemory>
+    ensures { OnOk result (out.new ≡ out.old ++ tokens.Symbol symbol ∷ []) }
 {
-    out.push(Token::Mark(mark))?;
+    out.push(Token::Symbol(symbol))?;
     Ok(())
 }
 
@@ -105,7 +105,7 @@ fn list<T: Spell>(
 fn comma_list<T: Spell>(alloc: Global, items: &[T], out: &mut Tokens) -> Result<(), NoMemory>
     ensures { OnOk result (out.new ≡ out.old ++ spec.spelled_list spec.comma T.spelled items.now) }
 {
-    list(alloc, &Token::Mark(Mark::Comma), items, out)
+    list(alloc, &Token::Symbol(Symbol::Comma), items, out)
 }
 
 /// The items in brackets, with commas.
@@ -113,7 +113,7 @@ fn comma_list<T: Spell>(alloc: Global, items: &[T], out: &mut Tokens) -> Result<
 fn tuple<T: Spell>(alloc: Global, items: &[T], out: &mut Tokens) -> Result<(), NoMemory>
     ensures { OnOk result (out.new ≡ out.old ++ spec.spelled_tuple T.spelled items.now) }
 {
-    mark(Mark::Open, out)?;
+    symbol(Symbol::Open, out)?;
     comma_list(alloc, items, out)?;
-    mark(Mark::Close, out)
+    symbol(Symbol::Close, out)
 }

@@ -9,7 +9,7 @@ use std::alloc::Global;
 
 /// A mark of one or two characters.
 #[derive(Clone, Copy, Debug, PartialEq, Eq)]
-pub enum Mark {
+pub enum Symbol {
     Open,
     Close,
     Comma,
@@ -34,28 +34,28 @@ pub enum Token {
     Word(Ident),
     Number(u64),
     Text(Txt),
-    Mark(Mark),
+    Symbol(Symbol),
 }
 
 pub type Tokens = Items<Token>;
 
-#[tactic(auto, unfolding(crate::specs::Token::same_mark))]
-fn same_mark(mark: Mark, other: Mark) -> bool
-    ensures { result ≡ spec.same_mark mark other }
+#[tactic(auto, unfolding(crate::specs::Token::same_symbol))]
+fn same_symbol(symbol: Symbol, other: Symbol) -> bool
+    ensures { result ≡ spec.same_symbol symbol other }
 {
-    mark == other
+    symbol == other
 }
 
 impl Token {
     /// Whether it is this mark.
-    pub fn is_mark(&self, mark: Mark) -> bool
-        ensures { result ≡ spec.is_mark mark self.now }
+    pub fn is_symbol(&self, symbol: Symbol) -> bool
+        ensures { result ≡ spec.is_symbol symbol self.now }
     {
         match self {
             Token::Word(_) => false,
             Token::Number(_) => false,
             Token::Text(_) => false,
-            Token::Mark(other) => same_mark(*other, mark),
+            Token::Symbol(other) => same_symbol(*other, symbol),
         }
     }
 
@@ -67,7 +67,7 @@ impl Token {
             Token::Word(other) => other.as_bytes() == word,
             Token::Number(_) => false,
             Token::Text(_) => false,
-            Token::Mark(_) => false,
+            Token::Symbol(_) => false,
         }
     }
 
@@ -78,7 +78,7 @@ impl Token {
             Token::Word(word) => Ok(Token::Word(*word)),
             Token::Number(n) => Ok(Token::Number(*n)),
             Token::Text(text) => Ok(Token::Text(text.copy(alloc)?)),
-            Token::Mark(mark) => Ok(Token::Mark(*mark)),
+            Token::Symbol(symbol) => Ok(Token::Symbol(*symbol)),
         }
     }
 }

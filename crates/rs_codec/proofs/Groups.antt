@@ -7,7 +7,7 @@ use Rattle.std.proofs.lemmas.List.{take_more_set}
 use Rattle.std.proofs.lemmas.List.Elements.{All-nil, All-cons}
 use Rattle.rs_base.specs.Sizes.{groups_within}
 use Rattle.rs_base.proofs.SizeLaws.{groups_last, groups_more}
-use Rattle.rs_codec.specs.Spelling.{IsGroups, Takes}
+use Rattle.rs_codec.specs.Encoding.{IsGroups, Takes}
 
 -- one more group below those of what is above it
 pub longer : (b n high : ℕ) (bytes : List ℕ) → 128 ≤ b → b < 256 → 0 < high → n + 128 ≡ b + 128 * high → IsGroups bytes high → IsGroups (b ∷ bytes) n
@@ -75,7 +75,7 @@ writes_last bytes at rest n within last so_far = subst (λ (xs : List ℕ). IsGr
 
 -- no number up to a limit is spelled at the front of the bytes
 abbrev pub NoneUpTo : ℕ → List ℕ → Type 0
-NoneUpTo limit bytes = (n : ℕ) (spelling rest : List ℕ) → n ≤ limit → IsGroups spelling n → bytes ≡ spelling ++ rest → ⊥
+NoneUpTo limit bytes = (n : ℕ) (encoding rest : List ℕ) → n ≤ limit → IsGroups encoding n → bytes ≡ encoding ++ rest → ⊥
 
 -- a number is no less than its first byte
 pub none_below_first : (bytes others : List ℕ) (first limit : ℕ) → bytes ≡ first ∷ others → limit < first → NoneUpTo limit bytes
@@ -84,7 +84,7 @@ none_below_first bytes others first limit e large n (b ∷ []) rest h g f = omeg
 none_below_first bytes others first limit e large n (b ∷ c ∷ bs) rest h g f = omega (arith, first_is first b others (c ∷ (bs ++ rest)) (sym e ∙ f), g.3, g.4)
 
 -- the groups above the first one
-above : (bytes others : List ℕ) (first n : ℕ) (spelling rest : List ℕ) → bytes ≡ first ∷ others → 128 ≤ first → IsGroups spelling n → bytes ≡ spelling ++ rest
+above : (bytes others : List ℕ) (first n : ℕ) (encoding rest : List ℕ) → bytes ≡ first ∷ others → 128 ≤ first → IsGroups encoding n → bytes ≡ encoding ++ rest
     → (high : ℕ) × (0 < high) × (n + 128 ≡ first + 128 * high) × (tail : List ℕ) × IsGroups tail high × (others ≡ tail ++ rest)
 above bytes others first n [] rest e large g f = absurd g
 above bytes others first n (b ∷ []) rest e large g f = absurd (omega (arith, first_is first b others rest (sym e ∙ f), g.0))
@@ -93,23 +93,23 @@ above bytes others first n (b ∷ c ∷ bs) rest e large g f =
     (g.2, g.3, omega (arith, first_is first b others (c ∷ (bs ++ rest)) same, g.4), c ∷ bs, g.5, others_are first b others (c ∷ (bs ++ rest)) same)
 
 pub none_above : (bytes others : List ℕ) (first limit : ℕ) → bytes ≡ first ∷ others → 128 ≤ first → first ≤ limit → NoneUpTo ((limit - (first - 128)) / 128) others → NoneUpTo limit bytes
-none_above bytes others first limit e large within none n spelling rest h g f =
-    let a = above bytes others first n spelling rest e large g f in
+none_above bytes others first limit e large within none n encoding rest h g f =
+    let a = above bytes others first n encoding rest e large g f in
     none a.0 a.3 rest (omega (arith, a.2)) a.4 a.5
 
 pub none_above_zero : (bytes others suffix : List ℕ) (first limit high : ℕ) → bytes ≡ first ∷ others → 128 ≤ first → Takes IsGroups others suffix high → high ≡ 0 → NoneUpTo limit bytes
-none_above_zero bytes others suffix first limit high e large t is_zero n spelling rest h g f =
-    let a = above bytes others first n spelling rest e large g f in
-    let same = one_groups t.spelling a.3 suffix rest high a.0 t.spelled a.4 (sym t.parts ∙ a.5) in
+none_above_zero bytes others suffix first limit high e large t is_zero n encoding rest h g f =
+    let a = above bytes others first n encoding rest e large g f in
+    let same = one_groups t.encoding a.3 suffix rest high a.0 t.encoded a.4 (sym t.parts ∙ a.5) in
     omega (arith, same.1, a.1)
 
 pub takes_last : (bytes others : List ℕ) (first : ℕ) → bytes ≡ first ∷ others → first < 128 → Takes IsGroups bytes others first
-takes_last bytes others first e last = record { spelling = first ∷ []; spelled = (last, refl); parts = e }
+takes_last bytes others first e last = record { encoding = first ∷ []; encoded = (last, refl); parts = e }
 
 pub takes_more : (bytes others suffix : List ℕ) (first high : ℕ) → bytes ≡ first ∷ others → 128 ≤ first → first < 256 → 0 < high → Takes IsGroups others suffix high → Takes IsGroups bytes suffix (first - 128 + 128 * high)
 takes_more bytes others suffix first high e large below more t = record {
-  spelling = first ∷ t.spelling;
-  spelled = longer first (first - 128 + 128 * high) high t.spelling large below more (omega arith) t.spelled;
+  encoding = first ∷ t.encoding;
+  encoded = longer first (first - 128 + 128 * high) high t.encoding large below more (omega arith) t.encoded;
   parts = e ∙ ap (λ (xs : List ℕ). first ∷ xs) t.parts;
 }
 

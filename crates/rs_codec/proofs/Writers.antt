@@ -4,11 +4,11 @@ use Rattle.std.specs.Prelude.{FitsSigned}
 use Rattle.std.specs.Int.{w64}
 use Rattle.std.proofs.lemmas.Bool.{cases_lt, lt-ltb, le-ltb}
 use Rattle.std.proofs.Math.Nat.{pow-suc}
-use Rattle.rs_codec.specs.Spelling.{IsGroups, IsCount, count_of, IsInt, IsText, Puts}
+use Rattle.rs_codec.specs.Encoding.{IsGroups, IsCount, count_of, IsInt, IsText, Puts}
 use Rattle.rs_codec.specs.Written.{groups_bytes, count_bytes, int_bytes, text_bytes}
-use Rattle.rs_codec.specs.Laws.{IsWrittenBy, IsSpelledOnce}
+use Rattle.rs_codec.specs.Laws.{IsWrittenBy, IsEncodedOnce}
 use Rattle.rs_codec.proofs.Groups.{longer, same_prefix}
-use Rattle.rs_codec.proofs.Spellings.{count_below}
+use Rattle.rs_codec.proofs.Encodings.{count_below}
 
 -- ---- one spelling
 
@@ -23,13 +23,13 @@ same_groups (x ∷ c ∷ a) (y ∷ d ∷ b) n p q =
     let high : p.2 ≡ q.2 = omega (arith, first, p.4, q.4) in
     same_prefix x y (c ∷ a) (d ∷ b) first (same_groups (c ∷ a) (d ∷ b) q.2 (subst (λ (h : ℕ). IsGroups (c ∷ a) h) high p.5) q.5)
 
-pub once_count : IsSpelledOnce IsCount
+pub once_count : IsEncodedOnce IsCount
 once_count a b n p q = same_groups a b n p.groups q.groups
 
-pub once_int : IsSpelledOnce IsInt
+pub once_int : IsEncodedOnce IsInt
 once_int a b z p q = once_count a b (count_of z) p q
 
-pub once_text : IsSpelledOnce IsText
+pub once_text : IsEncodedOnce IsText
 once_text a b text p q = p.parts ∙ ap (λ (count : List ℕ). count ++ text) (once_count p.count q.count (length text) p.counted q.counted) ∙ sym q.parts
 
 -- ---- as it is written
@@ -70,5 +70,5 @@ length_count n = length_groups 9 n
 
 -- ---- what is put
 
-pub puts_written : {X : Type 0} (IsX : List ℕ → X → Type 0) (old new written : List ℕ) (x : X) → IsSpelledOnce IsX → IsX written x → Puts IsX old new x → new ≡ old ++ written
-puts_written IsX old new written x once is p = p.parts ∙ ap (λ (s : List ℕ). old ++ s) (once p.spelling written x p.spelled is)
+pub puts_written : {X : Type 0} (IsX : List ℕ → X → Type 0) (old new written : List ℕ) (x : X) → IsEncodedOnce IsX → IsX written x → Puts IsX old new x → new ≡ old ++ written
+puts_written IsX old new written x once is p = p.parts ∙ ap (λ (s : List ℕ). old ++ s) (once p.encoding written x p.encoded is)

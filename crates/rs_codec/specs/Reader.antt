@@ -10,16 +10,16 @@ byte_at [] = None
 byte_at (b ∷ bytes) = if nat_lt b 256 then Some (b, bytes) else None
 
 -- the number, if these bytes spell it
-abbrev pub if_spelled : List ℕ → List ℕ → ℕ → List ℕ → Option (ℕ × List ℕ)
-if_spelled bytes spelling n rest = if bytes_eq bytes spelling then Some (n, rest) else None
+abbrev pub if_encoded : List ℕ → List ℕ → ℕ → List ℕ → Option (ℕ × List ℕ)
+if_encoded bytes encoding n rest = if bytes_eq bytes encoding then Some (n, rest) else None
 
 -- four bytes, the highest first
 unfoldable pub u32_at : List ℕ → Option (ℕ × List ℕ)
-u32_at bytes = let n = from_be_bytes w32 (take 4 bytes) % 2 ^ 32 in if_spelled (take 4 bytes) (to_be_bytes w32 n) n (drop 4 bytes)
+u32_at bytes = let n = from_be_bytes w32 (take 4 bytes) % 2 ^ 32 in if_encoded (take 4 bytes) (to_be_bytes w32 n) n (drop 4 bytes)
 
 -- eight bytes, the highest first
 unfoldable pub u64_at : List ℕ → Option (ℕ × List ℕ)
-u64_at bytes = let n = from_be_bytes w64 (take 8 bytes) % 2 ^ 64 in if_spelled (take 8 bytes) (to_be_bytes w64 n) n (drop 8 bytes)
+u64_at bytes = let n = from_be_bytes w64 (take 8 bytes) % 2 ^ 64 in if_encoded (take 8 bytes) (to_be_bytes w64 n) n (drop 8 bytes)
 
 -- a first group and what stands above it, which isn't 0
 abbrev pub above_group : ℕ → ℕ × List ℕ → Option (ℕ × List ℕ)

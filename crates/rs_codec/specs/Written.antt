@@ -1,7 +1,7 @@
 -- The spelling of each field, as a function of what it spells:
 --     count_bytes n, int_bytes z, text_bytes text
 use Rattle.std.specs.Prelude.{ℕ, zero, suc, ◌+◌, ◌/◌, ◌%◌, ℤ, nat_lt, List, [], ◌∷◌, ◌++◌, length, if◌then◌else◌}
-use Rattle.rs_codec.specs.Spelling.{count_of}
+use Rattle.rs_codec.specs.Encoding.{count_of}
 
 -- the groups of a number, with at most so many behind the first
 abbrev pub groups_bytes : ℕ → ℕ → List ℕ

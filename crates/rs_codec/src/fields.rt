@@ -2,7 +2,7 @@
 
 ghost use Rattle.std.specs.Prelude.{◌≡◌, ◌<◌, ◌≤◌, ℕ, ℤ, List, [], ◌∷◌, ◌++◌, length, Some, None, IfSome, IfNone};
 ghost use Rattle.std.specs.Int.{w32, w64, to_be_bytes};
-ghost use Rattle.rs_codec.specs.Spelling.{count_of, IsGroups, IsCount, IsInt, IsText, Takes, NoneBegins};
+ghost use Rattle.rs_codec.specs.Encoding.{count_of, IsGroups, IsCount, IsInt, IsText, Takes, NoneBegins};
 ghost use Rattle.rs_codec.specs.Reader as reader;
 
 use std::marker::Model;
@@ -37,7 +37,7 @@ fn u64_of(bytes: &[u8; 8]) -> u64
 fn groups(bytes: &[u8], limit: u64) -> Option<(u64, &[u8])>
     ensures within { IfSome result (λ found. found.0 ≤ limit) }
     ensures found { IfSome result (λ found. Takes IsGroups bytes.now found.1.now found.0) }
-    ensures none { IfNone result ((n : ℕ) (spelling rest : List ℕ) → n ≤ limit → IsGroups spelling n → bytes.now ≡ spelling ++ rest → ⊥) }
+    ensures none { IfNone result ((n : ℕ) (encoding rest : List ℕ) → n ≤ limit → IsGroups encoding n → bytes.now ≡ encoding ++ rest → ⊥) }
 {
     let (first, rest) = bytes.split_first()?;
     let first = u64::from(*first);

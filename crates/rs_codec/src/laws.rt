@@ -4,39 +4,39 @@
 ghost use Rattle.std.specs.Prelude.{◌<◌, ◌≤◌, ◌^◌, ◌≡◌, ◌+◌, List, ℕ, ℤ, length, FitsSigned};
 ghost use Rattle.std.specs.Int.{w64};
 ghost use Rattle.rs_base.specs.Sizes.{count_of, count_size};
-ghost use Rattle.rs_codec.specs.Spelling.{IsByte, IsU32, IsU64, IsCount, IsInt, IsText};
+ghost use Rattle.rs_codec.specs.Encoding.{IsByte, IsU32, IsU64, IsCount, IsInt, IsText};
 ghost use Rattle.rs_codec.specs.Written.{count_bytes, int_bytes, text_bytes};
 ghost use Rattle.rs_codec.specs.Reader.{byte_at, u32_at, u64_at, count_at, int_at, text_at};
-ghost use Rattle.rs_codec.specs.Laws.{HasOneSpelling, IsSpelled, IsSpelledOnce, IsWrittenBy, IsReadBy, AreBytes};
+ghost use Rattle.rs_codec.specs.Laws.{HasOneEncoding, IsEncoded, IsEncodedOnce, IsWrittenBy, IsReadBy, AreBytes};
 
 /// A count has one spelling, which begins no other.
 pub fn one_count()
-    ensures { HasOneSpelling IsCount }
+    ensures { HasOneEncoding IsCount }
 {}
 
 /// An integer has one spelling, which begins no other.
 pub fn one_int()
-    ensures { HasOneSpelling IsInt }
+    ensures { HasOneEncoding IsInt }
 {}
 
 /// A text has one spelling, which begins no other.
 pub fn one_text()
-    ensures { HasOneSpelling IsText }
+    ensures { HasOneEncoding IsText }
 {}
 
 /// Each number of 64 bits has a spelling as a count.
 pub fn each_count()
-    ensures { IsSpelled IsCount (λ n. n < 2 ^ 64) }
+    ensures { IsEncoded IsCount (λ n. n < 2 ^ 64) }
 {}
 
 /// Each integer of 64 bits has a spelling.
 pub fn each_int()
-    ensures { IsSpelled IsInt (λ n. FitsSigned w64 n) }
+    ensures { IsEncoded IsInt (λ n. FitsSigned w64 n) }
 {}
 
 /// Each text of fewer than `2 ^ 64` bytes has a spelling.
 pub fn each_text()
-    ensures { IsSpelled IsText (λ text. length text < 2 ^ 64) }
+    ensures { IsEncoded IsText (λ text. length text < 2 ^ 64) }
 {}
 
 /// A count is spelled in bytes.
@@ -62,10 +62,10 @@ pub fn written()
 {}
 
 /// A count, an integer and a text have no second spelling.
-pub fn spelled_once()
-    ensures count { IsSpelledOnce IsCount }
-    ensures int { IsSpelledOnce IsInt }
-    ensures text { IsSpelledOnce IsText }
+pub fn encoded_once()
+    ensures count { IsEncodedOnce IsCount }
+    ensures int { IsEncodedOnce IsInt }
+    ensures text { IsEncodedOnce IsText }
 {}
 
 /// A count takes at most ten bytes.

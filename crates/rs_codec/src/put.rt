@@ -2,7 +2,7 @@
 
 ghost use Rattle.std.specs.Prelude.{◌≡◌, ◌≤◌, [], ◌∷◌, ◌++◌, take, OnOk, OnErr};
 ghost use Rattle.std.specs.Int.{w32, w64, to_be_bytes};
-ghost use Rattle.rs_codec.specs.Spelling.{IsCount, IsInt, IsText, Puts};
+ghost use Rattle.rs_codec.specs.Encoding.{IsCount, IsInt, IsText, Puts};
 ghost use Rattle.rs_codec.specs.Written.{count_bytes, int_bytes, text_bytes};
 
 use byteorder::{BigEndian, ByteOrder};
@@ -42,7 +42,7 @@ pub fn put_u64(out: &mut Bytes, n: u64) -> Result<(), NoMemory>
 /// Writes the groups of a number over the first bytes, and answers how many there are.
 fn write_groups(bytes: &mut [u8; LONGEST], n: u64) -> usize
     ensures within { result ≤ 10 }
-    ensures spelled { IsCount (take result bytes.new) n }
+    ensures encoded { IsCount (take result bytes.new) n }
 {
     let mut rest = n;
     for at in 0..LONGEST - 1 {

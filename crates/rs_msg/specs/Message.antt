@@ -6,7 +6,7 @@
 use Rattle.std.specs.Prelude.{◌≡◌, ℕ, List, ◌∷◌, ◌++◌}
 use Rattle.std.specs.Int.{w32, w64, to_be_bytes}
 use Rattle.rs_base.specs.declared.txn.Origin.{Origin}
-use Rattle.rs_codec.specs.Spelling.{IsText}
+use Rattle.rs_codec.specs.Encoding.{IsText}
 use Rattle.rs_msg.specs.declared.message.Ask.{Ask}
 use Rattle.rs_msg.specs.declared.message.ReplyPart.{ReplyPart}
 use Rattle.rs_msg.specs.declared.message.Message.{Message}
@@ -14,8 +14,8 @@ use Rattle.rs_msg.specs.declared.message.Message.TheVariants as messages
 use Rattle.rs_msg.specs.Limits.{IsAskWithin, IsOriginWithin, IsReplyWithin}
 
 -- what each message begins with
-abbrev pub mark : ℕ
-mark = 82
+abbrev pub magic : ℕ
+magic = 82
 
 pub record IsAsk (bytes : List ℕ) (ask : Ask) : Type 0 where
   pub within : IsAskWithin ask
@@ -41,5 +41,5 @@ pub record IsReply (bytes : List ℕ) (reply : ReplyPart) : Type 0 where
 
 -- the whole of a datagram
 abbrev pub IsMessage : List ℕ → Message → Type 0
-IsMessage bytes (messages.Ask ask) = (fields : List ℕ) × IsAsk fields ask × (bytes ≡ mark ∷ 1 ∷ fields)
-IsMessage bytes (messages.Reply reply) = (fields : List ℕ) × IsReply fields reply × (bytes ≡ mark ∷ 2 ∷ fields)
+IsMessage bytes (messages.Ask ask) = (fields : List ℕ) × IsAsk fields ask × (bytes ≡ magic ∷ 1 ∷ fields)
+IsMessage bytes (messages.Reply reply) = (fields : List ℕ) × IsReply fields reply × (bytes ≡ magic ∷ 2 ∷ fields)

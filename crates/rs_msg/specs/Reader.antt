@@ -9,7 +9,7 @@ use Rattle.rs_msg.specs.declared.message.ReplyPart.{ReplyPart}
 use Rattle.rs_msg.specs.declared.message.Message.{Message}
 use Rattle.rs_msg.specs.declared.message.Message.TheVariants as messages
 use Rattle.rs_msg.specs.Limits.{ask_limit}
-use Rattle.rs_msg.specs.Message.{mark}
+use Rattle.rs_msg.specs.Message.{magic}
 
 -- ---- fields
 
@@ -80,7 +80,7 @@ kind_at bytes = do
 unfoldable pub message_at : List ℕ → Option (Message × List ℕ)
 message_at bytes = do
   first ← byte_at bytes
-  if first.0 == mark then kind_at first.1 else None
+  if first.0 == magic then kind_at first.1 else None
 
 -- and nothing behind them
 abbrev pub alone : Message × List ℕ → Option Message

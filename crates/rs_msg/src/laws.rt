@@ -11,14 +11,14 @@ ghost use Rattle.rs_msg.specs.Reader.{message_of};
 ghost use Rattle.rs_msg.specs.Written.{message_bytes};
 
 /// A message has one spelling, and a spelling is of one message, which is within its limits.
-pub fn one_spelling()
-    ensures spelling { (a b : List ℕ) (m : Message) → IsMessage a m → IsMessage b m → a ≡ b }
+pub fn one_encoding()
+    ensures encoding { (a b : List ℕ) (m : Message) → IsMessage a m → IsMessage b m → a ≡ b }
     ensures message { (bytes : List ℕ) (m n : Message) → IsMessage bytes m → IsMessage bytes n → m ≡ n }
     ensures within { (bytes : List ℕ) (m : Message) → IsMessage bytes m → IsWithin m }
 {}
 
 /// What is read is what is spelled.
-pub fn read_is_spelled()
+pub fn read_is_encoded()
     ensures { (bytes : List ℕ) (m : Message) → IsMessage bytes m ↔ (message_of bytes ≡ Some m) }
 {}
 

@@ -9,7 +9,7 @@ mod read;
 mod tests;
 
 pub use laws::{
-    ask_fits, each_message, one_spelling, read_is_spelled, reply_fits, written_is_read,
+    ask_fits, each_message, one_encoding, read_is_encoded, reply_fits, written_is_read,
 };
 pub use message::{ASK_LIMIT, Ask, Message, ReplyPart};
 pub use put::encode;

@@ -14,7 +14,7 @@ use std::alloc::Global;
 const ROOM: usize = 128;
 
 /// What each message begins with.
-pub const MARK: u8 = 0x52;
+pub const MAGIC: u8 = 0x52;
 
 /// The kind of a request.
 pub const ASK: u8 = 1;
@@ -59,7 +59,7 @@ fn put_reply(out: &mut Bytes, reply: &ReplyPart) -> Result<(), NoMemory>
 fn put_kind(out: &mut Bytes, kind: u8) -> Result<(), NoMemory>
     ensures { OnOk result (out.new ≡ out.old ++ 82 ∷ kind ∷ []) }
 {
-    put_byte(out, MARK)?;
+    put_byte(out, MAGIC)?;
     put_byte(out, kind)
 }
 
@@ -83,7 +83,7 @@ fn put_message(out: &mut Bytes, message: &Message) -> Result<(), NoMemory>
 /// wanting `out` stays as it was.
 pub fn encode(alloc: Global, message: &Message, out: &mut Bytes) -> Result<(), NoMemory>
     ensures ok { OnOk result (out.new ≡ out.old ++ written.message_bytes message.now) }
-    ensures spelled { HasRoom message.now → OnOk result (IsMessage (written.message_bytes message.now) message.now) }
+    ensures encoded { HasRoom message.now → OnOk result (IsMessage (written.message_bytes message.now) message.now) }
     ensures err { OnErr result (out.new ≡ out.old) }
 {
     let mut whole = Bytes::with_room(alloc, ROOM)?;

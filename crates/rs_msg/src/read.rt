@@ -7,7 +7,7 @@ ghost use Rattle.rs_msg.specs.Message.{IsMessage};
 ghost use Rattle.rs_msg.specs.Reader as reader;
 
 use crate::message::{ASK_LIMIT, Ask, Message, ReplyPart};
-use crate::put::{ASK, MARK, REPLY};
+use crate::put::{ASK, MAGIC, REPLY};
 use rs_base::{Bytes, Ident, Origin, ReadFault, SiteNo};
 use rs_codec::Fields;
 use std::alloc::Global;
@@ -106,7 +106,7 @@ fn read_message(alloc: Global, fields: &mut Fields<'_>) -> Result<Message, ReadF
     ensures { Reads (reader.message_at fields.old) result fields.new }
 {
     let first = fields.read_byte()?;
-    if first != MARK {
+    if first != MAGIC {
         return Err(ReadFault::Malformed);
     }
     let kind = fields.read_byte()?;

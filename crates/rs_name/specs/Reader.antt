@@ -24,7 +24,7 @@ site_of digits = number_of digits >>= λ n. if nat_le 1 n && nat_le n 16 then So
 -- ---- parts
 
 abbrev pub is_before : ℕ → ℕ → Bool
-is_before mark b = not (b == mark)
+is_before separator b = not (b == separator)
 
 abbrev pub suffix : List ℕ → List ℕ → Option (List ℕ × List ℕ)
 suffix prefix [] = None
@@ -32,7 +32,7 @@ suffix prefix (b ∷ rest) = Some (prefix, rest)
 
 -- what stands before the first such mark, and what stands behind it
 unfoldable pub separated : ℕ → List ℕ → Option (List ℕ × List ℕ)
-separated mark bytes = suffix (take (prefix_len (is_before mark) bytes) bytes) (drop (prefix_len (is_before mark) bytes) bytes)
+separated separator bytes = suffix (take (prefix_len (is_before separator) bytes) bytes) (drop (prefix_len (is_before separator) bytes) bytes)
 
 abbrev pub ident_of : List ℕ → Option (List ℕ)
 ident_of bytes = if is_ident bytes then Some bytes else None

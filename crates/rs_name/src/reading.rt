@@ -37,20 +37,20 @@ fn site_of(digits: &[u8]) -> Option<SiteNo>
 }
 
 /// How many bytes stand before the first such mark.
-fn len_before(mark: u8, bytes: &[u8]) -> usize
-    ensures value { result ≡ prefix_len (spec.is_before mark) bytes.now }
+fn len_before(separator: u8, bytes: &[u8]) -> usize
+    ensures value { result ≡ prefix_len (spec.is_before separator) bytes.now }
     ensures within { result ≤ length bytes.now }
 {
-    bytes.iter().take_while(|byte| **byte != mark).count()
+    bytes.iter().take_while(|byte| **byte != separator).count()
 }
 
 /// What stands before the first such mark, and what stands behind it.
 #[tactic(auto, unfolding(crate::specs::Reader::separated))]
-fn separated(mark: u8, bytes: &[u8]) -> Option<(&[u8], &[u8])>
-    ensures found { IfSome result (λ parts. spec.separated mark bytes.now ≡ Some (parts.0.now, parts.1.now)) }
-    ensures none { IfNone result (spec.separated mark bytes.now ≡ None) }
+fn separated(separator: u8, bytes: &[u8]) -> Option<(&[u8], &[u8])>
+    ensures found { IfSome result (λ parts. spec.separated separator bytes.now ≡ Some (parts.0.now, parts.1.now)) }
+    ensures none { IfNone result (spec.separated separator bytes.now ≡ None) }
 {
-    let (prefix, rest) = bytes.split_at(len_before(mark, bytes));
+    let (prefix, rest) = bytes.split_at(len_before(separator, bytes));
     let (_, suffix) = rest.split_first()?;
     Some((prefix, suffix))
 }

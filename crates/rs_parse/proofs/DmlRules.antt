@@ -6,20 +6,20 @@ use Rattle.rs_ast.specs.declared.change.Term.{Term}
 use Rattle.rs_ast.specs.declared.clause.Clause.{Clause}
 use Rattle.rs_ast.specs.declared.stmt.Dml.{Dml}
 use Rattle.rs_ast.specs.declared.stmt.Dml.TheVariants as dmls
-use Rattle.rs_ast.specs.declared.token.Mark.TheVariants as marks
+use Rattle.rs_ast.specs.declared.token.Symbol.TheVariants as symbols
 use Rattle.rs_ast.specs.declared.token.Token.{Token}
 use Rattle.rs_ast.specs.declared.token.Token.TheVariants as tokens
-use Rattle.rs_ast.specs.Token.{is_mark, is_word, same_mark}
-use Rattle.rs_ast.proofs.TokenLaws.{is_mark_self, is_mark_is}
+use Rattle.rs_ast.specs.Token.{is_symbol, is_word, same_symbol}
+use Rattle.rs_ast.proofs.TokenLaws.{is_symbol_self, is_symbol_is}
 use Rattle.rs_parse.specs.Phrases.{Phrase, IsSeries, AtMost}
 use Rattle.rs_parse.specs.Read.{begins, all_at}
 use Rattle.rs_parse.specs.Grammar.{IsName, IsTuple, IsSet, IsWhere, IsSelect, IsListed, IsDml, IsDmlEnded, IsBody}
 use Rattle.rs_parse.specs.Reader.{tuple_at, insert_at, update_at, delete_at, dml_at, begins_dml, dml_ended_at, body_at}
-use Rattle.rs_parse.proofs.Readers.{IsReader, Then, Made, Either, IsToken, Begins, never, or_left, or_right, then_reads, suffix_reads, made_reads, either_reads, as_reads, before_reads, token_begins, alone_begins, begins_fewer, begins_made, begins_either, suffix_begins}
+use Rattle.rs_parse.proofs.Readers.{IsReader, Then, Made, Either, IsToken, Begins, never, or_left, or_right, then_reads, suffix_reads, made_reads, either_reads, as_reads, before_reads, token_begins, end_begins, begins_fewer, begins_made, begins_either, suffix_begins}
 use Rattle.rs_parse.proofs.Series.{reads_more}
 use Rattle.rs_parse.proofs.Lists.{reads_all}
-use Rattle.rs_parse.proofs.NameRules.{mark_reads, word_reads, on_name, name_reads}
-use Rattle.rs_parse.proofs.TermRules.{on_expr, set_reads, on_listed, listed_reads, tuple_reads}
+use Rattle.rs_parse.proofs.NameRules.{symbol_reads, word_reads, on_name, name_reads}
+use Rattle.rs_parse.proofs.TermRules.{on_expr, set_reads, on_list, list_reads, tuple_reads}
 use Rattle.rs_parse.proofs.ClauseRules.{on_where, where_reads, where_begins}
 use Rattle.rs_parse.proofs.SelectRules.{on_select, select_reads}
 
@@ -28,8 +28,8 @@ use Rattle.rs_parse.proofs.SelectRules.{on_select, select_reads}
 name_no_values : on_name (tokens.Word (codes "values")) ≡ false
 name_no_values = refl
 
-tuples_reads : IsReader (IsListed IsTuple) (on_listed never) (λ ts. all_at (is_mark marks.Comma) tuple_at ts)
-tuples_reads = reads_all IsTuple (tokens.Mark marks.Comma) (is_mark marks.Comma) never tuple_at (is_mark_self marks.Comma) (is_mark_is marks.Comma) tuple_reads refl
+tuples_reads : IsReader (IsListed IsTuple) (on_list never) (λ ts. all_at (is_symbol symbols.Comma) tuple_at ts)
+tuples_reads = reads_all IsTuple (tokens.Symbol symbols.Comma) (is_symbol symbols.Comma) never tuple_at (is_symbol_self symbols.Comma) (is_symbol_is symbols.Comma) tuple_reads refl
 
 abbrev insert_of : NameText → List (List Term) → Dml
 insert_of name rows = dmls.Insert name rows
@@ -40,7 +40,7 @@ ValuesEnd name = Then (IsToken (tokens.Word (codes "values"))) (λ word. Made (i
 abbrev InsertChain : Phrase Dml
 InsertChain = Then (IsToken (tokens.Word (codes "insert"))) (λ insert. Then (IsToken (tokens.Word (codes "into"))) (λ into. Then IsName ValuesEnd))
 
-insert_reads : IsReader InsertChain (on_listed never) insert_at
+insert_reads : IsReader InsertChain (on_list never) insert_at
 unfolding insert_at
 insert_reads = suffix_reads (word_reads (codes "insert")) (λ insert. suffix_reads (word_reads (codes "into")) (λ into.
     then_reads name_reads (λ name. suffix_reads (word_reads (codes "values")) (λ word. made_reads (insert_of name) tuples_reads))
@@ -51,11 +51,11 @@ insert_reads = suffix_reads (word_reads (codes "insert")) (λ insert. suffix_rea
 name_no_set : on_name (tokens.Word (codes "set")) ≡ false
 name_no_set = refl
 
-comma_ends_set : on_expr (tokens.Mark marks.Comma) ≡ false
+comma_ends_set : on_expr (tokens.Symbol symbols.Comma) ≡ false
 comma_ends_set = refl
 
 abbrev on_sets : Token → Bool
-on_sets t = on_listed on_expr t
+on_sets t = on_list on_expr t
 
 sets_no_where : on_sets (tokens.Word (codes "where")) ≡ false
 sets_no_where = refl
@@ -79,7 +79,7 @@ update_reads : IsReader UpdateChain on_update update_at
 unfolding update_at
 update_reads = suffix_reads (word_reads (codes "update")) (λ update.
     then_reads name_reads (λ name. suffix_reads (word_reads (codes "set")) (λ word.
-    then_reads (listed_reads 15 set_reads comma_ends_set) (λ sets. before_reads on_update (λ t e. or_left (on_where t) (on_sets t) e) (made_reads (update_of name sets) where_reads)) (sets_follow name)))
+    then_reads (list_reads 15 set_reads comma_ends_set) (λ sets. before_reads on_update (λ t e. or_left (on_where t) (on_sets t) e) (made_reads (update_of name sets) where_reads)) (sets_follow name)))
     (λ name dml suffix rest q ends. token_begins on_name (tokens.Word (codes "set")) false name_no_set q.1 q.2 suffix rest q.3 q.5))
 
 -- ---- DELETE
@@ -108,22 +108,22 @@ delete_reads = suffix_reads (word_reads (codes "delete")) (λ delete. suffix_rea
 
 -- what goes on with the last part of a statement on rows
 abbrev pub on_dml : Token → Bool
-on_dml t = on_select t || (on_listed never t || (on_update t || on_delete t))
+on_dml t = on_select t || (on_list never t || (on_update t || on_delete t))
 
 pub dml_select : (t : Token) → on_dml t ≡ false → on_select t ≡ false
-dml_select t e = or_left (on_select t) (on_listed never t || (on_update t || on_delete t)) e
+dml_select t e = or_left (on_select t) (on_list never t || (on_update t || on_delete t)) e
 
-dml_others : (t : Token) → on_dml t ≡ false → (on_listed never t || (on_update t || on_delete t)) ≡ false
-dml_others t e = or_right (on_select t) (on_listed never t || (on_update t || on_delete t)) e
+dml_others : (t : Token) → on_dml t ≡ false → (on_list never t || (on_update t || on_delete t)) ≡ false
+dml_others t e = or_right (on_select t) (on_list never t || (on_update t || on_delete t)) e
 
-dml_insert : (t : Token) → on_dml t ≡ false → on_listed never t ≡ false
-dml_insert t e = or_left (on_listed never t) (on_update t || on_delete t) (dml_others t e)
+dml_insert : (t : Token) → on_dml t ≡ false → on_list never t ≡ false
+dml_insert t e = or_left (on_list never t) (on_update t || on_delete t) (dml_others t e)
 
 dml_update : (t : Token) → on_dml t ≡ false → on_update t ≡ false
-dml_update t e = or_left (on_update t) (on_delete t) (or_right (on_listed never t) (on_update t || on_delete t) (dml_others t e))
+dml_update t e = or_left (on_update t) (on_delete t) (or_right (on_list never t) (on_update t || on_delete t) (dml_others t e))
 
 dml_delete : (t : Token) → on_dml t ≡ false → on_delete t ≡ false
-dml_delete t e = or_right (on_update t) (on_delete t) (or_right (on_listed never t) (on_update t || on_delete t) (dml_others t e))
+dml_delete t e = or_right (on_update t) (on_delete t) (or_right (on_list never t) (on_update t || on_delete t) (dml_others t e))
 
 abbrev UpdatePart : Phrase Dml
 UpdatePart = Either UpdateChain DeleteChain
@@ -185,8 +185,8 @@ dml_begins is c e e' e'' e''' dml prefix rest p =
 
 -- ---- the statements of a program
 
-dml_no_semicolon : on_dml (tokens.Mark marks.Semicolon) ≡ false
-unfolding same_mark
+dml_no_semicolon : on_dml (tokens.Symbol symbols.Semicolon) ≡ false
+unfolding same_symbol
 dml_no_semicolon = refl
 
 abbrev ended_dml : Dml → Unit {0} → Dml
@@ -195,7 +195,7 @@ ended_dml dml semicolon = dml
 dml_ended_reads : IsReader IsDmlEnded never dml_ended_at
 unfolding dml_ended_at
 dml_ended_reads = as_reads IsDmlEnded
-    (then_reads dml_reads (λ dml. made_reads (ended_dml dml) (mark_reads marks.Semicolon)) (λ dml made suffix rest q ends. alone_begins on_dml (tokens.Mark marks.Semicolon) false dml_no_semicolon suffix rest q.1))
+    (then_reads dml_reads (λ dml. made_reads (ended_dml dml) (symbol_reads symbols.Semicolon)) (λ dml made suffix rest q ends. end_begins on_dml (tokens.Symbol symbols.Semicolon) false dml_no_semicolon suffix rest q.1))
     (λ dml ts (found, f, b, is, (semicolon, is_semicolon, e), p). subst (λ (x : Dml). IsDmlEnded x ts) e (f, b, is, is_semicolon, p))
     (λ dml ts (f, b, is, is_semicolon, p). (dml, f, b, is, (tt, is_semicolon, refl), p))
 

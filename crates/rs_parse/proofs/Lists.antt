@@ -54,8 +54,8 @@ module _ {A : Type 0} (P : Phrase A) (separator : Token) (is_separator goes_on :
   abbrev series : ℕ → List Token → Read (List A)
   series n ts = series_at is_separator next n ts
 
-  abbrev listed : ℕ → List Token → Read (List A)
-  listed n ts = separated_at is_separator item n ts
+  abbrev separated_list : ℕ → List Token → Read (List A)
+  separated_list n ts = separated_at is_separator item n ts
 
   abbrev put : A → List A × List Token → Read (List A)
   put x xs = Got (x ∷ xs.0) xs.1
@@ -111,15 +111,15 @@ module _ {A : Type 0} (P : Phrase A) (separator : Token) (is_separator goes_on :
       go true (Fault mid) e ih = refl
       go true (Got x mid) e ih = ap (λ (got : Read (List A)). got >>= put x) (ih mid (omega (arith, l, next_shorter ts x mid e)) (omega (arith, k, next_shorter ts x mid e)))
 
-  listed_got_more : (n m : ℕ) (ts : List Token) (xs : List A) (rest : List Token) → n ≤ m → length xs ≤ n → listed n ts ≡ Got xs rest → listed m ts ≡ Got xs rest
-  listed_got_more n m ts xs rest le lt e =
+  list_got_more : (n m : ℕ) (ts : List Token) (xs : List A) (rest : List Token) → n ≤ m → length xs ≤ n → separated_list n ts ≡ Got xs rest → separated_list m ts ≡ Got xs rest
+  list_got_more n m ts xs rest le lt e =
       let a = got_both (item ts) (step n) xs rest e in
       let b = got_both (series n a.mid) (put a.value) xs rest a.second in
       let same : a.value ∷ b.value ≡ xs = got_value (a.value ∷ b.value) xs b.mid rest b.second in
       ap (λ (got : Read A). got >>= step m) a.first ∙ ap (λ (got : Read (List A)). got >>= put a.value) (got_more n m a.mid b.value b.mid le (omega (arith, lt, ap length same)) b.first) ∙ b.second
 
-  listed_fault_more : (n m : ℕ) (ts rest : List Token) → n ≤ m → listed n ts ≡ Fault rest → listed m ts ≡ Fault rest
-  listed_fault_more n m ts rest le e = elim (fault_of_both (item ts) (step n) rest e) [
+  list_fault_more : (n m : ℕ) (ts rest : List Token) → n ≤ m → separated_list n ts ≡ Fault rest → separated_list m ts ≡ Fault rest
+  list_fault_more n m ts rest le e = elim (fault_of_both (item ts) (step n) rest e) [
     | inl h ↦ ap (λ (got : Read A). got >>= step m) h
     | inr a ↦ ap (λ (got : Read A). got >>= step m) a.first ∙ elim (fault_of_both (series n a.mid) (put a.value) rest a.second) [
       | inl h ↦ ap (λ (got : Read (List A)). got >>= put a.value) (fault_more n m a.mid rest le h)
@@ -132,8 +132,8 @@ module _ {A : Type 0} (P : Phrase A) (separator : Token) (is_separator goes_on :
       let a = r.finds ts x mid e in
       omega (arith, ap length a.separated, length-append a.prefix mid)
 
-  listed_fuel : (n m : ℕ) (ts : List Token) → length ts ≤ n → length ts ≤ m → listed n ts ≡ listed m ts
-  listed_fuel n m ts l k = go (item ts) refl
+  list_fuel : (n m : ℕ) (ts : List Token) → length ts ≤ n → length ts ≤ m → separated_list n ts ≡ separated_list m ts
+  list_fuel n m ts l k = go (item ts) refl
     where
       go : (got : Read A) → item ts ≡ got → (got >>= step n) ≡ (got >>= step m)
       go (Fault mid) e = refl
@@ -160,8 +160,8 @@ module _ {A : Type 0} (P : Phrase A) (separator : Token) (is_separator goes_on :
           steady = λ t us vs h.
               let len = length (a.prefix ++ t ∷ vs) in
               let long : length xs ≤ length ts = omega (arith, list_length xs a.prefix a.phrase.1, ap length a.separated, length-append a.prefix rest, ap length h) in
-              listed_fuel len (length ts + len) (a.prefix ++ t ∷ vs) (omega arith) (omega arith)
-              ∙ listed_got_more (length ts) (length ts + len) (a.prefix ++ t ∷ vs) xs (t ∷ vs) (omega arith) long (a.steady t us vs h);
+              list_fuel len (length ts + len) (a.prefix ++ t ∷ vs) (omega arith) (omega arith)
+              ∙ list_got_more (length ts) (length ts + len) (a.prefix ++ t ∷ vs) xs (t ∷ vs) (omega arith) long (a.steady t us vs h);
         };
     breaks = λ ts rest e.
         let a = (reads_list (length ts)).breaks ts rest e in
@@ -173,8 +173,8 @@ module _ {A : Type 0} (P : Phrase A) (separator : Token) (is_separator goes_on :
           separated = a.separated;
           steady = λ t us vs h.
               let len = length (a.prefix ++ t ∷ vs) in
-              listed_fuel len (length ts + len) (a.prefix ++ t ∷ vs) (omega arith) (omega arith)
-              ∙ listed_fault_more (length ts) (length ts + len) (a.prefix ++ t ∷ vs) (t ∷ vs) (omega arith) (a.steady t us vs h);
+              list_fuel len (length ts + len) (a.prefix ++ t ∷ vs) (omega arith) (omega arith)
+              ∙ list_fault_more (length ts) (length ts + len) (a.prefix ++ t ∷ vs) (t ∷ vs) (omega arith) (a.steady t us vs h);
         };
     again = λ xs prefix rest is none.
         (reads_list (length (prefix ++ rest))).again xs prefix rest (omega (arith, list_length xs prefix is, length-append prefix rest), is) none;

@@ -13,7 +13,7 @@ use Rattle.rs_parse.specs.declared.parser.ParseFault.TheVariants as faults
 use Rattle.rs_parse.specs.Tokens.{split_of}
 use Rattle.rs_parse.specs.Grammar.{IsRequest}
 use Rattle.rs_parse.specs.Read.{Read, Got, Fault, ◌>>=◌}
-use Rattle.rs_parse.specs.Reader.{request_at, alone_at, request_of}
+use Rattle.rs_parse.specs.Reader.{request_at, at_end, request_of}
 use Rattle.rs_parse.specs.Parsing.{Spells, SomeBegins, IsOffending, IsFault, AtToken, NoToken, AtEnd, Parsed, Statement, FaultAt, place_of, judged, parsed_of, ParseGives}
 use Rattle.rs_parse.proofs.Readers.{Finds, got_value, got_rest, fault_rest, got-fault, fault-got, got_both, fault_of_both, nil-cons, prefix_alone}
 use Rattle.rs_parse.proofs.StmtRules.{request_reads}
@@ -22,18 +22,18 @@ use Rattle.rs_parse.proofs.Splits.{length-starts, end_of_whole}
 -- ---- tokens
 
 abbrev alone : Stmt × List Token → Read Stmt
-alone stmt = alone_at stmt.0 stmt.1
+alone stmt = at_end stmt.0 stmt.1
 
-alone_got : (value : Stmt) (mid : List Token) (stmt : Stmt) (rest : List Token) → alone_at value mid ≡ Got stmt rest → (mid ≡ []) × (value ≡ stmt)
-alone_got value [] stmt rest e = (refl, got_value value stmt [] rest e)
-alone_got value (t ∷ us) stmt rest e = absurd (fault-got stmt (t ∷ us) rest e)
+end_got : (value : Stmt) (mid : List Token) (stmt : Stmt) (rest : List Token) → at_end value mid ≡ Got stmt rest → (mid ≡ []) × (value ≡ stmt)
+end_got value [] stmt rest e = (refl, got_value value stmt [] rest e)
+end_got value (t ∷ us) stmt rest e = absurd (fault-got stmt (t ∷ us) rest e)
 
 -- what is read is spelled so
 pub whole_found : (ts : List Token) (stmt : Stmt) (rest : List Token) → request_of ts ≡ Got stmt rest → IsRequest stmt ts
 unfolding request_of
 whole_found ts stmt rest e =
     let a = got_both (request_at ts) alone stmt rest e in
-    let g = alone_got a.value a.mid stmt rest a.second in
+    let g = end_got a.value a.mid stmt rest a.second in
     let f = request_reads.finds ts a.value a.mid a.first in
     subst (λ (s : Stmt). IsRequest s ts) g.1 (subst (IsRequest a.value) (prefix_alone ts f.prefix a.mid f.separated g.0) f.phrase)
 
@@ -57,7 +57,7 @@ pub record FaultOf (ts rest : List Token) : Type 0 where
   pub barred : (t : Token) (us : List Token) → rest ≡ t ∷ us → SomeBegins (prefix ++ t ∷ []) → ⊥
   pub none : (stmt : Stmt) → IsRequest stmt ts → ⊥
 
-fault_after : (ts rest : List Token) (value : Stmt) (mid : List Token) → request_of ts ≡ Fault rest → Finds IsRequest request_at ts value mid → alone_at value mid ≡ Fault rest → FaultOf ts rest
+fault_after : (ts rest : List Token) (value : Stmt) (mid : List Token) → request_of ts ≡ Fault rest → Finds IsRequest request_at ts value mid → at_end value mid ≡ Fault rest → FaultOf ts rest
 fault_after ts rest value [] e f s = absurd (got-fault value [] rest s)
 fault_after ts rest value (u ∷ us) e f s =
     let left = fault_rest Stmt (u ∷ us) rest s in

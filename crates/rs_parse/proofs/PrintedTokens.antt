@@ -8,23 +8,23 @@ use Rattle.rs_base.specs.Ident.{is_name_byte, is_ident, is_letter as is_small_le
 use Rattle.rs_base.specs.Txt.{is_txt}
 use Rattle.rs_base.specs.Reading.{◌>>=◌}
 use Rattle.rs_base.proofs.Steps.{bind_some, chosen}
-use Rattle.rs_ast.specs.declared.token.Mark.{Mark}
-use Rattle.rs_ast.specs.declared.token.Mark.TheVariants as marks
+use Rattle.rs_ast.specs.declared.token.Symbol.{Symbol}
+use Rattle.rs_ast.specs.declared.token.Symbol.TheVariants as symbols
 use Rattle.rs_ast.specs.declared.token.Token.{Token}
 use Rattle.rs_ast.specs.declared.token.Token.TheVariants as tokens
 use Rattle.rs_ast.specs.declared.ending.Ending.{Ending}
 use Rattle.rs_ast.specs.declared.ending.Ending.TheVariants as endings
 use Rattle.rs_ast.specs.Printed.{printed_token, ending_after, touches, printed_next, printed_after, printed_tokens}
-use Rattle.rs_ast.proofs.Touching.{begins, goes_on, goes_on_mark, touching_apart, is_word_byte as is_run_byte}
+use Rattle.rs_ast.proofs.Touching.{begins, goes_on, goes_on_symbol, touching_apart, is_word_byte as is_run_byte}
 use Rattle.rs_parse.specs.declared.token_split.Split.{Split}
-use Rattle.rs_parse.specs.Tokens.{is_blank, is_letter, is_digit, is_word_byte, word_at, number_at, quoted_at, text_at, mark_at, digits_value, token_at, put_first, taken_at, split_suffix, split_of}
+use Rattle.rs_parse.specs.Tokens.{is_blank, is_letter, is_digit, is_word_byte, word_at, number_at, quoted_at, text_at, symbol_at, digits_value, token_at, put_first, taken_at, split_suffix, split_of}
 use Rattle.rs_parse.specs.Scanning.{token_here}
 use Rattle.rs_parse.proofs.TokenForms.{IsFormed, AreFormed}
-use Rattle.rs_parse.proofs.Scans.{mark_token, same_suffix}
+use Rattle.rs_parse.proofs.Scans.{symbol_token, same_suffix}
 use Rattle.rs_parse.proofs.PrintedWords.{word_again}
 use Rattle.rs_parse.proofs.PrintedNumbers.{number_again}
 use Rattle.rs_parse.proofs.PrintedTexts.{text_again}
-use Rattle.rs_parse.proofs.PrintedMarks.{mark_again}
+use Rattle.rs_parse.proofs.PrintedSymbols.{symbol_again}
 
 -- ---- one token is read again
 
@@ -47,20 +47,20 @@ unfolding printed_token
 token_again (tokens.Word word) rest formed apart = word_again word rest formed (begins_neither is_run_byte is_word_byte no_word_byte rest apart)
 token_again (tokens.Number n) rest formed apart = number_again n rest formed (begins_neither is_run_byte is_digit no_digit rest apart)
 token_again (tokens.Text text) rest formed apart = text_again text rest formed apart
-token_again (tokens.Mark mark) rest formed apart = mark_again mark rest apart
+token_again (tokens.Symbol symbol) rest formed apart = symbol_again symbol rest apart
 
 -- ---- what stands behind a token doesn't go on with it
 
-space_after_mark : (mark : Mark) → goes_on_mark mark 32 ≡ false
-space_after_mark marks.Less = refl
-space_after_mark marks.Greater = refl
-space_after_mark mark = refl
+space_after_symbol : (symbol : Symbol) → goes_on_symbol symbol 32 ≡ false
+space_after_symbol symbols.Less = refl
+space_after_symbol symbols.Greater = refl
+space_after_symbol symbol = refl
 
 space_after : (t : Token) → goes_on t 32 ≡ false
 space_after (tokens.Word word) = refl
 space_after (tokens.Number n) = refl
 space_after (tokens.Text text) = refl
-space_after (tokens.Mark mark) = space_after_mark mark
+space_after (tokens.Symbol symbol) = space_after_symbol symbol
 
 has_first : (text : List ℕ) (t : Token) → token_here (text ++ []) ≡ Some (t, []) → 0 < length text
 unfolding token_here
@@ -90,7 +90,7 @@ other_byte b c bytes token empty e = ne_eqb b c (λ (same : b ≡ c). none-some 
 
 -- no token begins with a blank
 no_blank : (b : ℕ) (bytes : List ℕ) (token : Token × List ℕ) → token_at b bytes ≡ Some token → is_blank b ≡ false
-unfolding token_at mark_at
+unfolding token_at symbol_at
 no_blank b bytes token e =
     let space = other_byte b 32 bytes token refl e in
     let tab = other_byte b 9 bytes token refl e in
@@ -160,23 +160,23 @@ text_formed bytes token e =
     let read = cond_some (is_txt step.0.0) (tokens.Text step.0.0, step.0.1) token step.2 in
     subst (λ (t : Token × List ℕ). IsFormed t.0) read.1 read.0
 
-mark_formed : (b : ℕ) (bytes : List ℕ) (token : Token × List ℕ) → (mark_at b bytes >>= mark_token) ≡ Some token → IsFormed token.0
-mark_formed b bytes token e =
-    let step = bind_some (mark_at b bytes) mark_token token e in
-    let same = same_Some (tokens.Mark step.0.0, step.0.1) token step.2 in
+symbol_formed : (b : ℕ) (bytes : List ℕ) (token : Token × List ℕ) → (symbol_at b bytes >>= symbol_token) ≡ Some token → IsFormed token.0
+symbol_formed b bytes token e =
+    let step = bind_some (symbol_at b bytes) symbol_token token e in
+    let same = same_Some (tokens.Symbol step.0.0, step.0.1) token step.2 in
     subst (λ (t : Token × List ℕ). IsFormed t.0) same tt
 
 token_formed : (b : ℕ) (bytes : List ℕ) (token : Token × List ℕ) → token_at b bytes ≡ Some token → IsFormed token.0
 unfolding token_at
 token_formed b bytes token e =
-    let marked : Option (Token × List ℕ) = mark_at b bytes >>= mark_token in
-    elim (chosen (is_letter b) (word_at (b ∷ bytes)) (cond (is_digit b) (number_at (b ∷ bytes)) (cond (eqb b 39) (text_at bytes) marked)) token e) [
+    let with_symbol : Option (Token × List ℕ) = symbol_at b bytes >>= symbol_token in
+    elim (chosen (is_letter b) (word_at (b ∷ bytes)) (cond (is_digit b) (number_at (b ∷ bytes)) (cond (eqb b 39) (text_at bytes) with_symbol)) token e) [
       | inl w ↦ word_formed (b ∷ bytes) token w.1
-      | inr w ↦ elim (chosen (is_digit b) (number_at (b ∷ bytes)) (cond (eqb b 39) (text_at bytes) marked) token w.1) [
+      | inr w ↦ elim (chosen (is_digit b) (number_at (b ∷ bytes)) (cond (eqb b 39) (text_at bytes) with_symbol) token w.1) [
         | inl n ↦ number_formed (b ∷ bytes) token n.1
-        | inr n ↦ elim (chosen (eqb b 39) (text_at bytes) marked token n.1) [
+        | inr n ↦ elim (chosen (eqb b 39) (text_at bytes) with_symbol token n.1) [
           | inl q ↦ text_formed bytes token q.1
-          | inr q ↦ mark_formed b bytes token q.1
+          | inr q ↦ symbol_formed b bytes token q.1
         ]
       ]
     ]

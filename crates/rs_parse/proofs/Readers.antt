@@ -536,8 +536,8 @@ before_reads {P = P} {fewer = fewer} {read = read} more le r = reads_before P fe
 pub token_begins : (is : Token → Bool) (t : Token) (value : Bool) → is t ≡ value → (prefix two suffix rest : List Token) → prefix ≡ t ∷ [] → suffix ≡ prefix ++ two → begins is (suffix ++ rest) ≡ value
 token_begins is t value e prefix two suffix rest at separated = ap (λ (us : List Token). begins is (us ++ rest)) (separated ∙ ap (λ (us : List Token). us ++ two) at) ∙ e
 
-pub alone_begins : (is : Token → Bool) (t : Token) (value : Bool) → is t ≡ value → (prefix rest : List Token) → prefix ≡ t ∷ [] → begins is (prefix ++ rest) ≡ value
-alone_begins is t value e prefix rest at = ap (λ (us : List Token). begins is (us ++ rest)) at ∙ e
+pub end_begins : (is : Token → Bool) (t : Token) (value : Bool) → is t ≡ value → (prefix rest : List Token) → prefix ≡ t ∷ [] → begins is (prefix ++ rest) ≡ value
+end_begins is t value e prefix rest at = ap (λ (us : List Token). begins is (us ++ rest)) at ∙ e
 
 -- nothing stands there, and what follows doesn't begin so
 pub empty_begins : (is more : Token → Bool) → ((t : Token) → more t ≡ false → is t ≡ false) → (prefix rest : List Token) → prefix ≡ [] → begins more rest ≡ false → begins is (prefix ++ rest) ≡ false
@@ -556,8 +556,8 @@ Begins {A} is c P = (x : A) (prefix rest : List Token) → P x prefix → begins
 pub begins_token : {A : Type 0} (Q : Unit {0} → Phrase A) (is : Token → Bool) (t : Token) (c : Bool) → is t ≡ c → Begins is c (Then (IsToken t) Q)
 begins_token Q is t c e x prefix rest p = token_begins is t c e p.1 p.2 prefix rest p.3 p.5
 
-pub begins_alone : (is : Token → Bool) (t : Token) (c : Bool) → is t ≡ c → Begins is c (IsToken t)
-begins_alone is t c e x prefix rest p = alone_begins is t c e prefix rest p
+pub begins_end : (is : Token → Bool) (t : Token) (c : Bool) → is t ≡ c → Begins is c (IsToken t)
+begins_end is t c e x prefix rest p = end_begins is t c e prefix rest p
 
 pub begins_made : {A B : Type 0} (P : Phrase A) (make : A → B) (is : Token → Bool) (c : Bool) → Begins is c P → Begins is c (Made make P)
 begins_made P make is c b x prefix rest p = b p.0 prefix rest p.1

@@ -1,13 +1,13 @@
 -- What a respelling of a phrase is, and how respellings are put together.
 use Rattle.std.proofs.Common.{◌≡◌, ℕ, ◌≤◌, List, [], ◌∷◌, ◌++◌, length, refl, sym, subst}
 use Rattle.std.specs.Prelude.{flat_map}
-use Rattle.rs_ast.specs.declared.token.Mark.{Mark}
-use Rattle.rs_ast.specs.declared.token.Mark.TheVariants as marks
+use Rattle.rs_ast.specs.declared.token.Symbol.{Symbol}
+use Rattle.rs_ast.specs.declared.token.Symbol.TheVariants as symbols
 use Rattle.rs_ast.specs.declared.token.Token.{Token}
 use Rattle.rs_ast.specs.declared.token.Token.TheVariants as tokens
 use Rattle.rs_ast.specs.Spelled.{spelled_further, spelled_list, comma, between_brackets}
 use Rattle.rs_parse.specs.Phrases.{Phrase, Is, Both, Spell, IsSeries, After, IsList, AtMost}
-use Rattle.rs_parse.specs.Grammar.{Keyword, Marked, IsListedOrNone}
+use Rattle.rs_parse.specs.Grammar.{Keyword, IsSymbol, IsListedOrNone}
 use Rattle.rs_parse.proofs.TokenForms.{AreFormed}
 
 -- Where some tokens that a text may have spell a phrase, these do too, and a text may have them.
@@ -37,8 +37,8 @@ token_respelled t = record { respelled = λ ts is formed. (refl, subst AreFormed
 pub word_respelled : (word : List ℕ) → IsRespelled (Keyword word) (tokens.Word word ∷ [])
 word_respelled word = token_respelled (tokens.Word word)
 
-pub mark_respelled : (mark : Mark) → IsRespelled (Marked mark) (tokens.Mark mark ∷ [])
-mark_respelled mark = token_respelled (tokens.Mark mark)
+pub symbol_respelled : (symbol : Symbol) → IsRespelled (IsSymbol symbol) (tokens.Symbol symbol ∷ [])
+symbol_respelled symbol = token_respelled (tokens.Symbol symbol)
 
 -- ---- one behind the other
 
@@ -56,8 +56,8 @@ pub ◌▹◌ : {P Q : List Token → Type 0} {us vs : List Token} → IsRespell
 first ▹ second = both_respelled first second
 
 -- in brackets
-pub bracketed_respelled : {P : List Token → Type 0} {us : List Token} → IsRespelled P us → IsRespelled (Spell (Marked marks.Open ∷ P ∷ Marked marks.Close ∷ [])) (between_brackets us)
-bracketed_respelled inside = mark_respelled marks.Open ▹ inside ▹ mark_respelled marks.Close
+pub bracketed_respelled : {P : List Token → Type 0} {us : List Token} → IsRespelled P us → IsRespelled (Spell (IsSymbol symbols.Open ∷ P ∷ IsSymbol symbols.Close ∷ [])) (between_brackets us)
+bracketed_respelled inside = symbol_respelled symbols.Open ▹ inside ▹ symbol_respelled symbols.Close
 
 -- the same tokens, parted otherwise
 pub respelled_so : {P : List Token → Type 0} {us vs : List Token} → us ≡ vs → IsRespelled P vs → IsRespelled P us
@@ -91,8 +91,8 @@ pub at_most_respelled : {A : Type 0} {P : Phrase (List A)} {spelled : List A →
     → (xs : List A) → IsRespelled (AtMost n P xs) (spelled xs)
 at_most_respelled n each xs = kept_respelled (length xs ≤ n) (each xs)
 
-pub listed_or_none_respelled : {A : Type 0} {P : Phrase A} {spelled : A → List Token} → ((x : A) → IsRespelled (P x) (spelled x))
+pub list_or_none_respelled : {A : Type 0} {P : Phrase A} {spelled : A → List Token} → ((x : A) → IsRespelled (P x) (spelled x))
     → (xs : List A) → IsRespelled (IsListedOrNone P xs) (spelled_list comma spelled xs)
 unfolding spelled_list
-listed_or_none_respelled each [] = nothing_respelled
-listed_or_none_respelled each (x ∷ xs) = list_respelled comma each (x ∷ xs)
+list_or_none_respelled each [] = nothing_respelled
+list_or_none_respelled each (x ∷ xs) = list_respelled comma each (x ∷ xs)

@@ -11,11 +11,11 @@ use Rattle.std.proofs.lemmas.Option.{cond_some, none-some, same_Some}
 use Rattle.rs_base.specs.Ident.{is_ident}
 use Rattle.rs_base.specs.Txt.{is_txt}
 use Rattle.rs_base.specs.Reading.{◌>>=◌, push_first}
-use Rattle.rs_ast.specs.declared.token.Mark.{Mark}
+use Rattle.rs_ast.specs.declared.token.Symbol.{Symbol}
 use Rattle.rs_parse.specs.declared.token_split.Split.{Split}
 use Rattle.rs_ast.specs.declared.token.Token.{Token}
 use Rattle.rs_ast.specs.declared.token.Token.TheVariants as tokens
-use Rattle.rs_parse.specs.Tokens.{is_blank, is_letter, is_digit, is_word_byte, word_at, number_at, quoted_at, text_at, mark_at, digits_value, token_at, ends_at, put_first, taken_at, split_suffix}
+use Rattle.rs_parse.specs.Tokens.{is_blank, is_letter, is_digit, is_word_byte, word_at, number_at, quoted_at, text_at, symbol_at, digits_value, token_at, ends_at, put_first, taken_at, split_suffix}
 use Rattle.rs_parse.specs.Scanning.{token_here}
 use Rattle.rs_base.proofs.Steps.{bind_some, chosen}
 use Rattle.rs_parse.proofs.Options.{push_some}
@@ -89,50 +89,50 @@ text_leaves bytes t rest e =
     (l.0, sym (ap (λ (x : Token × List ℕ). x.1) g.1) ∙ l.1)
 
 -- what is read, if it is, leaves an end
-Left : List ℕ → Option (Mark × List ℕ) → Type 0
-Left bytes read = (mark : Mark) (rest : List ℕ) → read ≡ Some (mark, rest) → Leaves bytes rest
+Left : List ℕ → Option (Symbol × List ℕ) → Type 0
+Left bytes read = (symbol : Symbol) (rest : List ℕ) → read ≡ Some (symbol, rest) → Leaves bytes rest
 
-either : (bytes : List ℕ) (test : Bool) (x y : Option (Mark × List ℕ)) → Left bytes x → Left bytes y → Left bytes (cond test x y)
+either : (bytes : List ℕ) (test : Bool) (x y : Option (Symbol × List ℕ)) → Left bytes x → Left bytes y → Left bytes (cond test x y)
 either bytes true x y p q = p
 either bytes false x y p q = q
 
-here : (bytes : List ℕ) (mark : Mark) → Left bytes (Some (mark, bytes))
+here : (bytes : List ℕ) (symbol : Symbol) → Left bytes (Some (symbol, bytes))
 unfolding Left
-here bytes mark m rest e = (0, sym (ap (λ (x : Mark × List ℕ). x.1) (same_Some (mark, bytes) (m, rest) e)))
+here bytes symbol m rest e = (0, sym (ap (λ (x : Symbol × List ℕ). x.1) (same_Some (symbol, bytes) (m, rest) e)))
 
-next : (bytes : List ℕ) (mark : Mark) → Left bytes (Some (mark, drop 1 bytes))
+next : (bytes : List ℕ) (symbol : Symbol) → Left bytes (Some (symbol, drop 1 bytes))
 unfolding Left
-next bytes mark m rest e = (1, sym (ap (λ (x : Mark × List ℕ). x.1) (same_Some (mark, drop 1 bytes) (m, rest) e)))
+next bytes symbol m rest e = (1, sym (ap (λ (x : Symbol × List ℕ). x.1) (same_Some (symbol, drop 1 bytes) (m, rest) e)))
 
 nothing : (bytes : List ℕ) → Left bytes None
 unfolding Left
 nothing bytes m rest e = absurd (none-some (m, rest) e)
 
-mark_left : (b : ℕ) (bytes : List ℕ) → Left bytes (mark_at b bytes)
-unfolding mark_at
-mark_left b bytes = search (either, here, next, nothing) depth 20
+symbol_left : (b : ℕ) (bytes : List ℕ) → Left bytes (symbol_at b bytes)
+unfolding symbol_at
+symbol_left b bytes = search (either, here, next, nothing) depth 20
 
-abbrev pub mark_token : Mark × List ℕ → Option (Token × List ℕ)
-mark_token mark = Some (tokens.Mark mark.0, mark.1)
+abbrev pub symbol_token : Symbol × List ℕ → Option (Token × List ℕ)
+symbol_token symbol = Some (tokens.Symbol symbol.0, symbol.1)
 
-mark_leaves : (b : ℕ) (bytes : List ℕ) (t : Token) (rest : List ℕ) → (mark_at b bytes >>= mark_token) ≡ Some (t, rest) → Leaves bytes rest
+symbol_leaves : (b : ℕ) (bytes : List ℕ) (t : Token) (rest : List ℕ) → (symbol_at b bytes >>= symbol_token) ≡ Some (t, rest) → Leaves bytes rest
 unfolding Left
-mark_leaves b bytes t rest e =
-    let m = bind_some (mark_at b bytes) mark_token (t, rest) e in
-    let l = mark_left b bytes m.0.0 m.0.1 m.1 in
-    (l.0, sym (ap (λ (x : Token × List ℕ). x.1) (same_Some (tokens.Mark m.0.0, m.0.1) (t, rest) m.2)) ∙ l.1)
+symbol_leaves b bytes t rest e =
+    let m = bind_some (symbol_at b bytes) symbol_token (t, rest) e in
+    let l = symbol_left b bytes m.0.0 m.0.1 m.1 in
+    (l.0, sym (ap (λ (x : Token × List ℕ). x.1) (same_Some (tokens.Symbol m.0.0, m.0.1) (t, rest) m.2)) ∙ l.1)
 
 token_leaves : (b : ℕ) (bytes : List ℕ) (t : Token) (rest : List ℕ) → token_at b bytes ≡ Some (t, rest) → Leaves bytes rest
 unfolding token_at
 token_leaves b bytes t rest e =
-    let marked : Option (Token × List ℕ) = mark_at b bytes >>= mark_token in
-    elim (chosen (is_letter b) (word_at (b ∷ bytes)) (cond (is_digit b) (number_at (b ∷ bytes)) (cond (eqb b 39) (text_at bytes) marked)) (t, rest) e) [
+    let with_symbol : Option (Token × List ℕ) = symbol_at b bytes >>= symbol_token in
+    elim (chosen (is_letter b) (word_at (b ∷ bytes)) (cond (is_digit b) (number_at (b ∷ bytes)) (cond (eqb b 39) (text_at bytes) with_symbol)) (t, rest) e) [
       | inl w ↦ word_leaves b bytes t rest w.0 w.1
-      | inr w ↦ elim (chosen (is_digit b) (number_at (b ∷ bytes)) (cond (eqb b 39) (text_at bytes) marked) (t, rest) w.1) [
+      | inr w ↦ elim (chosen (is_digit b) (number_at (b ∷ bytes)) (cond (eqb b 39) (text_at bytes) with_symbol) (t, rest) w.1) [
         | inl n ↦ number_leaves b bytes t rest n.0 n.1
-        | inr n ↦ elim (chosen (eqb b 39) (text_at bytes) marked (t, rest) n.1) [
+        | inr n ↦ elim (chosen (eqb b 39) (text_at bytes) with_symbol (t, rest) n.1) [
           | inl q ↦ text_leaves bytes t rest q.1
-          | inr q ↦ mark_leaves b bytes t rest q.1
+          | inr q ↦ symbol_leaves b bytes t rest q.1
         ]
       ]
     ]

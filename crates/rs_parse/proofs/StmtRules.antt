@@ -9,61 +9,61 @@ use Rattle.rs_ast.specs.declared.column.ColDef.{ColDef}
 use Rattle.rs_ast.specs.declared.stmt.Dml.{Dml}
 use Rattle.rs_ast.specs.declared.stmt.Stmt.{Stmt}
 use Rattle.rs_ast.specs.declared.stmt.Stmt.TheVariants as stmts
-use Rattle.rs_ast.specs.declared.token.Mark.TheVariants as marks
+use Rattle.rs_ast.specs.declared.token.Symbol.TheVariants as symbols
 use Rattle.rs_ast.specs.declared.token.Token.{Token}
 use Rattle.rs_ast.specs.declared.token.Token.TheVariants as tokens
-use Rattle.rs_ast.specs.Token.{is_mark, is_word, same_mark}
-use Rattle.rs_ast.proofs.TokenLaws.{is_mark_self}
+use Rattle.rs_ast.specs.Token.{is_symbol, is_word, same_symbol}
+use Rattle.rs_ast.proofs.TokenLaws.{is_symbol_self}
 use Rattle.rs_parse.specs.Phrases.{Phrase, AtMost}
 use Rattle.rs_parse.specs.Read.{Read, Got, ◌>>=◌, begins, either_at}
 use Rattle.rs_parse.specs.Grammar.{IsIdent, IsSite, IsName, IsColumn, IsLiteral, IsListed, IsListedOrNone, IsSelect, IsDml, IsBody, IsStmt, IsRequest}
-use Rattle.rs_parse.specs.Reader.{ident_at, is_ident_token, begins_literal, literal_at, listed_or_none_at, dml_at, create_table_at, create_index_at, create_synonym_at, create_at, drop_table_at, drop_index_at, drop_synonym_at, drop_program_at, drop_at, migrate_at, compile_at, execute_at, explain_at, show_at, stmt_at, end_at, request_at}
-use Rattle.rs_parse.proofs.Readers.{IsReader, Then, Made, Either, Empty, IsToken, Begins, never, or_left, or_right, gives_before, then_reads, suffix_reads, made_reads, either_reads, as_reads, before_reads, token_begins, alone_begins, empty_begins, begins_either}
-use Rattle.rs_parse.proofs.NameRules.{mark_reads, word_reads, ident_reads, site_reads, on_name, name_reads, column_reads}
-use Rattle.rs_parse.proofs.TermRules.{literal_reads, ident_begins, on_listed, listed_reads}
-use Rattle.rs_parse.proofs.SelectRules.{on_select, select_reads, listed_begins}
+use Rattle.rs_parse.specs.Reader.{ident_at, is_ident_token, begins_literal, literal_at, list_or_none_at, dml_at, create_table_at, create_index_at, create_synonym_at, create_at, drop_table_at, drop_index_at, drop_synonym_at, drop_program_at, drop_at, migrate_at, compile_at, execute_at, explain_at, show_at, stmt_at, end_at, request_at}
+use Rattle.rs_parse.proofs.Readers.{IsReader, Then, Made, Either, Empty, IsToken, Begins, never, or_left, or_right, gives_before, then_reads, suffix_reads, made_reads, either_reads, as_reads, before_reads, token_begins, end_begins, empty_begins, begins_either}
+use Rattle.rs_parse.proofs.NameRules.{symbol_reads, word_reads, ident_reads, site_reads, on_name, name_reads, column_reads}
+use Rattle.rs_parse.proofs.TermRules.{literal_reads, ident_begins, on_list, list_reads}
+use Rattle.rs_parse.proofs.SelectRules.{on_select, select_reads, list_begins}
 use Rattle.rs_parse.proofs.DmlRules.{on_dml, dml_select, dml_reads, dml_begins, on_body, body_reads}
 
 -- ---- lists that may be empty
 
 module _ {A : Type 0} (P : Phrase A) (begins_item : Token → Bool) (item : List Token → Read A) (n : ℕ) (r : IsReader P never item) (begins_so : Begins begins_item true P) where
-  abbrev pub on_listed_or_none : Token → Bool
-  on_listed_or_none t = begins_item t || on_listed never t
+  abbrev pub on_list_or_none : Token → Bool
+  on_list_or_none t = begins_item t || on_list never t
 
-  abbrev Listed : Phrase (List A)
-  Listed = AtMost (suc n) (IsListed P)
+  abbrev SeparatedList : Phrase (List A)
+  SeparatedList = AtMost (suc n) (IsListed P)
 
-  or_none_to : (xs : List A) (ts : List Token) → Either Listed (Empty []) xs ts → AtMost (suc n) (IsListedOrNone P) xs ts
+  or_none_to : (xs : List A) (ts : List Token) → Either SeparatedList (Empty []) xs ts → AtMost (suc n) (IsListedOrNone P) xs ts
   or_none_to [] ts (inl p) = absurd p.1
   or_none_to (x ∷ xs) ts (inl p) = p
   or_none_to xs ts (inr (e, nothing)) = subst (λ (ys : List A). AtMost (suc n) (IsListedOrNone P) ys ts) e (omega arith, nothing)
 
-  or_none_from : (xs : List A) (ts : List Token) → AtMost (suc n) (IsListedOrNone P) xs ts → Either Listed (Empty []) xs ts
+  or_none_from : (xs : List A) (ts : List Token) → AtMost (suc n) (IsListedOrNone P) xs ts → Either SeparatedList (Empty []) xs ts
   or_none_from [] ts (le, nothing) = inr (refl, nothing)
   or_none_from (x ∷ xs) ts p = inl p
 
-  listed_or_none_reads : IsReader (AtMost (suc n) (IsListedOrNone P)) on_listed_or_none (listed_or_none_at begins_item item n)
-  listed_or_none_reads = as_reads (AtMost (suc n) (IsListedOrNone P))
-      (either_reads begins_item (before_reads on_listed_or_none (λ t e. or_right (begins_item t) (on_listed never t) e) (listed_reads n r refl)) (gives_before [] on_listed_or_none)
-      (listed_begins P (suc n) begins_item true begins_so)
-      (λ xs prefix rest p ends. empty_begins begins_item on_listed_or_none (λ t e. or_left (begins_item t) (on_listed never t) e) prefix rest p.1 ends))
+  list_or_none_reads : IsReader (AtMost (suc n) (IsListedOrNone P)) on_list_or_none (list_or_none_at begins_item item n)
+  list_or_none_reads = as_reads (AtMost (suc n) (IsListedOrNone P))
+      (either_reads begins_item (before_reads on_list_or_none (λ t e. or_right (begins_item t) (on_list never t) e) (list_reads n r refl)) (gives_before [] on_list_or_none)
+      (list_begins P (suc n) begins_item true begins_so)
+      (λ xs prefix rest p ends. empty_begins begins_item on_list_or_none (λ t e. or_left (begins_item t) (on_list never t) e) prefix rest p.1 ends))
       or_none_to or_none_from
 
 -- ---- tables, indexes and synonyms
 
-open_ends_name : on_name (tokens.Mark marks.Open) ≡ false
-unfolding same_mark
+open_ends_name : on_name (tokens.Symbol symbols.Open) ≡ false
+unfolding same_symbol
 open_ends_name = refl
 
-close_ends_list : on_listed never (tokens.Mark marks.Close) ≡ false
-unfolding same_mark
+close_ends_list : on_list never (tokens.Symbol symbols.Close) ≡ false
+unfolding same_symbol
 close_ends_list = refl
 
 abbrev table_made : NameText → List ColDef → Unit {0} → Stmt
 table_made name columns close = stmts.CreateTable name columns
 
 abbrev Columns : NameText → Phrase Stmt
-Columns name = Then (IsToken (tokens.Mark marks.Open)) (λ opened. Then (AtMost 16 (IsListed IsColumn)) (λ columns. Made (table_made name columns) (IsToken (tokens.Mark marks.Close))))
+Columns name = Then (IsToken (tokens.Symbol symbols.Open)) (λ opened. Then (AtMost 16 (IsListed IsColumn)) (λ columns. Made (table_made name columns) (IsToken (tokens.Symbol symbols.Close))))
 
 abbrev TablePart : Phrase Stmt
 TablePart = Then (IsToken (tokens.Word (codes "table"))) (λ table. Then IsName Columns)
@@ -71,16 +71,16 @@ TablePart = Then (IsToken (tokens.Word (codes "table"))) (λ table. Then IsName 
 create_table_reads : IsReader TablePart never create_table_at
 unfolding create_table_at
 create_table_reads = suffix_reads (word_reads (codes "table")) (λ table.
-    then_reads name_reads (λ name. suffix_reads (mark_reads marks.Open) (λ opened.
-    then_reads (listed_reads 15 column_reads refl) (λ columns. made_reads (table_made name columns) (mark_reads marks.Close))
-    (λ columns stmt suffix rest q ends. alone_begins (on_listed never) (tokens.Mark marks.Close) false close_ends_list suffix rest q.1)))
-    (λ name stmt suffix rest q ends. token_begins on_name (tokens.Mark marks.Open) false open_ends_name q.1 q.2 suffix rest q.3 q.5))
+    then_reads name_reads (λ name. suffix_reads (symbol_reads symbols.Open) (λ opened.
+    then_reads (list_reads 15 column_reads refl) (λ columns. made_reads (table_made name columns) (symbol_reads symbols.Close))
+    (λ columns stmt suffix rest q ends. end_begins (on_list never) (tokens.Symbol symbols.Close) false close_ends_list suffix rest q.1)))
+    (λ name stmt suffix rest q ends. token_begins on_name (tokens.Symbol symbols.Open) false open_ends_name q.1 q.2 suffix rest q.3 q.5))
 
 abbrev index_made : List ℕ → NameText → List ℕ → Unit {0} → Stmt
 index_made index name column close = stmts.CreateIndex index name column
 
 abbrev IndexedColumn : List ℕ → NameText → Phrase Stmt
-IndexedColumn index name = Then (IsToken (tokens.Mark marks.Open)) (λ opened. Then IsIdent (λ column. Made (index_made index name column) (IsToken (tokens.Mark marks.Close))))
+IndexedColumn index name = Then (IsToken (tokens.Symbol symbols.Open)) (λ opened. Then IsIdent (λ column. Made (index_made index name column) (IsToken (tokens.Symbol symbols.Close))))
 
 abbrev IndexPart : Phrase Stmt
 IndexPart = Then (IsToken (tokens.Word (codes "index"))) (λ word. Then IsIdent (λ index. Then (IsToken (tokens.Word (codes "on"))) (λ on. Then IsName (IndexedColumn index))))
@@ -88,8 +88,8 @@ IndexPart = Then (IsToken (tokens.Word (codes "index"))) (λ word. Then IsIdent 
 create_index_reads : IsReader IndexPart never create_index_at
 unfolding create_index_at
 create_index_reads = suffix_reads (word_reads (codes "index")) (λ word. suffix_reads ident_reads (λ index. suffix_reads (word_reads (codes "on")) (λ on.
-    then_reads name_reads (λ name. suffix_reads (mark_reads marks.Open) (λ opened. suffix_reads ident_reads (λ column. made_reads (index_made index name column) (mark_reads marks.Close))))
-    (λ name stmt suffix rest q ends. token_begins on_name (tokens.Mark marks.Open) false open_ends_name q.1 q.2 suffix rest q.3 q.5))))
+    then_reads name_reads (λ name. suffix_reads (symbol_reads symbols.Open) (λ opened. suffix_reads ident_reads (λ column. made_reads (index_made index name column) (symbol_reads symbols.Close))))
+    (λ name stmt suffix rest q ends. token_begins on_name (tokens.Symbol symbols.Open) false open_ends_name q.1 q.2 suffix rest q.3 q.5))))
 
 abbrev synonym_made : List ℕ → NameText → Stmt
 synonym_made synonym name = stmts.CreateSynonym synonym name
@@ -201,17 +201,17 @@ migrate_reads = suffix_reads (word_reads (codes "migrate")) (λ migrate. suffix_
 -- ---- programs
 
 abbrev on_params : Token → Bool
-on_params t = is_ident_token t || on_listed never t
+on_params t = is_ident_token t || on_list never t
 
 abbrev on_values : Token → Bool
-on_values t = begins_literal t || on_listed never t
+on_values t = begins_literal t || on_list never t
 
-close_ends_params : on_params (tokens.Mark marks.Close) ≡ false
-unfolding same_mark
+close_ends_params : on_params (tokens.Symbol symbols.Close) ≡ false
+unfolding same_symbol
 close_ends_params = refl
 
-close_ends_values : on_values (tokens.Mark marks.Close) ≡ false
-unfolding same_mark
+close_ends_values : on_values (tokens.Symbol symbols.Close) ≡ false
+unfolding same_symbol
 close_ends_values = refl
 
 end_ends_body : on_body (tokens.Word (codes "end")) ≡ false
@@ -221,42 +221,42 @@ abbrev compiled : List ℕ → List (List ℕ) → List Dml → Unit {0} → Stm
 compiled program params body end = stmts.Compile program params body
 
 abbrev BodyEnd : List ℕ → List (List ℕ) → Phrase Stmt
-BodyEnd program params = Then (IsToken (tokens.Mark marks.Close)) (λ close. Then (IsToken (tokens.Word (codes "as"))) (λ word. Then IsBody (λ body. Made (compiled program params body) (IsToken (tokens.Word (codes "end"))))))
+BodyEnd program params = Then (IsToken (tokens.Symbol symbols.Close)) (λ close. Then (IsToken (tokens.Word (codes "as"))) (λ word. Then IsBody (λ body. Made (compiled program params body) (IsToken (tokens.Word (codes "end"))))))
 
 abbrev CompileChain : Phrase Stmt
-CompileChain = Then (IsToken (tokens.Word (codes "compile"))) (λ compile. Then IsIdent (λ program. Then (IsToken (tokens.Mark marks.Open)) (λ opened. Then (AtMost 16 (IsListedOrNone IsIdent)) (BodyEnd program))))
+CompileChain = Then (IsToken (tokens.Word (codes "compile"))) (λ compile. Then IsIdent (λ program. Then (IsToken (tokens.Symbol symbols.Open)) (λ opened. Then (AtMost 16 (IsListedOrNone IsIdent)) (BodyEnd program))))
 
 compile_reads : IsReader CompileChain never compile_at
 unfolding compile_at
-compile_reads = suffix_reads (word_reads (codes "compile")) (λ compile. suffix_reads ident_reads (λ program. suffix_reads (mark_reads marks.Open) (λ opened.
-    then_reads (listed_or_none_reads IsIdent is_ident_token ident_at 15 ident_reads ident_begins)
-    (λ params. suffix_reads (mark_reads marks.Close) (λ close. suffix_reads (word_reads (codes "as")) (λ word.
+compile_reads = suffix_reads (word_reads (codes "compile")) (λ compile. suffix_reads ident_reads (λ program. suffix_reads (symbol_reads symbols.Open) (λ opened.
+    then_reads (list_or_none_reads IsIdent is_ident_token ident_at 15 ident_reads ident_begins)
+    (λ params. suffix_reads (symbol_reads symbols.Close) (λ close. suffix_reads (word_reads (codes "as")) (λ word.
     then_reads body_reads (λ body. made_reads (compiled program params body) (word_reads (codes "end")))
-    (λ body stmt suffix rest q ends. alone_begins on_body (tokens.Word (codes "end")) false end_ends_body suffix rest q.1))))
-    (λ params stmt suffix rest q ends. token_begins on_params (tokens.Mark marks.Close) false close_ends_params q.1 q.2 suffix rest q.3 q.5))))
+    (λ body stmt suffix rest q ends. end_begins on_body (tokens.Word (codes "end")) false end_ends_body suffix rest q.1))))
+    (λ params stmt suffix rest q ends. token_begins on_params (tokens.Symbol symbols.Close) false close_ends_params q.1 q.2 suffix rest q.3 q.5))))
 
 abbrev executed : List ℕ → List Value → Unit {0} → Stmt
 executed program given close = stmts.Execute program given
 
 abbrev ExecuteChain : Phrase Stmt
-ExecuteChain = Then (IsToken (tokens.Word (codes "execute"))) (λ execute. Then IsIdent (λ program. Then (IsToken (tokens.Mark marks.Open)) (λ opened. Then (AtMost 16 (IsListedOrNone IsLiteral)) (λ given. Made (executed program given) (IsToken (tokens.Mark marks.Close))))))
+ExecuteChain = Then (IsToken (tokens.Word (codes "execute"))) (λ execute. Then IsIdent (λ program. Then (IsToken (tokens.Symbol symbols.Open)) (λ opened. Then (AtMost 16 (IsListedOrNone IsLiteral)) (λ given. Made (executed program given) (IsToken (tokens.Symbol symbols.Close))))))
 
-minus_begins_literal : begins_literal (tokens.Mark marks.Minus) ≡ true
-unfolding same_mark
+minus_begins_literal : begins_literal (tokens.Symbol symbols.Minus) ≡ true
+unfolding same_symbol
 minus_begins_literal = refl
 
 literal_begins_so : Begins begins_literal true IsLiteral
 literal_begins_so (values.Int z) prefix rest (n, lt, inl (e, at)) =
-    alone_begins begins_literal (tokens.Number n) true (ap (λ (test : Bool). is_some (cond test (Some (values.Int (pos n))) None)) (lt-ltb n (2 ^ 63) lt)) prefix rest at
-literal_begins_so (values.Int z) prefix rest (n, lt, inr (e, (f, b, at, number, p))) = token_begins begins_literal (tokens.Mark marks.Minus) true minus_begins_literal f b prefix rest at p
-literal_begins_so (values.Text text) prefix rest at = alone_begins begins_literal (tokens.Text text) true refl prefix rest at
+    end_begins begins_literal (tokens.Number n) true (ap (λ (test : Bool). is_some (cond test (Some (values.Int (pos n))) None)) (lt-ltb n (2 ^ 63) lt)) prefix rest at
+literal_begins_so (values.Int z) prefix rest (n, lt, inr (e, (f, b, at, number, p))) = token_begins begins_literal (tokens.Symbol symbols.Minus) true minus_begins_literal f b prefix rest at p
+literal_begins_so (values.Text text) prefix rest at = end_begins begins_literal (tokens.Text text) true refl prefix rest at
 
 execute_reads : IsReader ExecuteChain never execute_at
 unfolding execute_at
-execute_reads = suffix_reads (word_reads (codes "execute")) (λ execute. suffix_reads ident_reads (λ program. suffix_reads (mark_reads marks.Open) (λ opened.
-    then_reads (listed_or_none_reads IsLiteral begins_literal literal_at 15 literal_reads literal_begins_so)
-    (λ given. made_reads (executed program given) (mark_reads marks.Close))
-    (λ given stmt suffix rest q ends. alone_begins on_values (tokens.Mark marks.Close) false close_ends_values suffix rest q.1))))
+execute_reads = suffix_reads (word_reads (codes "execute")) (λ execute. suffix_reads ident_reads (λ program. suffix_reads (symbol_reads symbols.Open) (λ opened.
+    then_reads (list_or_none_reads IsLiteral begins_literal literal_at 15 literal_reads literal_begins_so)
+    (λ given. made_reads (executed program given) (symbol_reads symbols.Close))
+    (λ given stmt suffix rest q ends. end_begins on_values (tokens.Symbol symbols.Close) false close_ends_values suffix rest q.1))))
 
 abbrev ExplainChain : Phrase Stmt
 ExplainChain = Then (IsToken (tokens.Word (codes "explain"))) (λ explain. Made stmts.Explain IsSelect)
@@ -281,8 +281,8 @@ show_reads : IsReader ShowChain never show_at
 unfolding show_at
 show_reads = suffix_reads (word_reads (codes "show")) (λ show.
     either_reads (is_word (codes "sections")) (made_reads sections_shown (word_reads (codes "sections"))) (made_reads cache_shown (word_reads (codes "cache")))
-    (λ stmt prefix rest p. alone_begins (is_word (codes "sections")) (tokens.Word (codes "sections")) true refl prefix rest p.1)
-    (λ stmt prefix rest p ends. alone_begins (is_word (codes "sections")) (tokens.Word (codes "cache")) false refl prefix rest p.1))
+    (λ stmt prefix rest p. end_begins (is_word (codes "sections")) (tokens.Word (codes "sections")) true refl prefix rest p.1)
+    (λ stmt prefix rest p ends. end_begins (is_word (codes "sections")) (tokens.Word (codes "cache")) false refl prefix rest p.1))
 
 -- ---- statements
 
@@ -373,10 +373,10 @@ abbrev OnShow : (Token → Bool) → Type 0
 OnShow is = Begins is false ShowPart
 
 abbrev Executes : Unit {0} → Phrase Stmt
-Executes execute = Then IsIdent (λ program. Then (IsToken (tokens.Mark marks.Open)) (λ opened. Then (AtMost 16 (IsListedOrNone IsLiteral)) (λ given. Made (executed program given) (IsToken (tokens.Mark marks.Close)))))
+Executes execute = Then IsIdent (λ program. Then (IsToken (tokens.Symbol symbols.Open)) (λ opened. Then (AtMost 16 (IsListedOrNone IsLiteral)) (λ given. Made (executed program given) (IsToken (tokens.Symbol symbols.Close)))))
 
 abbrev Compiles : Unit {0} → Phrase Stmt
-Compiles compile = Then IsIdent (λ program. Then (IsToken (tokens.Mark marks.Open)) (λ opened. Then (AtMost 16 (IsListedOrNone IsIdent)) (BodyEnd program)))
+Compiles compile = Then IsIdent (λ program. Then (IsToken (tokens.Symbol symbols.Open)) (λ opened. Then (AtMost 16 (IsListedOrNone IsIdent)) (BodyEnd program)))
 
 abbrev Migrates : Unit {0} → Phrase Stmt
 Migrates migrate = Then (IsToken (tokens.Word (codes "table"))) (λ table. Then IsName (λ name. Then (IsToken (tokens.Word (codes "to"))) (λ to. Made (migrated name) IsSite)))
@@ -452,21 +452,21 @@ stmt_reads = as_reads IsStmt
 
 -- ---- requests
 
-semicolon_ends_stmt : on_stmt (tokens.Mark marks.Semicolon) ≡ false
-unfolding same_mark
+semicolon_ends_stmt : on_stmt (tokens.Symbol symbols.Semicolon) ≡ false
+unfolding same_symbol
 semicolon_ends_stmt = refl
 
 abbrev is_semicolon : Token → Bool
-is_semicolon t = is_mark marks.Semicolon t
+is_semicolon t = is_symbol symbols.Semicolon t
 
 abbrev EndChain : Phrase (Unit {0})
-EndChain = Either (IsToken (tokens.Mark marks.Semicolon)) (Empty tt)
+EndChain = Either (IsToken (tokens.Symbol symbols.Semicolon)) (Empty tt)
 
 end_reads : IsReader EndChain is_semicolon end_at
 unfolding end_at
-end_reads = either_reads (is_mark marks.Semicolon) (before_reads is_semicolon (λ t e. refl) (mark_reads marks.Semicolon)) (gives_before tt is_semicolon)
-    (λ end prefix rest p. alone_begins (is_mark marks.Semicolon) (tokens.Mark marks.Semicolon) true (is_mark_self marks.Semicolon) prefix rest p)
-    (λ end prefix rest p ends. empty_begins (is_mark marks.Semicolon) is_semicolon (λ t e. e) prefix rest p.1 ends)
+end_reads = either_reads (is_symbol symbols.Semicolon) (before_reads is_semicolon (λ t e. refl) (symbol_reads symbols.Semicolon)) (gives_before tt is_semicolon)
+    (λ end prefix rest p. end_begins (is_symbol symbols.Semicolon) (tokens.Symbol symbols.Semicolon) true (is_symbol_self symbols.Semicolon) prefix rest p)
+    (λ end prefix rest p ends. empty_begins (is_symbol symbols.Semicolon) is_semicolon (λ t e. e) prefix rest p.1 ends)
 
 -- what goes on with a request
 abbrev pub on_request : Token → Bool
@@ -476,7 +476,7 @@ abbrev requested : Stmt → Unit {0} → Stmt
 requested stmt end = stmt
 
 end_follows : (stmt made : Stmt) (suffix rest : List Token) → Made (requested stmt) EndChain made suffix → begins on_request rest ≡ false → begins on_stmt (suffix ++ rest) ≡ false
-end_follows stmt made suffix rest (end, inl at, e) ends = alone_begins on_stmt (tokens.Mark marks.Semicolon) false semicolon_ends_stmt suffix rest at
+end_follows stmt made suffix rest (end, inl at, e) ends = end_begins on_stmt (tokens.Symbol symbols.Semicolon) false semicolon_ends_stmt suffix rest at
 end_follows stmt made suffix rest (end, inr empty, e) ends = empty_begins on_stmt on_request (λ t n. or_right (is_semicolon t) (on_stmt t) n) suffix rest empty.1 ends
 
 request_to : (stmt : Stmt) (ts : List Token) → Then IsStmt (λ found. Made (requested found) EndChain) stmt ts → IsRequest stmt ts

@@ -7,8 +7,8 @@ use Rattle.rs_base.specs.Ident.{is_ident}
 use Rattle.rs_base.specs.Txt.{is_txt}
 use Rattle.rs_base.specs.Reading.{◌>>=◌, push_first}
 use Rattle.rs_parse.specs.declared.token_split.Split.{Split}
-use Rattle.rs_ast.specs.declared.token.Mark.{Mark}
-use Rattle.rs_ast.specs.declared.token.Mark.TheVariants as marks
+use Rattle.rs_ast.specs.declared.token.Symbol.{Symbol}
+use Rattle.rs_ast.specs.declared.token.Symbol.TheVariants as symbols
 use Rattle.rs_ast.specs.declared.token.Token.{Token}
 use Rattle.rs_ast.specs.declared.token.Token.TheVariants as tokens
 
@@ -60,21 +60,21 @@ begins_with c [] = Bool.false
 begins_with c (b ∷ bytes) = b == c
 
 -- a mark that begins with this byte, and may end with the next one: the longer mark first
-unfoldable pub mark_at : ℕ → List ℕ → Option (Mark × List ℕ)
-mark_at b bytes =
-    if b == 40 then Some (marks.Open, bytes)
-    else if b == 41 then Some (marks.Close, bytes)
-    else if b == 44 then Some (marks.Comma, bytes)
-    else if b == 46 then Some (marks.Dot, bytes)
-    else if b == 59 then Some (marks.Semicolon, bytes)
-    else if b == 64 then Some (marks.At, bytes)
-    else if b == 42 then Some (marks.Star, bytes)
-    else if b == 58 then Some (marks.Colon, bytes)
-    else if b == 43 then Some (marks.Plus, bytes)
-    else if b == 45 then Some (marks.Minus, bytes)
-    else if b == 61 then Some (marks.Equal, bytes)
-    else if b == 60 then (if begins_with 62 bytes then Some (marks.NotEqual, drop 1 bytes) else if begins_with 61 bytes then Some (marks.LessOrEqual, drop 1 bytes) else Some (marks.Less, bytes))
-    else if b == 62 then (if begins_with 61 bytes then Some (marks.GreaterOrEqual, drop 1 bytes) else Some (marks.Greater, bytes))
+unfoldable pub symbol_at : ℕ → List ℕ → Option (Symbol × List ℕ)
+symbol_at b bytes =
+    if b == 40 then Some (symbols.Open, bytes)
+    else if b == 41 then Some (symbols.Close, bytes)
+    else if b == 44 then Some (symbols.Comma, bytes)
+    else if b == 46 then Some (symbols.Dot, bytes)
+    else if b == 59 then Some (symbols.Semicolon, bytes)
+    else if b == 64 then Some (symbols.At, bytes)
+    else if b == 42 then Some (symbols.Star, bytes)
+    else if b == 58 then Some (symbols.Colon, bytes)
+    else if b == 43 then Some (symbols.Plus, bytes)
+    else if b == 45 then Some (symbols.Minus, bytes)
+    else if b == 61 then Some (symbols.Equal, bytes)
+    else if b == 60 then (if begins_with 62 bytes then Some (symbols.NotEqual, drop 1 bytes) else if begins_with 61 bytes then Some (symbols.LessOrEqual, drop 1 bytes) else Some (symbols.Less, bytes))
+    else if b == 62 then (if begins_with 61 bytes then Some (symbols.GreaterOrEqual, drop 1 bytes) else Some (symbols.Greater, bytes))
     else None
 
 -- the token that begins with this byte, and the bytes after it
@@ -83,7 +83,7 @@ token_at b bytes =
     if is_letter b then word_at (b ∷ bytes)
     else if is_digit b then number_at (b ∷ bytes)
     else if b == 39 then text_at bytes
-    else mark_at b bytes >>= λ mark. Some (tokens.Mark mark.0, mark.1)
+    else symbol_at b bytes >>= λ symbol. Some (tokens.Symbol symbol.0, symbol.1)
 
 -- no tokens: the text is over at this place, or no token begins there
 abbrev pub ends_at : ℕ → Bool → Split

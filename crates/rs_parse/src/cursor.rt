@@ -9,7 +9,7 @@ use crate::token::{
     arith_of, ident_of, is_dml, is_unsigned, kind_of, negated_of, op_of, place_of, site_of,
     unsigned_of,
 };
-use rs_ast::{Arith, Mark, Op, Stmt, Token};
+use rs_ast::{Arith, Symbol, Op, Stmt, Token};
 use rs_base::{Ident, Kind, ReadFault, SiteNo, Value};
 use std::alloc::Global;
 use std::marker::Model;
@@ -51,12 +51,12 @@ impl<'a> Cursor<'a> {
         }
     }
 
-    pub fn begins_with_mark(&self, mark: Mark) -> bool
-        ensures { result ≡ begins (tokens.is_mark mark) self.now }
+    pub fn begins_with_symbol(&self, symbol: Symbol) -> bool
+        ensures { result ≡ begins (tokens.is_symbol symbol) self.now }
     {
         match self.left {
             [] => false,
-            [first, ..] => first.is_mark(mark),
+            [first, ..] => first.is_symbol(symbol),
         }
     }
 
@@ -83,7 +83,7 @@ impl<'a> Cursor<'a> {
     {
         match self.left {
             [] => false,
-            [first, ..] => first.is_mark(Mark::Minus) || is_unsigned(first),
+            [first, ..] => first.is_symbol(Symbol::Minus) || is_unsigned(first),
         }
     }
 
@@ -97,8 +97,8 @@ impl<'a> Cursor<'a> {
     }
 
     /// Gives the statement, where nothing stands behind it.
-    pub fn alone(&self, stmt: Stmt) -> Result<Stmt, ReadFault>
-        ensures { Reads (spec.alone_at stmt self.now) result self.now }
+    pub fn expect_end(&self, stmt: Stmt) -> Result<Stmt, ReadFault>
+        ensures { Reads (spec.at_end stmt self.now) result self.now }
     {
         match self.left {
             [] => Ok(stmt),
@@ -106,20 +106,20 @@ impl<'a> Cursor<'a> {
         }
     }
 
-    pub fn mark(&mut self, mark: Mark) -> Result<(), ReadFault>
-        ensures { Reads (spec.mark_at mark self.old) result self.new }
+    pub fn expect_symbol(&mut self, symbol: Symbol) -> Result<(), ReadFault>
+        ensures { Reads (spec.symbol_at symbol self.old) result self.new }
     {
         let [first, rest @ ..] = self.left else {
             return Err(ReadFault::Malformed);
         };
-        if !first.is_mark(mark) {
+        if !first.is_symbol(symbol) {
             return Err(ReadFault::Malformed);
         }
         self.left = rest;
         Ok(())
     }
 
-    pub fn word(&mut self, word: &[u8]) -> Result<(), ReadFault>
+    pub fn expect_keyword(&mut self, word: &[u8]) -> Result<(), ReadFault>
         ensures { Reads (spec.word_at word.now self.old) result self.new }
     {
         let [first, rest @ ..] = self.left else {

@@ -5,7 +5,7 @@ ghost use Rattle.rs_parse.specs.Read.{Reads, begins, pass_at, suffix_at, separat
 ghost use Rattle.rs_parse.specs.Separator as spec;
 
 use crate::cursor::Cursor;
-use rs_ast::Mark;
+use rs_ast::Symbol;
 use rs_base::ReadFault;
 use sqlite_items::Items;
 use std::alloc::Global;
@@ -34,7 +34,7 @@ fn goes_on(tokens: &Cursor<'_>, separator: Separator) -> bool
     ensures { result ≡ begins (spec.is_separator separator) tokens.now }
 {
     match separator {
-        Separator::Comma => tokens.begins_with_mark(Mark::Comma),
+        Separator::Comma => tokens.begins_with_symbol(Symbol::Comma),
         Separator::And => tokens.begins_with_word(b"and"),
         Separator::Or => tokens.begins_with_word(b"or"),
     }
@@ -44,13 +44,13 @@ fn pass(tokens: &mut Cursor<'_>, separator: Separator) -> Result<(), ReadFault>
     ensures { Reads (pass_at (spec.is_separator separator) tokens.old) result tokens.new }
 {
     match separator {
-        Separator::Comma => tokens.mark(Mark::Comma),
-        Separator::And => tokens.word(b"and"),
-        Separator::Or => tokens.word(b"or"),
+        Separator::Comma => tokens.expect_symbol(Symbol::Comma),
+        Separator::And => tokens.expect_keyword(b"and"),
+        Separator::Or => tokens.expect_keyword(b"or"),
     }
 }
 
-fn suffix<T: ListItem>(
+fn next_item<T: ListItem>(
     alloc: Global,
     tokens: &mut Cursor<'_>,
     separator: Separator,
@@ -62,7 +62,7 @@ fn suffix<T: ListItem>(
 }
 
 /// One item, and at most so many further ones behind separators.
-pub fn listed<T: ListItem>(
+pub fn separated_list<T: ListItem>(
     alloc: Global,
     tokens: &mut Cursor<'_>,
     separator: Separator,
@@ -76,7 +76,7 @@ pub fn listed<T: ListItem>(
         if !goes_on(tokens, separator) {
             return Ok(found);
         }
-        found.push(suffix::<T>(alloc, tokens, separator)?)?;
+        found.push(next_item::<T>(alloc, tokens, separator)?)?;
     }
     Ok(found)
 }
@@ -90,5 +90,5 @@ pub fn all<T: ListItem>(
     ensures { Reads (all_at (spec.is_separator separator) T.item_at tokens.old) result tokens.new }
 {
     let most = tokens.len();
-    listed(alloc, tokens, separator, most)
+    separated_list(alloc, tokens, separator, most)
 }

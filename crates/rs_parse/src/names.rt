@@ -5,7 +5,7 @@ ghost use Rattle.rs_parse.specs.Reader as spec;
 
 use crate::cursor::Cursor;
 use crate::list::ListItem;
-use rs_ast::{ColDef, ColRef, Mark};
+use rs_ast::{ColDef, ColRef, Symbol};
 use rs_base::{Ident, NameText, ReadFault, SiteNo};
 use std::alloc::Global;
 
@@ -13,7 +13,7 @@ use std::alloc::Global;
 fn at_site(tokens: &mut Cursor<'_>) -> Result<SiteNo, ReadFault>
     ensures { Reads (spec.at_site_at tokens.old) result tokens.new }
 {
-    tokens.mark(Mark::At)?;
+    tokens.expect_symbol(Symbol::At)?;
     tokens.site()
 }
 
@@ -21,7 +21,7 @@ fn at_site(tokens: &mut Cursor<'_>) -> Result<SiteNo, ReadFault>
 fn optional_site(tokens: &mut Cursor<'_>) -> Result<Option<SiteNo>, ReadFault>
     ensures { Reads (spec.optional_site_at tokens.old) result tokens.new }
 {
-    if tokens.begins_with_mark(Mark::At) {
+    if tokens.begins_with_symbol(Symbol::At) {
         Ok(Some(at_site(tokens)?))
     } else {
         Ok(None)
@@ -37,7 +37,7 @@ fn created(
 ) -> Result<NameText, ReadFault>
     ensures { Reads (spec.created_at creator creator_site tokens.old) result tokens.new }
 {
-    tokens.mark(Mark::Dot)?;
+    tokens.expect_symbol(Symbol::Dot)?;
     let object = tokens.ident()?;
     let birth = optional_site(tokens)?;
     Ok(NameText {
@@ -55,7 +55,7 @@ pub fn name(tokens: &mut Cursor<'_>) -> Result<NameText, ReadFault>
 {
     let first = tokens.ident()?;
     let site = optional_site(tokens)?;
-    if tokens.begins_with_mark(Mark::Dot) {
+    if tokens.begins_with_symbol(Symbol::Dot) {
         return created(first, site, tokens);
     }
     Ok(NameText {
@@ -71,7 +71,7 @@ pub fn name(tokens: &mut Cursor<'_>) -> Result<NameText, ReadFault>
 fn column_of(table: Ident, tokens: &mut Cursor<'_>) -> Result<ColRef, ReadFault>
     ensures { Reads (spec.column_of_at table tokens.old) result tokens.new }
 {
-    tokens.mark(Mark::Dot)?;
+    tokens.expect_symbol(Symbol::Dot)?;
     let column = tokens.ident()?;
     Ok(ColRef {
         table: Some(table),
@@ -85,7 +85,7 @@ pub fn col_ref(tokens: &mut Cursor<'_>) -> Result<ColRef, ReadFault>
     ensures { Reads (spec.col_ref_at tokens.old) result tokens.new }
 {
     let first = tokens.ident()?;
-    if tokens.begins_with_mark(Mark::Dot) {
+    if tokens.begins_with_symbol(Symbol::Dot) {
         return column_of(first, tokens);
     }
     Ok(ColRef {

@@ -7,7 +7,7 @@ ghost use Rattle.rs_parse.specs.Tokens as spec;
 ghost use Rattle.rs_parse.specs.Scanning.{token_here, Steps};
 
 use crate::span::{blanks, is_digit, is_letter, number_len, word_len};
-use rs_ast::{Mark, Token};
+use rs_ast::{Symbol, Token};
 use rs_base::{Bytes, Ident, NoMemory, ReadFault, Txt, TxtFault};
 use std::alloc::Global;
 use std::marker::Model;
@@ -139,27 +139,27 @@ impl<'a> Scanner<'a> {
     }
 
     /// A mark, behind its first byte.
-    #[tactic(auto, unfolding(crate::specs::Tokens::mark_at))]
-    fn mark(&mut self, first: u8) -> Result<Mark, ReadFault>
-        ensures { Reads (spec.mark_at first self.old) result self.new }
+    #[tactic(auto, unfolding(crate::specs::Tokens::symbol_at))]
+    fn symbol(&mut self, first: u8) -> Result<Symbol, ReadFault>
+        ensures { Reads (spec.symbol_at first self.old) result self.new }
     {
         match first {
-            b'(' => Ok(Mark::Open),
-            b')' => Ok(Mark::Close),
-            b',' => Ok(Mark::Comma),
-            b'.' => Ok(Mark::Dot),
-            b';' => Ok(Mark::Semicolon),
-            b'@' => Ok(Mark::At),
-            b'*' => Ok(Mark::Star),
-            b':' => Ok(Mark::Colon),
-            b'+' => Ok(Mark::Plus),
-            b'-' => Ok(Mark::Minus),
-            b'=' => Ok(Mark::Equal),
-            b'<' if self.eat(b'>') => Ok(Mark::NotEqual),
-            b'<' if self.eat(b'=') => Ok(Mark::LessOrEqual),
-            b'<' => Ok(Mark::Less),
-            b'>' if self.eat(b'=') => Ok(Mark::GreaterOrEqual),
-            b'>' => Ok(Mark::Greater),
+            b'(' => Ok(Symbol::Open),
+            b')' => Ok(Symbol::Close),
+            b',' => Ok(Symbol::Comma),
+            b'.' => Ok(Symbol::Dot),
+            b';' => Ok(Symbol::Semicolon),
+            b'@' => Ok(Symbol::At),
+            b'*' => Ok(Symbol::Star),
+            b':' => Ok(Symbol::Colon),
+            b'+' => Ok(Symbol::Plus),
+            b'-' => Ok(Symbol::Minus),
+            b'=' => Ok(Symbol::Equal),
+            b'<' if self.eat(b'>') => Ok(Symbol::NotEqual),
+            b'<' if self.eat(b'=') => Ok(Symbol::LessOrEqual),
+            b'<' => Ok(Symbol::Less),
+            b'>' if self.eat(b'=') => Ok(Symbol::GreaterOrEqual),
+            b'>' => Ok(Symbol::Greater),
             _ => Err(ReadFault::Malformed),
         }
     }
@@ -182,7 +182,7 @@ impl<'a> Scanner<'a> {
         if first == b'\'' {
             return self.text(alloc);
         }
-        Ok(Token::Mark(self.mark(first)?))
+        Ok(Token::Symbol(self.symbol(first)?))
     }
 
     /// The token that stands here, or `None` where none does.

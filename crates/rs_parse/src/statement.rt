@@ -7,7 +7,7 @@ use crate::changes::dml;
 use crate::cursor::Cursor;
 use crate::programs::{compile, execute, explain, show};
 use crate::schema::{create, drop_any, migrate};
-use rs_ast::{Mark, Stmt};
+use rs_ast::{Symbol, Stmt};
 use rs_base::ReadFault;
 use std::alloc::Global;
 
@@ -39,8 +39,8 @@ fn stmt(alloc: Global, tokens: &mut Cursor<'_>) -> Result<Stmt, ReadFault>
 fn end(tokens: &mut Cursor<'_>) -> Result<(), ReadFault>
     ensures { Reads (spec.end_at tokens.old) result tokens.new }
 {
-    if tokens.begins_with_mark(Mark::Semicolon) {
-        tokens.mark(Mark::Semicolon)
+    if tokens.begins_with_symbol(Symbol::Semicolon) {
+        tokens.expect_symbol(Symbol::Semicolon)
     } else {
         Ok(())
     }
@@ -61,5 +61,5 @@ pub fn request(alloc: Global, tokens: &mut Cursor<'_>) -> Result<Stmt, ReadFault
     ensures { Reads (spec.request_of tokens.old) result tokens.new }
 {
     let stmt = ended(alloc, tokens)?;
-    tokens.alone(stmt)
+    tokens.expect_end(stmt)
 }

@@ -7,7 +7,7 @@ use Rattle.rs_sched.specs.declared.fault.Why.TheVariants as whys
 use Rattle.rs_sched.specs.declared.fault.SchedFault.{SchedFault}
 use Rattle.rs_sched.specs.declared.fault.SchedFault.TheVariants as scheds
 use Rattle.rs_sched.specs.Lines.{lines_of, without_returns, is_comment}
-use Rattle.rs_sched.specs.Spelling.{line_of}
+use Rattle.rs_sched.specs.Encoding.{line_of}
 use Rattle.rs_sched.specs.Schedule.{AreLines}
 use Rattle.rs_sched.specs.Faults.{IsFault}
 use Rattle.rs_sched.specs.Reader as sched

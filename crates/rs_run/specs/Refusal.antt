@@ -3,7 +3,7 @@
 use Rattle.std.specs.Prelude.{◌≡◌, ℕ, ◌+◌, ◌≤◌, Bool, true, false, ◌&&◌, List, [], ◌∷◌, ◌++◌, length, decimal, codes, IsTrue, ◌⊎◌}
 use Rattle.rs_sched.specs.declared.event.Event.{Event}
 use Rattle.rs_sched.specs.Lines.{lines_of, without_returns}
-use Rattle.rs_sched.specs.Spelling.{line_of}
+use Rattle.rs_sched.specs.Encoding.{line_of}
 use Rattle.rs_sched.specs.Schedule.{AreLines, IsValid, IsSchedule}
 use Rattle.rs_sched.specs.Faults.{text_of, IsFault}
 use Rattle.rs_world.specs.Accepted.{may_come, is_open_after, are_accepted}

@@ -5,7 +5,7 @@ use Rattle.rs_base.proofs.Steps.{bind_some}
 use Rattle.rs_base.specs.declared.txn.Origin.{Origin}
 use Rattle.rs_sched.specs.declared.event.Event.{Event}
 use Rattle.rs_sched.specs.declared.event.Event.TheVariants as events
-use Rattle.rs_sched.specs.Spelling.{number_field, line_of, ask_line, hex_of, IsOrigin, IsSiteNo, HasText}
+use Rattle.rs_sched.specs.Encoding.{number_field, line_of, ask_line, hex_of, IsOrigin, IsSiteNo, HasText}
 use Rattle.rs_sched.specs.Schedule.{FieldsFit}
 use Rattle.rs_sched.specs.Reader.{space_at, end_at, number_at, user_at, noise_bytes_at, numbers_at, nth, most, sites_at, deliver_at, lose_at, tick_at, stop_at, arm_at, restart_at, settle_at, noise_at, origin_at}
 use Rattle.rs_sched.proofs.NumberLaws.{some_is}

@@ -8,7 +8,7 @@ use Rattle.rs_sched.specs.declared.fault.Why.TheVariants as whys
 use Rattle.rs_sched.specs.declared.fault.SchedFault.{SchedFault}
 use Rattle.rs_sched.specs.declared.fault.SchedFault.TheVariants as faults
 use Rattle.rs_sched.specs.Lines.{lines_of, without_returns, is_comment}
-use Rattle.rs_sched.specs.Spelling.{line_of, IsLine}
+use Rattle.rs_sched.specs.Encoding.{line_of, IsLine}
 use Rattle.rs_sched.specs.Schedule.{IsLater, AreLines, IsSchedule}
 use Rattle.rs_sched.specs.Faults.{IsRightLine, rank, IsCause, IsFault}
 use Rattle.rs_sched.specs.Reader.{lines_at, line_at, sites_after, events_of}

@@ -8,7 +8,7 @@ use Rattle.rs_base.proofs.Steps.{bind_some, held}
 use Rattle.rs_base.specs.Ident.{is_ident, is_name_byte, begins_with_letter, are_name_bytes}
 use Rattle.rs_sched.specs.declared.event.Event.{Event}
 use Rattle.rs_sched.specs.Numbers.{is_digit, number_of}
-use Rattle.rs_sched.specs.Spelling.{number_field}
+use Rattle.rs_sched.specs.Encoding.{number_field}
 use Rattle.rs_sched.specs.Reader.{is_field_byte, field_len, space_at, end_at, number_at, user_at, numbers_at}
 use Rattle.rs_sched.proofs.NumberLaws.{some_is, number_is, decimal_digits, number_again}
 

@@ -9,7 +9,7 @@ use Rattle.std.proofs.lemmas.Bool.{and_parts, and_from, leb-true, le-leb, ltb-tr
 use Rattle.std.proofs.lemmas.Bool.Decides.{eqb_tells}
 use Rattle.std.proofs.lemmas.Slice.Eq.{bytes_eq-Decides}
 use Rattle.rs_sched.specs.Numbers.{hex_value, hex_pair, bytes_of_hex, noise_of, with_bytes}
-use Rattle.rs_sched.specs.Spelling.{hex_digit, hex_byte, hex_of, is_byte}
+use Rattle.rs_sched.specs.Encoding.{hex_digit, hex_byte, hex_of, is_byte}
 use Rattle.rs_sched.specs.Reader.{is_field_byte, field_len, space_at, noise_bytes_at}
 use Rattle.rs_sched.proofs.NumberLaws.{some_is}
 use Rattle.rs_sched.proofs.FieldLaws.{space_is, stops, field_taken, field_left}

@@ -4,7 +4,7 @@ use Rattle.std.specs.List.{list_all, prefix_len}
 use Rattle.std.proofs.lemmas.List.{take_more, take_all}
 use Rattle.std.proofs.lemmas.Bool.Decides.{eqb_tells}
 use Rattle.std.proofs.lemmas.Bool.{and_parts, and_from}
-use Rattle.rs_sched.specs.Spelling.{IsLine}
+use Rattle.rs_sched.specs.Encoding.{IsLine}
 use Rattle.rs_sched.specs.Lines.{onto_first, lines_of, is_return, without_returns, is_before_feed}
 
 -- ---- carriage returns

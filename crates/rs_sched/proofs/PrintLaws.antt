@@ -10,7 +10,7 @@ use Rattle.rs_sched.specs.declared.event.Event.{Event}
 use Rattle.rs_sched.specs.declared.event.Event.TheVariants as events
 use Rattle.rs_sched.specs.Numbers.{is_digit}
 use Rattle.rs_sched.specs.Lines.{lines_of, is_return, is_before_feed}
-use Rattle.rs_sched.specs.Spelling.{hex_digit, hex_byte, hex_of, number_field, line_of, IsLine, IsSiteNo, HasFields, HasText}
+use Rattle.rs_sched.specs.Encoding.{hex_digit, hex_byte, hex_of, number_field, line_of, IsLine, IsSiteNo, HasFields, HasText}
 use Rattle.rs_sched.specs.Schedule.{AreLater, AreLines, IsValid, IsSchedule, text_of}
 use Rattle.rs_sched.proofs.NumberLaws.{decimal_digits}
 

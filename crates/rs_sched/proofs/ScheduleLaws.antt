@@ -9,7 +9,7 @@ use Rattle.rs_sched.specs.declared.fault.Why.TheVariants as whys
 use Rattle.rs_sched.specs.declared.fault.SchedFault.{SchedFault}
 use Rattle.rs_sched.specs.declared.fault.SchedFault.TheVariants as faults
 use Rattle.rs_sched.specs.Lines.{onto_first, lines_of, without_returns, is_comment, is_before_feed}
-use Rattle.rs_sched.specs.Spelling.{line_of, IsLine}
+use Rattle.rs_sched.specs.Encoding.{line_of, IsLine}
 use Rattle.rs_sched.specs.Schedule.{IsLater, AreLater, AreLines, IsValid, IsSchedule}
 use Rattle.rs_sched.specs.Faults.{IsRightLine, IsCause, sites_of, IsBegun, IsFault}
 use Rattle.rs_sched.specs.Reader.{lines_at, line_at, at_end, further, sites_after, with_events, events_of}

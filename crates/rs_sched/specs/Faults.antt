@@ -9,7 +9,7 @@ use Rattle.rs_sched.specs.declared.fault.Why.TheVariants as whys
 use Rattle.rs_sched.specs.declared.word.Word.{Word}
 use Rattle.rs_sched.specs.declared.word.Word.TheVariants as words
 use Rattle.rs_sched.specs.Lines.{lines_of, without_returns, is_comment}
-use Rattle.rs_sched.specs.Spelling.{spelling, line_of, IsSiteNo}
+use Rattle.rs_sched.specs.Encoding.{encoding, line_of, IsSiteNo}
 use Rattle.rs_sched.specs.Schedule.{FieldsFit, IsLater, AreLines, IsValid}
 
 abbrev pub text_of : Why → List ℕ
@@ -24,7 +24,7 @@ text_of whys.TooLong = codes "too long"
 
 -- the line's first field, up to the first space, is this word
 abbrev pub BeginsWith : Word → List ℕ → Type 0
-BeginsWith word line = (line ≡ spelling word) ⊎ ((rest : List ℕ) × (line ≡ spelling word ++ codes " " ++ rest))
+BeginsWith word line = (line ≡ encoding word) ⊎ ((rest : List ℕ) × (line ≡ encoding word ++ codes " " ++ rest))
 
 -- the right sites line of so many sites
 abbrev pub IsSitesLine : List ℕ → Type 0

@@ -3,7 +3,7 @@ use Rattle.std.specs.Prelude.{◌≡◌, ℕ, ◌≤◌, List, [], ◌∷◌, �
 use Rattle.rs_sched.specs.declared.event.Event.{Event}
 use Rattle.rs_sched.specs.declared.event.Event.TheVariants as events
 use Rattle.rs_sched.specs.Lines.{lines_of, without_returns, is_comment}
-use Rattle.rs_sched.specs.Spelling.{line_of, IsSiteNo, HasFields, HasText}
+use Rattle.rs_sched.specs.Encoding.{line_of, IsSiteNo, HasFields, HasText}
 
 -- the site that an event names
 abbrev pub site_of : Event → Option ℕ

@@ -1,7 +1,7 @@
 //! Events printed as lines.
 
 ghost use Rattle.std.specs.Prelude.{◌≡◌, ◌<◌, [], ◌∷◌, ◌++◌, flat_map, codes, OnOk, OnErr};
-ghost use Rattle.rs_sched.specs.Spelling as spec;
+ghost use Rattle.rs_sched.specs.Encoding as spec;
 
 use crate::event::Event;
 use itoa::Buffer;

@@ -7,8 +7,8 @@ ghost use Rattle.rs_ast.specs.Spelled as spec;
 use crate::column::ColRef;
 use crate::select::{Item, Key, KeyBy, Select, SelectItems, TableRef};
 use crate::spell::clause::condition;
-use crate::spell::{Spell, comma_list, ident, mark, number, word};
-use crate::token::{Mark, Tokens};
+use crate::spell::{Spell, comma_list, ident, symbol, number, word};
+use crate::token::{Symbol, Tokens};
 use rs_base::{Ident, NoMemory};
 use std::alloc::Global;
 
@@ -23,9 +23,9 @@ fn function(
     ensures { OnOk result (out.new ≡ out.old ++ spec.spelled_function function.now (spec.spelled_ref column.now)) }
 {
     word(function, out)?;
-    mark(Mark::Open, out)?;
+    symbol(Symbol::Open, out)?;
     column.spell(alloc, out)?;
-    mark(Mark::Close, out)
+    symbol(Symbol::Close, out)
 }
 
 #[tactic(auto, unfolding(crate::specs::Spelled::spelled_function, crate::specs::Spelled::spelled_item))]
@@ -33,9 +33,9 @@ fn count(out: &mut Tokens) -> Result<(), NoMemory>
     ensures { OnOk result (out.new ≡ out.old ++ spec.spelled_item Item.Count) }
 {
     word(b"count", out)?;
-    mark(Mark::Open, out)?;
-    mark(Mark::Star, out)?;
-    mark(Mark::Close, out)
+    symbol(Symbol::Open, out)?;
+    symbol(Symbol::Star, out)?;
+    symbol(Symbol::Close, out)
 }
 
 impl Spell for Item {
@@ -60,7 +60,7 @@ fn items(alloc: Global, items: &Option<SelectItems>, out: &mut Tokens) -> Result
     ensures { OnOk result (out.new ≡ out.old ++ spec.spelled_items items.now) }
 {
     match items {
-        None => mark(Mark::Star, out),
+        None => symbol(Symbol::Star, out),
         Some(items) => comma_list(alloc, items.as_slice(), out),
     }
 }

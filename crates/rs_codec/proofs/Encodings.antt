@@ -5,11 +5,11 @@ use Rattle.std.specs.Int.{w64}
 use Rattle.std.proofs.lemmas.List.{append_cancel_left, take_at, take-append-drop, length-take}
 use Rattle.std.proofs.lemmas.List.Elements.{All-append}
 use Rattle.rs_base.specs.Sizes.{count_size}
-use Rattle.rs_codec.specs.Spelling.{IsCount, count_of, IsInt, IsText, Takes, NoneBegins}
-use Rattle.rs_codec.specs.Laws.{HasOneSpelling, AreBytes}
+use Rattle.rs_codec.specs.Encoding.{IsCount, count_of, IsInt, IsText, Takes, NoneBegins}
+use Rattle.rs_codec.specs.Laws.{HasOneEncoding, AreBytes}
 use Rattle.rs_codec.proofs.Groups.{one_groups, each_groups, bytes_of_groups, length_of_groups}
 
-pub one_count : HasOneSpelling IsCount
+pub one_count : HasOneEncoding IsCount
 one_count a b r s m n p q e = one_groups a b r s m n p.groups q.groups e
 
 pub each_count : (n : ℕ) → n < 2 ^ 64 → (bytes : List ℕ) × IsCount bytes n
@@ -30,7 +30,7 @@ same_count (pos m) (negsuc n) e = absurd (omega (arith, e))
 same_count (negsuc m) (pos n) e = absurd (omega (arith, e))
 same_count (negsuc m) (negsuc n) e = ap negsuc (omega (arith, e))
 
-pub one_int : HasOneSpelling IsInt
+pub one_int : HasOneEncoding IsInt
 one_int a b r s x y p q e =
     let same = one_count a b r s (count_of x) (count_of y) p q e in
     (same.0, same_count x y same.1)
@@ -52,7 +52,7 @@ same_prefixes x y r s len e = sym (take_at x r (length y) len) ∙ ap (take (len
 pub suffix_count : (a r text : List ℕ) (p : IsText a text) → a ++ r ≡ p.count ++ (text ++ r)
 suffix_count a r text p = ap (λ (xs : List ℕ). xs ++ r) p.parts ∙ append_assoc p.count text r
 
-pub one_text : HasOneSpelling IsText
+pub one_text : HasOneEncoding IsText
 one_text a b r s x y p q e =
     let both : p.count ++ (x ++ r) ≡ q.count ++ (y ++ s) = sym (suffix_count a r x p) ∙ e ∙ suffix_count b s y q in
     let counts = one_count p.count q.count (x ++ r) (y ++ s) (length x) (length y) p.counted q.counted both in
@@ -70,16 +70,16 @@ bytes_of_text bytes text p are = subst AreBytes (sym p.parts) (All-append (λ b.
 
 -- no count stands there
 pub none_no_count : (bytes : List ℕ) → NoneBegins IsCount bytes → NoneBegins IsText bytes
-none_no_count bytes none text spelling rest p e = none (length text) p.count (text ++ rest) p.counted (e ∙ suffix_count spelling rest text p)
+none_no_count bytes none text encoding rest p e = none (length text) p.count (text ++ rest) p.counted (e ∙ suffix_count encoding rest text p)
 
 pub length_of_text : (bytes text : List ℕ) → IsText bytes text → length bytes ≡ count_size (length text) + length text
 length_of_text bytes text p = ap length p.parts ∙ length-append p.count text ∙ ap (λ (n : ℕ). n + length text) (length_of_count p.count (length text) p.counted)
 
 -- a count stands there, and then fewer bytes than it says
 pub none_short : (bytes suffix : List ℕ) (n : ℕ) → Takes IsCount bytes suffix n → length suffix < n → NoneBegins IsText bytes
-none_short bytes suffix n t short text spelling rest p e =
-    let both : t.spelling ++ suffix ≡ p.count ++ (text ++ rest) = sym t.parts ∙ e ∙ suffix_count spelling rest text p in
-    let same = one_count t.spelling p.count suffix (text ++ rest) n (length text) t.spelled p.counted both in
+none_short bytes suffix n t short text encoding rest p e =
+    let both : t.encoding ++ suffix ≡ p.count ++ (text ++ rest) = sym t.parts ∙ e ∙ suffix_count encoding rest text p in
+    let same = one_count t.encoding p.count suffix (text ++ rest) n (length text) t.encoded p.counted both in
     let texts : suffix ≡ text ++ rest = append_cancel_left p.count suffix (text ++ rest) (ap (λ (xs : List ℕ). xs ++ suffix) (sym same.0) ∙ both) in
     omega (arith, same.1, ap length texts, length-append text rest)
 
@@ -88,7 +88,7 @@ pub takes_text : (bytes suffix text new : List ℕ) (n : ℕ) → Takes IsCount 
 takes_text bytes suffix text new n t within prefix back =
     let len : length text ≡ n = omega (arith, ap length prefix, length-take n suffix) in
     record {
-      spelling = t.spelling ++ text;
-      spelled = record { count = t.spelling; counted = subst (λ (k : ℕ). IsCount t.spelling k) (sym len) t.spelled; parts = refl };
-      parts = t.parts ∙ ap (λ (xs : List ℕ). t.spelling ++ xs) (sym (take-append-drop n suffix) ∙ ap (λ (xs : List ℕ). xs ++ drop n suffix) (sym prefix) ∙ ap (λ (xs : List ℕ). text ++ xs) (sym back)) ∙ sym (append_assoc t.spelling text new);
+      encoding = t.encoding ++ text;
+      encoded = record { count = t.encoding; counted = subst (λ (k : ℕ). IsCount t.encoding k) (sym len) t.encoded; parts = refl };
+      parts = t.parts ∙ ap (λ (xs : List ℕ). t.encoding ++ xs) (sym (take-append-drop n suffix) ∙ ap (λ (xs : List ℕ). xs ++ drop n suffix) (sym prefix) ∙ ap (λ (xs : List ℕ). text ++ xs) (sym back)) ∙ sym (append_assoc t.encoding text new);
     }

@@ -12,17 +12,17 @@ use Rattle.rs_sched.specs.declared.word.Word.TheVariants as words
 use Rattle.rs_sched.specs.Lines.{without_returns}
 
 -- the word that a line begins with
-abbrev pub spelling : Word → List ℕ
-spelling words.Sites = codes "sites"
-spelling words.Ask = codes "ask"
-spelling words.Deliver = codes "deliver"
-spelling words.Lose = codes "lose"
-spelling words.Tick = codes "tick"
-spelling words.Stop = codes "stop"
-spelling words.Arm = codes "arm"
-spelling words.Restart = codes "restart"
-spelling words.Settle = codes "settle"
-spelling words.Noise = codes "noise"
+abbrev pub encoding : Word → List ℕ
+encoding words.Sites = codes "sites"
+encoding words.Ask = codes "ask"
+encoding words.Deliver = codes "deliver"
+encoding words.Lose = codes "lose"
+encoding words.Tick = codes "tick"
+encoding words.Stop = codes "stop"
+encoding words.Arm = codes "arm"
+encoding words.Restart = codes "restart"
+encoding words.Settle = codes "settle"
+encoding words.Noise = codes "noise"
 
 abbrev pub hex_digit : ℕ → ℕ
 hex_digit n = if nat_lt n 10 then 48 + n else 87 + n

@@ -1,5 +1,5 @@
 use Rattle.rs_codec.proofs.Writers.{once_count, once_int, once_text}
-use Rattle.rs_codec.proofs.laws.spelled_once.Goals as goal
+use Rattle.rs_codec.proofs.laws.encoded_once.Goals as goal
 
 pub returns-clause-count : goal.returns-clause-count
 returns-clause-count c = once_count

@@ -46,14 +46,14 @@ pub record IsText (bytes text : List ℕ) : Type 0 where
   pub parts : bytes ≡ count ++ text
 
 pub record Puts {X : Type 0} (IsX : List ℕ → X → Type 0) (old new : List ℕ) (x : X) : Type 0 where
-  pub spelling : List ℕ
-  pub spelled : IsX spelling x
-  pub parts : new ≡ old ++ spelling
+  pub encoding : List ℕ
+  pub encoded : IsX encoding x
+  pub parts : new ≡ old ++ encoding
 
 pub record Takes {X : Type 0} (IsX : List ℕ → X → Type 0) (old new : List ℕ) (x : X) : Type 0 where
-  pub spelling : List ℕ
-  pub spelled : IsX spelling x
-  pub parts : old ≡ spelling ++ new
+  pub encoding : List ℕ
+  pub encoded : IsX encoding x
+  pub parts : old ≡ encoding ++ new
 
 abbrev pub NoneBegins : {X : Type 0} → (List ℕ → X → Type 0) → List ℕ → Type 0
-NoneBegins {X} IsX old = (x : X) (spelling rest : List ℕ) → IsX spelling x → old ≡ spelling ++ rest → ⊥
+NoneBegins {X} IsX old = (x : X) (encoding rest : List ℕ) → IsX encoding x → old ≡ encoding ++ rest → ⊥
