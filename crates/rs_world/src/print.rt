@@ -57,7 +57,7 @@ fn print_history(entries: &[Decided], out: &mut Bytes) -> Result<(), NoMemory>
 fn print_rows(rows: &RowRun<'_>, out: &mut Bytes) -> Result<(), NoMemory>
     ensures { OnOk result (out.new ≡ out.old ++ flat_map printed_row rows.now) }
 {
-    let mut rest = rows.again();
+    let mut rest = rows.view();
     while let Some((row, others)) = rest.split_first() {
         put::row(out, row)?;
         rest = others;
