@@ -32,11 +32,11 @@ lt_as_gt {X} {R} o x y =
     let reversed : (r : Ordering) → is_lt (ordering_reverse r) ≡ is_gt r = λ r. elim r as (λ r. is_lt (ordering_reverse r) ≡ is_gt r) [ Less ↦ refl | Equal ↦ refl | Greater ↦ refl ] in
     ap is_lt (o.antisymm y x) ∙ reversed (R x y)
 
-none_below_from_places : {X : Type 0} (R : X → X → Ordering) (x : X) (xs : List X)
+none_below_from_indexes : {X : Type 0} (R : X → X → Ordering) (x : X) (xs : List X)
     → ((j : ℕ) (d : X) → j < length xs → is_gt (R x (get_or xs j d)) ≡ false) → NoneBelow R x xs
-none_below_from_places R x [] h = tt
-none_below_from_places R x (y ∷ ys) h =
-    (h 0 y (omega arith), none_below_from_places R x ys (λ j d l. h (suc j) d (omega arith)))
+none_below_from_indexes R x [] h = tt
+none_below_from_indexes R x (y ∷ ys) h =
+    (h 0 y (omega arith), none_below_from_indexes R x ys (λ j d l. h (suc j) d (omega arith)))
 
 sorted_rest : {X : Type 0} (R : X → X → Ordering) (x : X) (xs : List X) → IsSorted R (x ∷ xs) → IsSorted R xs
 sorted_rest R x xs up = λ k d low high. rw add-one (simp add-one at (up (suc k) d (omega arith) (omega arith)))
@@ -44,7 +44,7 @@ sorted_rest R x xs up = λ k d low high. rw add-one (simp add-one at (up (suc k)
 pub rising_from_sorted : {X : Type 0} {R : X → X → Ordering} → IsTotalOrder R → (xs : List X) → IsSorted R xs → Rising R xs
 rising_from_sorted o [] up = tt
 rising_from_sorted {X} {R} o (x ∷ xs) up = (
-  none_below_from_places R x xs (λ j d l. sym (lt_as_gt o x (get_or xs j d)) ∙ sorted_far (λ a b. is_lt (R a b)) (ranks_by o (λ x. x)) (x ∷ xs) up 0 (suc j) d (omega arith) (omega arith)),
+  none_below_from_indexes R x xs (λ j d l. sym (lt_as_gt o x (get_or xs j d)) ∙ sorted_far (λ a b. is_lt (R a b)) (ranks_by o (λ x. x)) (x ∷ xs) up 0 (suc j) d (omega arith) (omega arith)),
   rising_from_sorted o xs (sorted_rest R x xs up),
 )
 

@@ -11,7 +11,7 @@ use Rattle.rs_eval.specs.Setting.{integer_of}
 
 -- the values that the rows have at a place
 abbrev pub values_at : ℕ → List (List Value) → List Value
-values_at place rows = filter_map (λ row. slice_get row place) rows
+values_at column_index rows = filter_map (λ row. slice_get row column_index) rows
 
 -- the sum of the integers, as large as it is
 abbrev pub sum_of : List Value → ℤ
@@ -36,16 +36,16 @@ greatest_of (value ∷ given) = Some (fold greater value given)
 
 -- the value at a place of the first row; the rows of a group agree in their group's columns
 abbrev pub first_at : ℕ → List (List Value) → Option Value
-first_at place [] = None
-first_at place (row ∷ rows) = slice_get row place
+first_at column_index [] = None
+first_at column_index (row ∷ rows) = slice_get row column_index
 
 -- what an item is for a group, if it is anything
 abbrev pub item_value : List (List Value) → ShapeItem → Option Value
-item_value members (items.Col place) = first_at place members
+item_value members (items.Col column_index) = first_at column_index members
 item_value members items.Count = Some (values.Int (pos (length members)))
-item_value members (items.Sum place) = Some (values.Int (sum_of (values_at place members)))
-item_value members (items.Min place) = least_of (values_at place members)
-item_value members (items.Max place) = greatest_of (values_at place members)
+item_value members (items.Sum column_index) = Some (values.Int (sum_of (values_at column_index members)))
+item_value members (items.Min column_index) = least_of (values_at column_index members)
+item_value members (items.Max column_index) = greatest_of (values_at column_index members)
 
 -- the values, if each is there
 abbrev pub all_of : {A : Type 0} → List (Option A) → Option (List A)
@@ -58,5 +58,5 @@ row_of shown members = all_of (map (item_value members) shown)
 
 -- the item is a sum that isn't an integer of 64 bits
 abbrev pub item_overflows : List (List Value) → ShapeItem → Bool
-item_overflows members (items.Sum place) = not (is_i64 (sum_of (values_at place members)))
+item_overflows members (items.Sum column_index) = not (is_i64 (sum_of (values_at column_index members)))
 item_overflows members item = false

@@ -13,11 +13,11 @@ HasKinds known row = map kind_of row ≡ known
 
 -- the kind of what an item answers over columns of these kinds, if its column is there
 abbrev pub item_kind : List Kind → ShapeItem → Option Kind
-item_kind columns (items.Col place) = slice_get columns place
+item_kind columns (items.Col column_index) = slice_get columns column_index
 item_kind columns items.Count = Some kinds.Int
-item_kind columns (items.Sum place) = Some kinds.Int
-item_kind columns (items.Min place) = slice_get columns place
-item_kind columns (items.Max place) = slice_get columns place
+item_kind columns (items.Sum column_index) = Some kinds.Int
+item_kind columns (items.Min column_index) = slice_get columns column_index
+item_kind columns (items.Max column_index) = slice_get columns column_index
 
 -- these are the kinds of the items
 abbrev pub AreKindsOf : List (Option Kind) → List Kind → Type 0

@@ -14,11 +14,11 @@ use sqlite_items::Items;
 use std::cmp::Ordering;
 
 /// Two rows by the values that they have at a place; a row without one is below.
-pub(crate) fn compare_at(place: u16, one: &[Value], other: &[Value]) -> Ordering
-    ensures { result ≡ option_cmp value_cmp (slice_get one.now place) (slice_get other.now place) }
+pub(crate) fn compare_at(column_index: u16, one: &[Value], other: &[Value]) -> Ordering
+    ensures { result ≡ option_cmp value_cmp (slice_get one.now column_index) (slice_get other.now column_index) }
 {
-    let place = usize::from(place);
-    one.get(place).cmp(&other.get(place))
+    let column_index = usize::from(column_index);
+    one.get(column_index).cmp(&other.get(column_index))
 }
 
 fn compare_by_key(key: &ShapeKey, one: &[Value], other: &[Value]) -> Ordering

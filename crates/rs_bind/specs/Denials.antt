@@ -27,7 +27,7 @@ use Rattle.rs_plan.specs.Over.{is_filled}
 use Rattle.rs_bind.specs.declared.heading.Heading.{Heading}
 use Rattle.rs_bind.specs.declared.scope.Param.{Param}
 use Rattle.rs_bind.specs.declared.scope.ScopeColumn.{ScopeColumn}
-use Rattle.rs_bind.specs.Scope.{named_count, place_of, unqualified, column_kind, is_declared, param_kind, aliases_of, query_scope}
+use Rattle.rs_bind.specs.Scope.{named_count, column_index_of, unqualified, column_kind, is_declared, param_kind, aliases_of, query_scope}
 
 -- A test of a statement: whether it fails, and the cause for which it then denies it.
 pub record Test : Type 0 where
@@ -119,12 +119,12 @@ has_aggregate (Some shown) = list_any is_aggregate shown
 abbrev pub is_grouped : Select → Bool
 is_grouped select = has_aggregate select.items || is_filled select.group
 
-abbrev pub is_same_place : List ScopeColumn → ColRef → ColRef → Bool
-is_same_place scope one other = place_of scope one == place_of scope other
+abbrev pub is_same_column : List ScopeColumn → ColRef → ColRef → Bool
+is_same_column scope one other = column_index_of scope one == column_index_of scope other
 
 -- the item is an aggregate, or one of the columns by which is grouped
 abbrev pub is_of_group : List ScopeColumn → List ColRef → Item → Bool
-is_of_group scope group (items.Col written) = list_any (is_same_place scope written) group
+is_of_group scope group (items.Col written) = list_any (is_same_column scope written) group
 is_of_group scope group items.Count = true
 is_of_group scope group (items.Sum written) = true
 is_of_group scope group (items.Min written) = true
@@ -141,7 +141,7 @@ grouping_test scope select = test (is_grouped select && not (are_of_group scope 
 
 -- the item is this column
 abbrev pub is_item_of : List ScopeColumn → ColRef → Item → Bool
-is_item_of scope written (items.Col shown) = is_same_place scope written shown
+is_item_of scope written (items.Col shown) = is_same_column scope written shown
 is_item_of scope written items.Count = false
 is_item_of scope written (items.Sum shown) = false
 is_item_of scope written (items.Min shown) = false

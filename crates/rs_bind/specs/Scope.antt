@@ -13,8 +13,8 @@ use Rattle.rs_bind.specs.declared.scope.ScopeColumn.{ScopeColumn}
 -- ---- numbers
 
 -- A place has 16 bits, and the position of a parameter 8: no statement that is written needs more.
-abbrev pub as_place : ℕ → ℕ
-as_place n = min n 65535
+abbrev pub as_u16 : ℕ → ℕ
+as_u16 n = min n 65535
 
 abbrev pub as_position : ℕ → ℕ
 as_position n = min n 255
@@ -54,8 +54,8 @@ abbrev pub named_count : List ScopeColumn → ColRef → ℕ
 named_count scope written = count_by (is_named written) scope
 
 -- the place of the first column of that name; where there is none it is behind the last column
-abbrev pub place_of : List ScopeColumn → ColRef → ℕ
-place_of scope written = as_place (position_or_len (is_named written) scope)
+abbrev pub column_index_of : List ScopeColumn → ColRef → ℕ
+column_index_of scope written = as_u16 (position_or_len (is_named written) scope)
 
 -- a column by its name alone
 abbrev pub unqualified : List ℕ → ColRef
@@ -74,8 +74,8 @@ abbrev pub is_declared : List Param → List ℕ → Bool
 is_declared params name = list_any (is_param name) params
 
 -- the position of the parameter of that name; of one that isn't declared it says nothing
-abbrev pub param_place : List Param → List ℕ → ℕ
-param_place params name = as_position (position_or_len (is_param name) params)
+abbrev pub param_index : List Param → List ℕ → ℕ
+param_index params name = as_position (position_or_len (is_param name) params)
 
 -- the kind of the parameter's value, if it has one
 abbrev pub param_kind : List Param → List ℕ → Option Kind

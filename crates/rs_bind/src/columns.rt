@@ -3,7 +3,7 @@
 ghost use Rattle.std.specs.Prelude.{◌≡◌, position};
 ghost use Rattle.rs_bind.specs.Scope as spec;
 
-use crate::numbers::as_place;
+use crate::numbers::as_u16;
 use crate::scope::ScopeColumn;
 use rs_ast::ColRef;
 use rs_base::{Ident, Kind};
@@ -33,10 +33,10 @@ fn position_of(scope: &[ScopeColumn], written: &ColRef) -> Option<usize>
 
 /// The place of the first column of that name. Where there is none it is behind the last column.
 #[tactic(auto, using(crate::proofs::Positions::position_or_end))]
-pub(crate) fn place_of(scope: &[ScopeColumn], written: &ColRef) -> u16
-    ensures { result ≡ spec.place_of scope.now written.now }
+pub(crate) fn column_index_of(scope: &[ScopeColumn], written: &ColRef) -> u16
+    ensures { result ≡ spec.column_index_of scope.now written.now }
 {
-    as_place(position_of(scope, written).unwrap_or(scope.len()))
+    as_u16(position_of(scope, written).unwrap_or(scope.len()))
 }
 
 /// A column by its name alone.

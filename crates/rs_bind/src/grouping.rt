@@ -4,7 +4,7 @@ ghost use Rattle.std.specs.Prelude.{◌≡◌};
 ghost use Rattle.std.specs.List.{list_any, list_all};
 ghost use Rattle.rs_bind.specs.Denials as spec;
 
-use crate::columns::place_of;
+use crate::columns::column_index_of;
 use crate::scope::ScopeColumn;
 use rs_ast::{ColRef, Item, Select};
 
@@ -43,18 +43,18 @@ pub(crate) fn is_grouped(select: &Select) -> bool
 }
 
 /// Whether two names stand for one column.
-pub(crate) fn is_same_place(scope: &[ScopeColumn], one: &ColRef, other: &ColRef) -> bool
-    ensures { result ≡ spec.is_same_place scope.now one.now other.now }
+pub(crate) fn is_same_column(scope: &[ScopeColumn], one: &ColRef, other: &ColRef) -> bool
+    ensures { result ≡ spec.is_same_column scope.now one.now other.now }
 {
-    place_of(scope, one) == place_of(scope, other)
+    column_index_of(scope, one) == column_index_of(scope, other)
 }
 
 fn is_in_group(scope: &[ScopeColumn], group: &[ColRef], written: &ColRef) -> bool
-    ensures { result ≡ list_any (spec.is_same_place scope.now written.now) group.now }
+    ensures { result ≡ list_any (spec.is_same_column scope.now written.now) group.now }
 {
     group
         .iter()
-        .any(|column| is_same_place(scope, written, column))
+        .any(|column| is_same_column(scope, written, column))
 }
 
 fn is_of_group(scope: &[ScopeColumn], group: &[ColRef], item: &Item) -> bool

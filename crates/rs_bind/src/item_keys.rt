@@ -4,7 +4,7 @@ ghost use Rattle.std.specs.Prelude.{◌≡◌};
 ghost use Rattle.std.specs.List.{list_any, list_all};
 ghost use Rattle.rs_bind.specs.Denials as spec;
 
-use crate::grouping::is_same_place;
+use crate::grouping::is_same_column;
 use crate::scope::ScopeColumn;
 use rs_ast::{ColRef, Item, Key, KeyBy, Select};
 
@@ -12,7 +12,7 @@ fn is_item_of(scope: &[ScopeColumn], written: &ColRef, item: &Item) -> bool
     ensures { result ≡ spec.is_item_of scope.now written.now item.now }
 {
     match item {
-        Item::Col(shown) => is_same_place(scope, written, shown),
+        Item::Col(shown) => is_same_column(scope, written, shown),
         Item::Count => false,
         Item::Sum(_) => false,
         Item::Min(_) => false,

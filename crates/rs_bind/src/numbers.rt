@@ -4,10 +4,10 @@ ghost use Rattle.std.specs.Prelude.{◌≡◌};
 ghost use Rattle.rs_bind.specs.Scope as spec;
 
 /// A place in 16 bits. One that is larger becomes the largest.
-pub(crate) fn as_place(place: usize) -> u16
-    ensures { result ≡ spec.as_place place }
+pub(crate) fn as_u16(column_index: usize) -> u16
+    ensures { result ≡ spec.as_u16 column_index }
 {
-    u16::try_from(place).unwrap_or(u16::MAX)
+    u16::try_from(column_index).unwrap_or(u16::MAX)
 }
 
 /// A position in 8 bits. One that is larger becomes the largest.

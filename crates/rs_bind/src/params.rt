@@ -29,8 +29,8 @@ fn position_of(params: &[Param], name: Ident) -> Option<usize>
 
 /// The position of the parameter of that name. Of one that isn't declared it says nothing.
 #[tactic(auto, using(crate::proofs::Positions::position_or_end))]
-pub(crate) fn param_place(params: &[Param], name: Ident) -> u8
-    ensures { result ≡ spec.param_place params.now name }
+pub(crate) fn param_index(params: &[Param], name: Ident) -> u8
+    ensures { result ≡ spec.param_index params.now name }
 {
     as_position(position_of(params, name).unwrap_or(params.len()))
 }

@@ -2,11 +2,11 @@
 
 ghost use Rattle.std.specs.Prelude.{◌≡◌, map, length, IfOk};
 ghost use Rattle.rs_bind.specs.Binding as spec;
-ghost use Rattle.rs_bind.specs.Scope.{as_place as place_in};
+ghost use Rattle.rs_bind.specs.Scope.{as_u16 as u16_of};
 
 use crate::clauses::bound_clauses;
 use crate::heading::Heading;
-use crate::numbers::as_place;
+use crate::numbers::as_u16;
 use crate::scope::{Param, ScopeColumn};
 use crate::scopes::{aliases_of, query_scope};
 use crate::select_denials::select_denial;
@@ -27,11 +27,11 @@ fn names_of(alloc: Global, headings: &[Heading]) -> Result<Swns, NoMemory>
 }
 
 fn widths_of(alloc: Global, headings: &[Heading]) -> Result<Places, NoMemory>
-    ensures { IfOk result (λ widths. widths ≡ map (λ heading. place_in (length heading.columns)) headings.now) }
+    ensures { IfOk result (λ widths. widths ≡ map (λ heading. u16_of (length heading.columns)) headings.now) }
 {
     let mut widths = with_room(alloc, headings.len())?;
     for heading in headings {
-        widths.push(as_place(heading.columns.len()))?;
+        widths.push(as_u16(heading.columns.len()))?;
     }
     Ok(widths)
 }
@@ -45,7 +45,7 @@ fn bound_select(
     headings: &[Heading],
     params: &[Param],
 ) -> Result<Bound, NoMemory>
-    ensures { IfOk result (λ bound. bound ≡ Bound.Select (map (λ heading. heading.name) headings.now) aliases (map (λ heading. place_in (length heading.columns)) headings.now) (spec.bound_clauses scope.now params.now select.now.clauses) (spec.shape_of scope.now select.now)) }
+    ensures { IfOk result (λ bound. bound ≡ Bound.Select (map (λ heading. heading.name) headings.now) aliases (map (λ heading. u16_of (length heading.columns)) headings.now) (spec.bound_clauses scope.now params.now select.now.clauses) (spec.shape_of scope.now select.now)) }
 {
     Ok(Bound::Select {
         names: names_of(alloc, headings)?,

@@ -22,7 +22,7 @@ allows ops.Ge order = is_ge order
 
 -- the value that stands on the right; a parameter has none before it is filled
 abbrev pub side_value : List Value → BoundSide → Option Value
-side_value row (sides.Place place) = slice_get row place
+side_value row (sides.Place column_index) = slice_get row column_index
 side_value row (sides.Lit value) = Some value
 side_value row (sides.Param param) = None
 

@@ -11,7 +11,7 @@ filled_param param None = sides.Param param
 filled_param param (Some value) = sides.Lit value
 
 abbrev pub filled_side : List Value → BoundSide → BoundSide
-filled_side values (sides.Place place) = sides.Place place
+filled_side values (sides.Place column_index) = sides.Place column_index
 filled_side values (sides.Lit value) = sides.Lit value
 filled_side values (sides.Param param) = filled_param param (slice_get values param)
 

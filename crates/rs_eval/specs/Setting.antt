@@ -13,7 +13,7 @@ use Rattle.rs_eval.specs.Integers.{is_i64, computed}
 
 -- the value of a term; of a place or a parameter that has none it says nothing
 abbrev pub term_value : List Value → List Value → BoundTerm → Value
-term_value given row (terms.Place place) = unwrap_or (slice_get row place) (values.Int (pos 0))
+term_value given row (terms.Place column_index) = unwrap_or (slice_get row column_index) (values.Int (pos 0))
 term_value given row (terms.Lit value) = value
 term_value given row (terms.Param param) = unwrap_or (slice_get given param) (values.Int (pos 0))
 

@@ -23,10 +23,10 @@ pub fn allows(op: Op, order: Ordering) -> bool
 }
 
 /// The value at a place of the row, if it has one.
-fn value_at(row: &[Value], place: u16) -> Option<&Value>
-    ensures { option_copied result ≡ slice_get row.now place }
+fn value_at(row: &[Value], column_index: u16) -> Option<&Value>
+    ensures { option_copied result ≡ slice_get row.now column_index }
 {
-    row.get(usize::from(place))
+    row.get(usize::from(column_index))
 }
 
 /// The value that stands on the right, if there is one.
@@ -34,7 +34,7 @@ fn side_value<'a>(row: &'a [Value], side: &'a BoundSide) -> Option<&'a Value>
     ensures { option_copied result ≡ spec.side_value row.now side.now }
 {
     match side {
-        BoundSide::Place(place) => value_at(row, *place),
+        BoundSide::Place(column_index) => value_at(row, *column_index),
         BoundSide::Lit(value) => Some(value),
         BoundSide::Param(_) => None,
     }

@@ -21,7 +21,7 @@ fn filled_side(alloc: Global, values: &[Value], side: &BoundSide) -> Result<Boun
     ensures { IfOk result (λ filled. filled ≡ spec.filled_side values.now side.now) }
 {
     match side {
-        BoundSide::Place(place) => Ok(BoundSide::Place(*place)),
+        BoundSide::Place(column_index) => Ok(BoundSide::Place(*column_index)),
         BoundSide::Lit(value) => Ok(BoundSide::Lit(value.copy(alloc)?)),
         BoundSide::Param(param) => filled_param(alloc, values, *param),
     }

@@ -29,7 +29,7 @@ pub fn term_value(
     ensures { IfOk result (λ value. value ≡ spec.term_value values.now row.now term.now) }
 {
     match term {
-        BoundTerm::Place(place) => copy_or_zero(alloc, row.get(usize::from(*place))),
+        BoundTerm::Place(column_index) => copy_or_zero(alloc, row.get(usize::from(*column_index))),
         BoundTerm::Lit(value) => value.copy(alloc),
         BoundTerm::Param(param) => copy_or_zero(alloc, values.get(usize::from(*param))),
     }
@@ -58,7 +58,7 @@ fn operand(values: &[Value], row: &[Value], term: &BoundTerm) -> i64
     ensures { result ≡ spec.integer_of (spec.term_value values.now row.now term.now) }
 {
     match term {
-        BoundTerm::Place(place) => integer_or_zero(row.get(usize::from(*place))),
+        BoundTerm::Place(column_index) => integer_or_zero(row.get(usize::from(*column_index))),
         BoundTerm::Lit(value) => integer_of(value),
         BoundTerm::Param(param) => integer_or_zero(values.get(usize::from(*param))),
     }

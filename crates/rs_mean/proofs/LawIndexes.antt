@@ -10,7 +10,7 @@ use Rattle.rs_ast.specs.declared.column.ColDef.{ColDef}
 use Rattle.rs_ast.specs.declared.entry.IndexOf.{IndexOf}
 use Rattle.rs_mean.specs.Columns.{has_name}
 use Rattle.rs_mean.specs.Laws.{IsNameAt}
-use Rattle.rs_mean.specs.TableStatements.{column_place, without_index}
+use Rattle.rs_mean.specs.TableStatements.{column_index, without_index}
 use Rattle.rs_mean.proofs.LawKept.{apart_from}
 
 -- ---- columns
@@ -27,15 +27,15 @@ module _ (name : List ℕ) where
       let next : 1 + first_named columns ≡ suc (first_named columns) = omega arith in
       let at : (b : Bool) → Claim b = λ b. elim b as Claim [
         | true ↦ λ here has. ap (λ n. Some n) ((bytes_eq-Decides column.name name).0 here)
-        | false ↦ λ here has. ap (λ place. option_map (λ (c : ColDef). c.name) (slice_get (column ∷ columns) place)) next ∙ first_at columns has
+        | false ↦ λ here has. ap (λ at_index. option_map (λ (c : ColDef). c.name) (slice_get (column ∷ columns) at_index)) next ∙ first_at columns has
       ] in
       at (bytes_eq column.name name) refl e
 
   -- the place of a name that few columns have
-  pub name_at : (columns : List ColDef) → length columns ≤ 16 → has_name columns name ≡ true → IsNameAt name columns (column_place columns name)
+  pub name_at : (columns : List ColDef) → length columns ≤ 16 → has_name columns name ≡ true → IsNameAt name columns (column_index columns name)
   name_at columns few has =
       let low : min (first_named columns) 255 ≡ first_named columns = omega (arith, prefix_len-le-length (λ (column : ColDef). not (bytes_eq column.name name)) columns) in
-      ap (λ place. option_map (λ (c : ColDef). c.name) (slice_get columns place)) low ∙ first_at columns has
+      ap (λ at_index. option_map (λ (c : ColDef). c.name) (slice_get columns at_index)) low ∙ first_at columns has
 
 -- ---- indexes
 

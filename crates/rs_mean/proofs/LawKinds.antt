@@ -24,9 +24,9 @@ use Rattle.rs_ast.specs.declared.column.ColRef.{ColRef}
 use Rattle.rs_plan.specs.Kinds.{same_kind, kinds_fit}
 use Rattle.rs_bind.specs.Binding.{bound_term, bound_rows, bound_set}
 use Rattle.rs_bind.specs.Denials.{Test, test, first_denial, term_fits, row_fits, given_tests, row_tests, insert_tests, term_tests, term_kind, more_tests, expr_fits, set_tests, sets_tests}
-use Rattle.rs_bind.specs.Scope.{as_position, columns_as, named_count, place_of, unqualified, column_kind}
+use Rattle.rs_bind.specs.Scope.{as_position, columns_as, named_count, column_index_of, unqualified, column_kind}
 use Rattle.rs_bind.specs.declared.scope.ScopeColumn.{ScopeColumn}
-use Rattle.rs_bind.proofs.OverScope.{kinds_in, kind_known, place_kind, place_within}
+use Rattle.rs_bind.proofs.OverScope.{kinds_in, kind_known, column_index_kind, column_index_within}
 use Rattle.rs_bind.proofs.OverTests.{both_pass}
 use Rattle.rs_eval.specs.Clauses.{holds}
 use Rattle.rs_eval.specs.Setting.{term_value, combined, set_value, is_stored, with_sets, row_set}
@@ -99,12 +99,12 @@ module _ (scope : List ScopeColumn) (few : length scope ≤ 16) where
   small = omega arith
 
   -- at the place of a column a row has a value of its kind
-  at_place : (row : List Value) (written : ColRef) (kind : Kind) → HasKinds (kinds_in scope) row → column_kind scope written ≡ Some kind
-      → kind_of (unwrap_or (slice_get row (place_of scope written)) (values.Int (pos 0))) ≡ kind
-  at_place row written kind typed is =
-      let place : ℕ = place_of scope written in
-      value_found (slice_get row place) kind
-      (sym (slice_get-map kind_of row place) ∙ ap (λ (these : List Kind). slice_get these place) typed ∙ place_kind scope small written ∙ is)
+  at_column_index : (row : List Value) (written : ColRef) (kind : Kind) → HasKinds (kinds_in scope) row → column_kind scope written ≡ Some kind
+      → kind_of (unwrap_or (slice_get row (column_index_of scope written)) (values.Int (pos 0))) ≡ kind
+  at_column_index row written kind typed is =
+      let at_index : ℕ = column_index_of scope written in
+      value_found (slice_get row at_index) kind
+      (sym (slice_get-map kind_of row at_index) ∙ ap (λ (these : List Kind). slice_get these at_index) typed ∙ column_index_kind scope small written ∙ is)
 
   module _ (row : List Value) (typed : HasKinds (kinds_in scope) row) where
     -- a term that isn't denied, and fits a kind, has a value of this kind
@@ -113,7 +113,7 @@ module _ (scope : List ScopeColumn) (few : length scope ≤ 16) where
     term_of_kind kind (terms.Col name) passes fits =
         let written : ColRef = unqualified name in
         let named = (passed (test (named_count scope written == 0) denials.NoColumn) [] passes).0 in
-        at_place row written kind typed (fits_itself kind (column_kind scope written) (kind_known scope small written named) fits)
+        at_column_index row written kind typed (fits_itself kind (column_kind scope written) (kind_known scope small written named) fits)
     term_of_kind kind (terms.Lit value) passes fits = sym (same_kinds kind (kind_of value) fits)
     term_of_kind kind (terms.Param name) passes fits = absurd cc
 
@@ -138,7 +138,7 @@ module _ (scope : List ScopeColumn) (few : length scope ≤ 16) where
 
       -- a set puts a value of the kind that was there
       set_typed : (new : List Value) → HasKinds (kinds_in scope) new
-          → HasKinds (kinds_in scope) (slice_set new (as_position (place_of scope written)) (set_value [] row (bound_set scope [] set)))
+          → HasKinds (kinds_in scope) (slice_set new (as_position (column_index_of scope written)) (set_value [] row (bound_set scope [] set)))
       set_typed new same =
           let first_tests : List Test = term_tests scope [] set.expr.first in
           let fitting : Test = test (not (expr_fits scope [] (column_kind scope written) set.expr.first set.expr.more)) denials.WrongType in
@@ -152,12 +152,12 @@ module _ (scope : List ScopeColumn) (few : length scope ≤ 16) where
           let value : Value = set_value [] row (bound_set scope [] set) in
           let new_kind : kind_of value ≡ known.0
           = expr_of_kind known.0 set.expr.first set.expr.more terms.0 (subst (λ (kind : Option Kind). expr_fits scope [] kind set.expr.first set.expr.more ≡ true) known.1 fits) in
-          let old_kind : kind_of (get_or new (place_of scope written) (values.Int (pos 0))) ≡ known.0
-          = ap kind_of (sym (unwrap_or-slice_get new (place_of scope written) (values.Int (pos 0)))) ∙ at_place new written known.0 same known.1 in
-          let within : place_of scope written < length scope = place_within scope written named.0 in
-          let place : as_position (place_of scope written) ≡ place_of scope written = omega arith in
-          ap (λ (n : ℕ). map kind_of (slice_set new n value)) place
-          ∙ map-set_same kind_of new (place_of scope written) value (values.Int (pos 0)) (new_kind ∙ sym old_kind)
+          let old_kind : kind_of (get_or new (column_index_of scope written) (values.Int (pos 0))) ≡ known.0
+          = ap kind_of (sym (unwrap_or-slice_get new (column_index_of scope written) (values.Int (pos 0)))) ∙ at_column_index new written known.0 same known.1 in
+          let within : column_index_of scope written < length scope = column_index_within scope written named.0 in
+          let at_index : as_position (column_index_of scope written) ≡ column_index_of scope written = omega arith in
+          ap (λ (n : ℕ). map kind_of (slice_set new n value)) at_index
+          ∙ map-set_same kind_of new (column_index_of scope written) value (values.Int (pos 0)) (new_kind ∙ sym old_kind)
           ∙ same
 
     -- sets leave each value of the kind that was there
@@ -166,7 +166,7 @@ module _ (scope : List ScopeColumn) (few : length scope ≤ 16) where
     sets_typed [] before new passes same = same
     sets_typed (set ∷ sets) before new passes same =
         let parts = both_pass (set_tests scope [] before set) (sets_tests scope [] (before ++ set ∷ []) sets) passes in
-        sets_typed sets (before ++ set ∷ []) (slice_set new (as_position (place_of scope (unqualified set.column))) (set_value [] row (bound_set scope [] set))) parts.1
+        sets_typed sets (before ++ set ∷ []) (slice_set new (as_position (column_index_of scope (unqualified set.column))) (set_value [] row (bound_set scope [] set))) parts.1
         (set_typed set before parts.0 new same)
 
   -- a row that was updated has values of the kinds that it had

@@ -23,10 +23,10 @@ use Rattle.rs_ast.specs.declared.shape.ShapeItem.{ShapeItem}
 use Rattle.rs_ast.specs.declared.shape.ShapeItem.TheVariants as shape_items
 use Rattle.rs_bind.specs.Binding.{shape_item, items_shown, bound_clauses, shape_of}
 use Rattle.rs_bind.specs.Denials.{Test, test, all_differ, first_denial, column_tests, item_tests, items_tests, key_tests, clauses_tests, names_tests, grouping_test, keys_tests, select_tests}
-use Rattle.rs_bind.specs.Scope.{as_place, alias_of, aliases_of, columns_as, scope_column, query_scope, named_count, place_of, column_kind}
+use Rattle.rs_bind.specs.Scope.{as_u16, alias_of, aliases_of, columns_as, scope_column, query_scope, named_count, column_index_of, column_kind}
 use Rattle.rs_bind.specs.declared.heading.Heading.{Heading}
 use Rattle.rs_bind.specs.declared.scope.ScopeColumn.{ScopeColumn}
-use Rattle.rs_bind.proofs.OverScope.{kinds_in, kind_known, place_kind}
+use Rattle.rs_bind.proofs.OverScope.{kinds_in, kind_known, column_index_kind}
 use Rattle.rs_bind.proofs.OverTests.{both_pass}
 use Rattle.rs_eval.specs.Clauses.{holds}
 use Rattle.rs_eval.specs.Joined.{cross_product, joined, joined_within, max_joined}
@@ -108,17 +108,17 @@ module _ (db : Database) (each : EachTable IsTyped db) (name : TableRef → Swn)
 module _ (columns : List Kind) where
   -- an item that is the column at a place
   abbrev column_at : ℕ → ShapeItem
-  column_at place = shape_items.Col (as_place place)
+  column_at at_index = shape_items.Col (as_u16 at_index)
 
   -- columns from a place on are shown with their kinds
   range_kinds : (a : ℕ) (known : List Kind) → a + length known ≤ 96 → ((i : ℕ) → slice_get columns (a + i) ≡ slice_get known i)
       → AreKindsOf (map (item_kind columns) (map column_at (range_with_len a (length known)))) known
   range_kinds a [] few at = refl
   range_kinds a (kind ∷ known) few at =
-      let place : as_place a ≡ a + 0 = omega arith in
+      let at_index : as_u16 a ≡ a + 0 = omega arith in
       let next : (i : ℕ) → slice_get columns (a + 1 + i) ≡ slice_get known i
       = λ i. (let same : a + 1 + i ≡ a + suc i = omega arith in ap (slice_get columns) same ∙ at (suc i)) in
-      ap₂ (λ (one : Option Kind) (others : List (Option Kind)). one ∷ others) (ap (slice_get columns) place ∙ at 0) (range_kinds (a + 1) known (omega arith) next)
+      ap₂ (λ (one : Option Kind) (others : List (Option Kind)). one ∷ others) (ap (slice_get columns) at_index ∙ at 0) (range_kinds (a + 1) known (omega arith) next)
 
 module _ (scope : List ScopeColumn) (small : length scope ≤ 96) where
   -- these are the kinds of what is shown, and of its items
@@ -129,11 +129,11 @@ module _ (scope : List ScopeColumn) (small : length scope ≤ 96) where
   ShowsOne item kind = (kind_shown scope item ≡ Some kind) × (item_kind (kinds_in scope) (shape_item scope item) ≡ Some kind)
 
   column_shows : (written : ColRef) → first_denial (column_tests scope written) ≡ None
-      → (kind : Kind) × ((column_kind scope written ≡ Some kind) × (slice_get (kinds_in scope) (place_of scope written) ≡ Some kind))
+      → (kind : Kind) × ((column_kind scope written ≡ Some kind) × (slice_get (kinds_in scope) (column_index_of scope written) ≡ Some kind))
   column_shows written passes =
       let named = (passed (test (named_count scope written == 0) denials.NoColumn) (test (nat_lt 1 (named_count scope written)) denials.TwoColumns ∷ []) passes).0 in
       let known = the_known (column_kind scope written) (kind_known scope small written named) in
-      (known.0, (known.1, place_kind scope small written ∙ known.1))
+      (known.0, (known.1, column_index_kind scope small written ∙ known.1))
 
   item_shows : (item : Item) → first_denial (item_tests scope item) ≡ None → (kind : Kind) × ShowsOne item kind
   item_shows (items.Col written) passes = column_shows written passes

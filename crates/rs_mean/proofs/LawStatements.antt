@@ -37,7 +37,7 @@ use Rattle.rs_mean.specs.Meaning.{effect_of_stmt, effect_of, meaning}
 use Rattle.rs_mean.specs.Names.{name_of, own_synonym, site_test, table_tests}
 use Rattle.rs_mean.specs.RowChanges.{given_rows, has_room, inserted, updated_rows, may_be_rows, within_limits, updated, kept, met}
 use Rattle.rs_mean.specs.RowStatements.{rows_in, heading_in, selected, answering, inserting, updating, once_bound, tables_in, select, insert, update, delete, effect_of_dml}
-use Rattle.rs_mean.specs.TableStatements.{create_tests, new_table, create_table, drop_table, columns_of, indexes_of, column_place, has_index, is_indexed, create_index_tests, new_index, create_index, drop_index_tests, without_index, drop_index, create_synonym_tests, create_synonym, drop_synonym_tests, drop_synonym}
+use Rattle.rs_mean.specs.TableStatements.{create_tests, new_table, create_table, drop_table, columns_of, indexes_of, column_index, has_index, is_indexed, create_index_tests, new_index, create_index, drop_index_tests, without_index, drop_index, create_synonym_tests, create_synonym, drop_synonym_tests, drop_synonym}
 use Rattle.rs_mean.proofs.LawTests.{passed, holds_if, absent_if, neither}
 use Rattle.rs_mean.proofs.LawEffects.{IsSo, so_denied, so_done, so_unless}
 
@@ -83,27 +83,27 @@ drop_so db name =
 abbrev pub indexes_in : Database → Swn → List IndexOf
 indexes_in db name = indexes_of (table_named name db)
 
-abbrev pub place_in : Database → Swn → List ℕ → ℕ
-place_in db name column = column_place (columns_of (table_named name db)) column
+abbrev pub index_in : Database → Swn → List ℕ → ℕ
+index_in db name column = column_index (columns_of (table_named name db)) column
 
 pub record AddsIndex (db : Database) (txn : Txn) (name : Swn) (index column : List ℕ) (change : Change) (given : List Answer) : Type 0 where
-  pub is : change ≡ changes.SetIndexes name (indexes_in db name ++ new_index txn index (place_in db name column) ∷ [])
+  pub is : change ≡ changes.SetIndexes name (indexes_in db name ++ new_index txn index (index_in db name column) ∷ [])
   pub answers : given ≡ answers.Ok ∷ []
   pub there : IsThere db name
   pub named : has_name (columns_of (table_named name db)) column ≡ true
   pub new_name : has_index (indexes_in db name) index ≡ false
-  pub new_column : is_indexed (indexes_in db name) (place_in db name column) ≡ false
+  pub new_column : is_indexed (indexes_in db name) (index_in db name column) ≡ false
 
 create_index_so : (db : Database) (txn : Txn) (name : Swn) (index column : List ℕ) → IsSo (AddsIndex db txn name index column) (create_index db txn name index column)
 create_index_so db txn name index column =
-    let change : Change = changes.SetIndexes name (indexes_in db name ++ new_index txn index (place_in db name column) ∷ []) in
+    let change : Change = changes.SetIndexes name (indexes_in db name ++ new_index txn index (index_in db name column) ∷ []) in
     so_unless (AddsIndex db txn name index column) (first_denial (create_index_tests db name index column)) (done change answers.Ok)
     (λ e.
-    let clash : Bool = has_index (indexes_in db name) index || is_indexed (indexes_in db name) (place_in db name column) in
+    let clash : Bool = has_index (indexes_in db name) index || is_indexed (indexes_in db name) (index_in db name column) in
     let tests : List Test = test clash denials.IndexExists ∷ [] in
     let table = there db name (test (not (has_name (columns_of (table_named name db)) column)) denials.NoColumn ∷ tests) e in
     let named = passed (test (not (has_name (columns_of (table_named name db)) column)) denials.NoColumn) tests table.1 in
-    let new = neither (has_index (indexes_in db name) index) (is_indexed (indexes_in db name) (place_in db name column)) (passed (test clash denials.IndexExists) [] named.1).0 in
+    let new = neither (has_index (indexes_in db name) index) (is_indexed (indexes_in db name) (index_in db name column)) (passed (test clash denials.IndexExists) [] named.1).0 in
     so_done (AddsIndex db txn name index column) change answers.Ok
     (record { is = refl; answers = refl; there = table.0; named = holds_if (has_name (columns_of (table_named name db)) column) named.0; new_name = new.0; new_column = new.1 }))
 

@@ -13,7 +13,7 @@ use Rattle.rs_mean.specs.Laws.{EachTable, IsWithin, HasDistinctColumns, HasDisti
 use Rattle.rs_mean.specs.Names.{name_of}
 use Rattle.rs_mean.specs.TableStatements.{new_index}
 use Rattle.rs_mean.proofs.LawKept.{Keeps, each_named, empty_within, indexed_within, longer_within, set_within, kept_within, columns_distinct, added_distinct, left_distinct}
-use Rattle.rs_mean.proofs.LawStatements.{DoesOfDml, Does, place_in}
+use Rattle.rs_mean.proofs.LawStatements.{DoesOfDml, Does, index_in}
 use Rattle.rs_mean.proofs.LawTyped.{empty_typed, indexed_typed, longer_typed, updated_typed, kept_typed}
 
 module _ (db : Database) (execution : Execution) (change : Change) (given : List Answer) where
@@ -69,7 +69,7 @@ module _ (db : Database) (execution : Execution) (change : Change) (given : List
     indexes_stay (stmts.CreateIndex index written column) so =
         let name : Swn = name_of db execution written in
         subst (Keeps HasDistinctIndexes db) (sym so.is)
-        (added_distinct (new_index execution.txn index (place_in db name column)) (table_named name db) (each_named HasDistinctIndexes db each name) so.new_name so.new_column)
+        (added_distinct (new_index execution.txn index (index_in db name column)) (table_named name db) (each_named HasDistinctIndexes db each name) so.new_name so.new_column)
     indexes_stay (stmts.DropIndex index written) so =
         let name : Swn = name_of db execution written in
         subst (Keeps HasDistinctIndexes db) (sym so.is) (left_distinct (table_named name db) index (each_named HasDistinctIndexes db each name))

@@ -25,7 +25,7 @@ use Rattle.rs_mean.specs.Meaning.{effect_of, meaning}
 use Rattle.rs_mean.specs.Names.{name_of, own_synonym}
 use Rattle.rs_mean.specs.RowChanges.{kept, met}
 use Rattle.rs_mean.specs.RowStatements.{rows_of}
-use Rattle.rs_mean.specs.TableStatements.{new_table, columns_of, indexes_of, column_place, has_index, is_indexed, new_index, without_index}
+use Rattle.rs_mean.specs.TableStatements.{new_table, columns_of, indexes_of, column_index, has_index, is_indexed, new_index, without_index}
 use Rattle.rs_mean.proofs.Entries.{lookup_put, lookup_gone}
 use Rattle.rs_mean.proofs.LawEffects.{holds_of_change}
 use Rattle.rs_mean.proofs.LawIndexes.{name_at, none_of_name}
@@ -180,15 +180,15 @@ index_is_made db execution name written column given is e =
     let own : Swn = name_of db execution written in
     let found = found_if (table_named own db) so.there in
     let old : Table = found.0 in
-    let index : IndexOf = new_index execution.txn name (column_place old.columns column) in
+    let index : IndexOf = new_index execution.txn name (column_index old.columns column) in
     let new : Table = record old { indexes = old.indexes ++ index ∷ [] } in
-    let made : Option Table → Change = λ table. changes.SetIndexes own (indexes_of table ++ new_index execution.txn name (column_place (columns_of table) column) ∷ []) in
+    let made : Option Table → Change = λ table. changes.SetIndexes own (indexes_of table ++ new_index execution.txn name (column_index (columns_of table) column) ∷ []) in
     let put : table_named own (changed (effect_of db execution).change db) ≡ Some new
     = ap (λ change. table_named own (changed change db)) (so.is ∙ ap made found.1) ∙ set_indexes own (old.indexes ++ index ∷ []) db old found.1 in
     let named : has_name old.columns column ≡ true = subst (λ table. has_name (columns_of table) column ≡ true) found.1 so.named in
     let new_name : has_index old.indexes name ≡ false = subst (λ table. has_index (indexes_of table) name ≡ false) found.1 so.new_name in
     let new_column : is_indexed old.indexes index.column ≡ false
-    = subst (λ table. is_indexed (indexes_of table) (column_place (columns_of table) column) ≡ false) found.1 so.new_column in (
+    = subst (λ table. is_indexed (indexes_of table) (column_index (columns_of table) column) ≡ false) found.1 so.new_column in (
       old,
       new,
       index,

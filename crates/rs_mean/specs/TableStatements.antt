@@ -48,8 +48,8 @@ indexes_of None = []
 indexes_of (Some table) = table.indexes
 
 -- the place of the column of that name
-abbrev pub column_place : List ColDef → List ℕ → ℕ
-column_place columns name = as_position (position_or_len (λ column. bytes_eq column.name name) columns)
+abbrev pub column_index : List ColDef → List ℕ → ℕ
+column_index columns name = as_position (position_or_len (λ column. bytes_eq column.name name) columns)
 
 -- an index has this name
 abbrev pub has_index : List IndexOf → List ℕ → Bool
@@ -65,7 +65,7 @@ create_index_tests db name index column =
     let columns = columns_of (table_named name db) in let indexes = indexes_of (table_named name db) in
     table_tests db name
     ++ test (not (has_name columns column)) denials.NoColumn
-    ∷ test (has_index indexes index || is_indexed indexes (column_place columns column)) denials.IndexExists
+    ∷ test (has_index indexes index || is_indexed indexes (column_index columns column)) denials.IndexExists
     ∷ []
 
 abbrev pub new_index : Txn → List ℕ → ℕ → IndexOf
@@ -76,7 +76,7 @@ abbrev pub create_index : Database → Txn → Swn → List ℕ → List ℕ →
 create_index db txn name index column =
     let columns = columns_of (table_named name db) in let indexes = indexes_of (table_named name db) in
     unless_denied (first_denial (create_index_tests db name index column))
-    (done (changes.SetIndexes name (indexes ++ new_index txn index (column_place columns column) ∷ [])) answers.Ok)
+    (done (changes.SetIndexes name (indexes ++ new_index txn index (column_index columns column) ∷ [])) answers.Ok)
 
 -- the table can't be used; it has no index of that name
 abbrev pub drop_index_tests : Database → Swn → List ℕ → List Test

@@ -20,8 +20,8 @@ fn position_of(columns: &[ColDef], name: Ident) -> Option<usize>
 }
 
 /// The place of the column of that name, in 8 bits; where there is none, it is behind the last.
-fn column_place(columns: &[ColDef], name: Ident) -> u8
-    ensures { result ≡ spec.column_place columns.now name }
+fn column_index(columns: &[ColDef], name: Ident) -> u8
+    ensures { result ≡ spec.column_index columns.now name }
 {
     as_position(position_of(columns, name).unwrap_or(columns.len()))
 }
@@ -96,7 +96,7 @@ impl Database {
             Some(cause)
         } else if !has_name(columns, column) {
             Some(Denial::NoColumn)
-        } else if has_index(indexes, index) || is_indexed(indexes, column_place(columns, column)) {
+        } else if has_index(indexes, index) || is_indexed(indexes, column_index(columns, column)) {
             Some(Denial::IndexExists)
         } else {
             None
@@ -119,7 +119,7 @@ impl Database {
         }
         let made = IndexOf {
             name: index,
-            column: column_place(self.columns_of(&name), column),
+            column: column_index(self.columns_of(&name), column),
             made: txn,
         };
         let indexes = with_index(alloc, self.indexes_of(&name), made)?;

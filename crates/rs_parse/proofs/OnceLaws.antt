@@ -9,7 +9,7 @@ use Rattle.rs_ast.specs.declared.token.Token.{Token}
 use Rattle.rs_parse.specs.Tokens.{split_of}
 use Rattle.rs_parse.specs.Grammar.{IsRequest}
 use Rattle.rs_parse.specs.Parsing.{Spells, SomeBegins, IsOffending, IsFault, AtToken, NoToken, AtEnd, Parsed, Statement, FaultAt, parsed_of}
-use Rattle.rs_parse.proofs.ParseLaws.{parsed_spelled, spelled_parsed, fault_placed}
+use Rattle.rs_parse.proofs.ParseLaws.{parsed_spelled, spelled_parsed, fault_offset}
 
 -- ---- statements
 
@@ -21,12 +21,12 @@ pub statement_once : (text : List ℕ) (one other : Stmt) → Spells text one �
 statement_once text one other first second = same_statement one other (sym (spelled_parsed text one first) ∙ spelled_parsed text other second)
 
 -- Each text spells a statement, or has a fault.
-pub spelled_or_faulty : (text : List ℕ) → ((stmt : Stmt) × Spells text stmt) ⊎ ((place : ℕ) × IsFault text place)
+pub spelled_or_faulty : (text : List ℕ) → ((stmt : Stmt) × Spells text stmt) ⊎ ((offset : ℕ) × IsFault text offset)
 spelled_or_faulty text = go (parsed_of text) refl
   where
-    go : (parsed : Parsed) → parsed_of text ≡ parsed → ((stmt : Stmt) × Spells text stmt) ⊎ ((place : ℕ) × IsFault text place)
+    go : (parsed : Parsed) → parsed_of text ≡ parsed → ((stmt : Stmt) × Spells text stmt) ⊎ ((offset : ℕ) × IsFault text offset)
     go (Statement stmt) e = inl (stmt, parsed_spelled text stmt e)
-    go (FaultAt place) e = inr (place, fault_placed text place e)
+    go (FaultAt offset) e = inr (offset, fault_offset text offset e)
 
 -- ---- tokens with which some request begins
 
@@ -74,13 +74,13 @@ offending_once ts one other first second =
     ]
 
 -- a token begins at one place
-place_once : (starts : List ℕ) (m n one other : ℕ) → m ≡ n → slice_get starts m ≡ Some one → slice_get starts n ≡ Some other → one ≡ other
-place_once starts m n one other same at there = same_Some one other (sym at ∙ ap (slice_get starts) same ∙ there)
+offset_once : (starts : List ℕ) (m n one other : ℕ) → m ≡ n → slice_get starts m ≡ Some one → slice_get starts n ≡ Some other → one ≡ other
+offset_once starts m n one other same at there = same_Some one other (sym at ∙ ap (slice_get starts) same ∙ there)
 
 -- A text has its fault at one place.
 pub fault_once : (text : List ℕ) (one other : ℕ) → IsFault text one → IsFault text other → one ≡ other
 fault_once text one other (AtToken number first at) (AtToken further second there) =
-    place_once (split_of text).starts number further one other (offending_once (split_of text).tokens number further first second) at there
+    offset_once (split_of text).starts number further one other (offending_once (split_of text).tokens number further first second) at there
 fault_once text one other (AtToken number first at) (NoToken cut begun there) = absurd (not_all (split_of text).tokens number first begun)
 fault_once text one other (AtToken number first at) (AtEnd whole begun none there) = absurd (not_all (split_of text).tokens number first begun)
 fault_once text one other (NoToken cut begun at) (AtToken number second there) = absurd (not_all (split_of text).tokens number second begun)
@@ -91,7 +91,7 @@ fault_once text one other (AtEnd whole begun none at) (NoToken cut others there)
 fault_once text one other (AtEnd whole begun none at) (AtEnd again others never there) = at ∙ sym there
 
 -- A text that spells a statement has no fault.
-pub spelled_no_fault : (text : List ℕ) (stmt : Stmt) (place : ℕ) → Spells text stmt → IsFault text place → ⊥
-spelled_no_fault text stmt place (whole, is) (AtToken number offending at) = not_all (split_of text).tokens number offending (request_begins stmt (split_of text).tokens is)
-spelled_no_fault text stmt place (whole, is) (NoToken cut begun at) = false≢true (sym cut ∙ whole)
-spelled_no_fault text stmt place (whole, is) (AtEnd again begun none at) = none stmt is
+pub spelled_no_fault : (text : List ℕ) (stmt : Stmt) (offset : ℕ) → Spells text stmt → IsFault text offset → ⊥
+spelled_no_fault text stmt offset (whole, is) (AtToken number offending at) = not_all (split_of text).tokens number offending (request_begins stmt (split_of text).tokens is)
+spelled_no_fault text stmt offset (whole, is) (NoToken cut begun at) = false≢true (sym cut ∙ whole)
+spelled_no_fault text stmt offset (whole, is) (AtEnd again begun none at) = none stmt is

@@ -14,7 +14,7 @@ use Rattle.rs_parse.specs.Tokens.{split_of}
 use Rattle.rs_parse.specs.Grammar.{IsRequest}
 use Rattle.rs_parse.specs.Read.{Read, Got, Fault, ◌>>=◌}
 use Rattle.rs_parse.specs.Reader.{request_at, at_end, request_of}
-use Rattle.rs_parse.specs.Parsing.{Spells, SomeBegins, IsOffending, IsFault, AtToken, NoToken, AtEnd, Parsed, Statement, FaultAt, place_of, judged, parsed_of, ParseGives}
+use Rattle.rs_parse.specs.Parsing.{Spells, SomeBegins, IsOffending, IsFault, AtToken, NoToken, AtEnd, Parsed, Statement, FaultAt, offset_of, judged, parsed_of, ParseGives}
 use Rattle.rs_parse.proofs.Readers.{Finds, got_value, got_rest, fault_rest, got-fault, fault-got, got_both, fault_of_both, nil-cons, prefix_alone}
 use Rattle.rs_parse.proofs.StmtRules.{request_reads}
 use Rattle.rs_parse.proofs.Splits.{length-starts, end_of_whole}
@@ -88,19 +88,19 @@ fault_found ts rest e = elim (fault_of_both (request_at ts) alone rest e) [
 
 abbrev stmt_or : Stmt → Parsed → Stmt
 stmt_or other (Statement stmt) = stmt
-stmt_or other (FaultAt place) = other
+stmt_or other (FaultAt offset) = other
 
 abbrev is_statement : Parsed → Bool
 is_statement (Statement stmt) = true
-is_statement (FaultAt place) = false
+is_statement (FaultAt offset) = false
 
-abbrev place_or : ℕ → Parsed → ℕ
-place_or other (Statement stmt) = other
-place_or other (FaultAt place) = place
+abbrev offset_or : ℕ → Parsed → ℕ
+offset_or other (Statement stmt) = other
+offset_or other (FaultAt offset) = offset
 
-if_whole : (whole : Bool) (stmt found : Stmt) (place : ℕ) → cond whole (Statement found) (FaultAt place) ≡ Statement stmt → (whole ≡ true) × (found ≡ stmt)
-if_whole true stmt found place e = (refl, ap (λ (p : Parsed). stmt_or found p) e)
-if_whole false stmt found place e = absurd (false≢true (ap is_statement e))
+if_whole : (whole : Bool) (stmt found : Stmt) (offset : ℕ) → cond whole (Statement found) (FaultAt offset) ≡ Statement stmt → (whole ≡ true) × (found ≡ stmt)
+if_whole true stmt found offset e = (refl, ap (λ (p : Parsed). stmt_or found p) e)
+if_whole false stmt found offset e = absurd (false≢true (ap is_statement e))
 
 pub parsed_spelled : (text : List ℕ) (stmt : Stmt) → parsed_of text ≡ Statement stmt → Spells text stmt
 unfolding parsed_of
@@ -117,59 +117,59 @@ unfolding parsed_of
 spelled_parsed text stmt (whole, is) =
     ap (judged (split_of text)) (whole_again stmt (split_of text).tokens is) ∙ ap (λ (w : Bool). cond w (Statement stmt) (FaultAt (split_of text).end)) whole
 
-place_at : (text : List ℕ) (place : ℕ) (f : FaultOf (split_of text).tokens []) → (split_of text).end ≡ place → IsFault text place
-place_at text place f e = go (split_of text).whole refl
+offset_at : (text : List ℕ) (offset : ℕ) (f : FaultOf (split_of text).tokens []) → (split_of text).end ≡ offset → IsFault text offset
+offset_at text offset f e = go (split_of text).whole refl
   where
     all : SomeBegins (split_of text).tokens
     all = subst SomeBegins (prefix_alone (split_of text).tokens f.prefix [] f.separated refl) f.begun
 
-    go : (whole : Bool) → (split_of text).whole ≡ whole → IsFault text place
+    go : (whole : Bool) → (split_of text).whole ≡ whole → IsFault text offset
     go true w = AtEnd w all f.none (sym e ∙ end_of_whole text w)
     go false w = NoToken w all (sym e)
 
-if_fault : (whole : Bool) (found : Stmt) (end place : ℕ) → cond whole (Statement found) (FaultAt end) ≡ FaultAt place → (whole ≡ false) × (end ≡ place)
-if_fault true found end place e = absurd (false≢true (sym (ap is_statement e)))
-if_fault false found end place e = (refl, ap (place_or end) e)
+if_fault : (whole : Bool) (found : Stmt) (end offset : ℕ) → cond whole (Statement found) (FaultAt end) ≡ FaultAt offset → (whole ≡ false) × (end ≡ offset)
+if_fault true found end offset e = absurd (false≢true (sym (ap is_statement e)))
+if_fault false found end offset e = (refl, ap (offset_or end) e)
 
 -- the place behind the last token
-place_after : (text : List ℕ) → place_of (split_of text) 0 ≡ (split_of text).end
-place_after text = go (slice_get_cases (split_of text).starts (length (split_of text).tokens - 0)).1
+offset_after : (text : List ℕ) → offset_of (split_of text) 0 ≡ (split_of text).end
+offset_after text = go (slice_get_cases (split_of text).starts (length (split_of text).tokens - 0)).1
   where
     go : ((x : ℕ) × (length (split_of text).tokens - 0 < length (split_of text).starts) × (slice_get (split_of text).starts (length (split_of text).tokens - 0) ≡ Some x) × (get_or (split_of text).starts (length (split_of text).tokens - 0) x ≡ x))
         ⊎ ((length (split_of text).starts ≤ length (split_of text).tokens - 0) × (slice_get (split_of text).starts (length (split_of text).tokens - 0) ≡ None))
-        → place_of (split_of text) 0 ≡ (split_of text).end
+        → offset_of (split_of text) 0 ≡ (split_of text).end
     go (inl h) = absurd (omega (arith, h.1, length-starts text))
     go (inr h) = ap (λ (found : Option ℕ). unwrap_or found (split_of text).end) h.1
 
 -- the place of a token
-place_of_token : (text : List ℕ) (n left : ℕ) → length (split_of text).tokens ≡ n + left → 0 < left → slice_get (split_of text).starts n ≡ Some (place_of (split_of text) left)
-place_of_token text n left counted more = go (slice_get_cases (split_of text).starts n).1
+offset_of_token : (text : List ℕ) (n left : ℕ) → length (split_of text).tokens ≡ n + left → 0 < left → slice_get (split_of text).starts n ≡ Some (offset_of (split_of text) left)
+offset_of_token text n left counted more = go (slice_get_cases (split_of text).starts n).1
   where
     same : length (split_of text).tokens - left ≡ n
     same = omega (arith, counted)
 
     go : ((x : ℕ) × (n < length (split_of text).starts) × (slice_get (split_of text).starts n ≡ Some x) × (get_or (split_of text).starts n x ≡ x)) ⊎ ((length (split_of text).starts ≤ n) × (slice_get (split_of text).starts n ≡ None))
-        → slice_get (split_of text).starts n ≡ Some (place_of (split_of text) left)
+        → slice_get (split_of text).starts n ≡ Some (offset_of (split_of text) left)
     go (inl h) = h.2 ∙ ap Some (sym (ap (λ (m : ℕ). unwrap_or (slice_get (split_of text).starts m) (split_of text).end) same ∙ ap (λ (found : Option ℕ). unwrap_or found (split_of text).end) h.2))
     go (inr h) = absurd (omega (arith, h.0, counted, more, length-starts text))
 
-fault_at : (text : List ℕ) (place : ℕ) (rest : List Token) → FaultOf (split_of text).tokens rest → place_of (split_of text) (length rest) ≡ place → IsFault text place
-fault_at text place [] f e = place_at text place f (sym (place_after text) ∙ e)
-fault_at text place (t ∷ us) f e =
+fault_at : (text : List ℕ) (offset : ℕ) (rest : List Token) → FaultOf (split_of text).tokens rest → offset_of (split_of text) (length rest) ≡ offset → IsFault text offset
+fault_at text offset [] f e = offset_at text offset f (sym (offset_after text) ∙ e)
+fault_at text offset (t ∷ us) f e =
     let counted : length (split_of text).tokens ≡ length f.prefix + length (t ∷ us) = omega (arith, ap length f.separated, length-append f.prefix (t ∷ us)) in
     let offending : IsOffending (split_of text).tokens (length f.prefix) = record { before = f.prefix; token = t; suffix = us; separated = f.separated; counted = refl; begun = f.begun; barred = f.barred t us refl } in
-    AtToken (length f.prefix) offending (place_of_token text (length f.prefix) (length (t ∷ us)) counted (omega arith) ∙ ap Some e)
+    AtToken (length f.prefix) offending (offset_of_token text (length f.prefix) (length (t ∷ us)) counted (omega arith) ∙ ap Some e)
 
-pub fault_placed : (text : List ℕ) (place : ℕ) → parsed_of text ≡ FaultAt place → IsFault text place
+pub fault_offset : (text : List ℕ) (offset : ℕ) → parsed_of text ≡ FaultAt offset → IsFault text offset
 unfolding parsed_of
-fault_placed text place e = go (request_of (split_of text).tokens) refl e
+fault_offset text offset e = go (request_of (split_of text).tokens) refl e
   where
-    go : (read : Read Stmt) → request_of (split_of text).tokens ≡ read → judged (split_of text) read ≡ FaultAt place → IsFault text place
+    go : (read : Read Stmt) → request_of (split_of text).tokens ≡ read → judged (split_of text) read ≡ FaultAt offset → IsFault text offset
     go (Got found rest) r e =
-        let g = if_fault (split_of text).whole found (split_of text).end place e in
+        let g = if_fault (split_of text).whole found (split_of text).end offset e in
         let all : SomeBegins (split_of text).tokens = (found, [], subst (IsRequest found) (sym (append-nil (split_of text).tokens)) (whole_found (split_of text).tokens found rest r)) in
         NoToken g.0 all (sym g.1)
-    go (Fault rest) r e = fault_at text place rest (fault_found (split_of text).tokens rest r) (ap (place_or place) e)
+    go (Fault rest) r e = fault_at text offset rest (fault_found (split_of text).tokens rest r) (ap (offset_or offset) e)
 
 -- ---- calls
 
@@ -180,5 +180,5 @@ parse_found text (Err fault) exact = tt
 pub parse_only : (text : List ℕ) (result : Result Stmt ParseFault) → ParseGives result (parsed_of text) → (stmt : Stmt) → Spells text stmt → ParseGives result (Statement stmt)
 parse_only text result exact stmt is = subst (ParseGives result) (spelled_parsed text stmt is) exact
 
-pub parse_fault : (text : List ℕ) (result : Result Stmt ParseFault) → ParseGives result (parsed_of text) → (place : ℕ) → result ≡ Err (faults.Syntax place) → IsFault text place
-parse_fault text result exact place e = fault_placed text place (subst (λ (r : Result Stmt ParseFault). ParseGives r (parsed_of text)) e exact)
+pub parse_fault : (text : List ℕ) (result : Result Stmt ParseFault) → ParseGives result (parsed_of text) → (offset : ℕ) → result ≡ Err (faults.Syntax offset) → IsFault text offset
+parse_fault text result exact offset e = fault_offset text offset (subst (λ (r : Result Stmt ParseFault). ParseGives r (parsed_of text)) e exact)

@@ -102,25 +102,25 @@ abbrev IsSplit : List Token → Split → Type 0
 IsSplit ts split = (split.tokens ≡ ts) × (split.whole ≡ true)
 
 split_first : (blank : Bool) (at b : ℕ) (bytes : List ℕ) (t : Token) (rest : List ℕ) (ts : List Token) → blank ≡ false → token_at b bytes ≡ Some (t, rest)
-    → ((place : ℕ) → IsSplit ts (split_suffix place 0 rest))
+    → ((offset : ℕ) → IsSplit ts (split_suffix offset 0 rest))
     → IsSplit (t ∷ ts) (cond blank (split_suffix (at + 1) 0 bytes) (taken_at at (token_at b bytes) (λ token. split_suffix (at + 1) (length bytes - length token.1) bytes)))
 split_first true at b bytes t rest ts h e suffix = absurd (true≢false h)
 split_first false at b bytes t rest ts h e suffix =
     let step = λ (token : Token × List ℕ). split_suffix (at + 1) (length bytes - length token.1) bytes in
-    let place = at + (length (b ∷ bytes) - length rest) in
-    let others : IsSplit ts (split_suffix place 0 rest) = suffix place in
-    let first : taken_at at (token_at b bytes) step ≡ put_first at t (split_suffix place 0 rest) =
+    let offset = at + (length (b ∷ bytes) - length rest) in
+    let others : IsSplit ts (split_suffix offset 0 rest) = suffix offset in
+    let first : taken_at at (token_at b bytes) step ≡ put_first at t (split_suffix offset 0 rest) =
     ap (λ (read : Option (Token × List ℕ)). taken_at at read step) e ∙ same_suffix at b bytes (Some (t, rest)) e in
     (ap (λ (split : Split). split.tokens) first ∙ ap (λ (more : List Token). t ∷ more) others.0, ap (λ (split : Split). split.whole) first ∙ others.1)
 
 split_at : (at : ℕ) (text : List ℕ) (t : Token) (rest : List ℕ) (ts : List Token) → token_here text ≡ Some (t, rest)
-    → ((place : ℕ) → IsSplit ts (split_suffix place 0 rest)) → IsSplit (t ∷ ts) (split_suffix at 0 text)
+    → ((offset : ℕ) → IsSplit ts (split_suffix offset 0 rest)) → IsSplit (t ∷ ts) (split_suffix at 0 text)
 unfolding token_here
 split_at at [] t rest ts e suffix = absurd (none-some (t, rest) e)
 split_at at (b ∷ bytes) t rest ts e suffix = split_first (is_blank b) at b bytes t rest ts (no_blank b bytes (t, rest) e) e suffix
 
 split_next : (touching : Bool) (at : ℕ) (t : Token) (rest : List ℕ) (ts : List Token) → token_here (printed_token t ++ rest) ≡ Some (t, rest)
-    → ((place : ℕ) → IsSplit ts (split_suffix place 0 rest)) → IsSplit (t ∷ ts) (split_suffix at 0 (cond touching (printed_token t) (32 ∷ printed_token t) ++ rest))
+    → ((offset : ℕ) → IsSplit ts (split_suffix offset 0 rest)) → IsSplit (t ∷ ts) (split_suffix at 0 (cond touching (printed_token t) (32 ∷ printed_token t) ++ rest))
 split_next true at t rest ts e suffix = split_at at (printed_token t ++ rest) t rest ts e suffix
 split_next false at t rest ts e suffix = split_at (at + 1) (printed_token t ++ rest) t rest ts e suffix
 
@@ -129,7 +129,7 @@ unfolding printed_next
 split_printed at before [] formed = (refl, refl)
 split_printed at before (t ∷ ts) formed =
     let rest = printed_after (ending_after before t) ts in
-    split_next (touches before t) at t rest ts (token_again t rest formed.0 (suffix_apart before t ts formed.1)) (λ place. split_printed place (ending_after before t) ts formed.1)
+    split_next (touches before t) at t rest ts (token_again t rest formed.0 (suffix_apart before t ts formed.1)) (λ offset. split_printed offset (ending_after before t) ts formed.1)
 
 pub split_of_printed : (ts : List Token) → AreFormed ts → ((split_of (printed_tokens ts)).tokens ≡ ts) × ((split_of (printed_tokens ts)).whole ≡ true)
 split_of_printed ts formed = split_printed 0 endings.Start ts formed

@@ -143,8 +143,8 @@ suffix_drop : (at inside : ℕ) (bytes : List ℕ) → inside ≤ length bytes �
 suffix_drop at zero bytes h = ap (λ (n : ℕ). split_suffix n 0 bytes) (omega arith)
 suffix_drop at (suc inside) [] h = absurd (omega arith)
 suffix_drop at (suc inside) (b ∷ bytes) h =
-    let place : at + 1 + inside ≡ at + suc inside = omega arith in
-    suffix_drop (at + 1) inside bytes (omega arith) ∙ ap (λ (n : ℕ). split_suffix n 0 (drop inside bytes)) place
+    let offset : at + 1 + inside ≡ at + suc inside = omega arith in
+    suffix_drop (at + 1) inside bytes (omega arith) ∙ ap (λ (n : ℕ). split_suffix n 0 (drop inside bytes)) offset
 
 -- how bytes are split that begin with no blank
 abbrev pub split_here : ℕ → List ℕ → Split
@@ -159,10 +159,10 @@ same_suffix at b bytes (Some token) e =
     let l = token_leaves b bytes token.0 token.1 e in
     let shorter = Leaves-length bytes token.1 l in
     let taken = length bytes - length token.1 in
-    let place : at + 1 + taken ≡ at + (suc (length bytes) - length token.1) = omega (arith, shorter) in
+    let offset : at + 1 + taken ≡ at + (suc (length bytes) - length token.1) = omega (arith, shorter) in
     let suffix : split_suffix (at + 1) taken bytes ≡ split_suffix (at + 1 + taken) 0 (drop taken bytes) = suffix_drop (at + 1) taken bytes (omega arith) in
     let same : split_suffix (at + 1) taken bytes ≡ split_suffix (at + (suc (length bytes) - length token.1)) 0 token.1 =
-    suffix ∙ ap (split_suffix (at + 1 + taken) 0) (Leaves-drop bytes token.1 l) ∙ ap (λ (n : ℕ). split_suffix n 0 token.1) place in
+    suffix ∙ ap (split_suffix (at + 1 + taken) 0) (Leaves-drop bytes token.1 l) ∙ ap (λ (n : ℕ). split_suffix n 0 token.1) offset in
     ap (put_first at token.0) same
 
 skip_step : (blank : Bool) (at b : ℕ) (bytes : List ℕ)
@@ -172,11 +172,11 @@ skip_step : (blank : Bool) (at b : ℕ) (bytes : List ℕ)
 unfolding token_here
 skip_step true at b bytes so_far =
     let n = prefix_len is_blank bytes in
-    let place : at + 1 + n ≡ at + (1 + n) = omega arith in
-    so_far ∙ ap (λ (k : ℕ). split_here k (drop n bytes)) place ∙ ap (λ (k : ℕ). split_here (at + (1 + n)) (drop k (b ∷ bytes))) (sym (one_more n))
+    let offset : at + 1 + n ≡ at + (1 + n) = omega arith in
+    so_far ∙ ap (λ (k : ℕ). split_here k (drop n bytes)) offset ∙ ap (λ (k : ℕ). split_here (at + (1 + n)) (drop k (b ∷ bytes))) (sym (one_more n))
 skip_step false at b bytes so_far =
-    let place : at ≡ at + 0 = omega arith in
-    same_suffix at b bytes (token_at b bytes) refl ∙ ap (λ (k : ℕ). split_here k (b ∷ bytes)) place
+    let offset : at ≡ at + 0 = omega arith in
+    same_suffix at b bytes (token_at b bytes) refl ∙ ap (λ (k : ℕ). split_here k (b ∷ bytes)) offset
 
 skipped : (at : ℕ) (bytes : List ℕ) → split_suffix at 0 bytes ≡ split_here (at + prefix_len is_blank bytes) (drop (prefix_len is_blank bytes) bytes)
 skipped at [] = ap (λ (n : ℕ). ends_at n true) (omega arith)
@@ -195,8 +195,8 @@ blanks_skipped n old left skip within =
     let k = prefix_len is_blank old in
     let fits = prefix_len-le-length is_blank old in
     let len : length left ≡ length old - k = ap length skip ∙ length-drop k old in
-    let place : n - length old + k ≡ n - length left = omega (arith, len, fits) in
-    skipped (n - length old) old ∙ ap (split_here (n - length old + k)) (sym skip) ∙ ap (λ (p : ℕ). split_here p left) place
+    let offset : n - length old + k ≡ n - length left = omega (arith, len, fits) in
+    skipped (n - length old) old ∙ ap (split_here (n - length old + k)) (sym skip) ∙ ap (λ (p : ℕ). split_here p left) offset
 
 pub token_shortens : (left : List ℕ) (t : Token) (new : List ℕ) → token_here left ≡ Some (t, new) → length new < length left
 unfolding token_here
@@ -210,10 +210,10 @@ token_first n [] t new within e = absurd (none-some (t, new) e)
 token_first n (b ∷ bytes) t new within e =
     let shorter = token_shortens (b ∷ bytes) t new e in
     let at = n - length (b ∷ bytes) in
-    let place : at + (length (b ∷ bytes) - length new) ≡ n - length new = omega (arith, shorter) in
+    let offset : at + (length (b ∷ bytes) - length new) ≡ n - length new = omega (arith, shorter) in
     let step = λ (token : Token × List ℕ). split_suffix (at + (length (b ∷ bytes) - length token.1)) 0 token.1 in
     let found : taken_at at (token_at b bytes) step ≡ taken_at at (Some (t, new)) step = ap (λ (read : Option (Token × List ℕ)). taken_at at read step) e in
-    found ∙ ap (λ (p : ℕ). put_first at t (split_suffix p 0 new)) place
+    found ∙ ap (λ (p : ℕ). put_first at t (split_suffix p 0 new)) offset
 
 one_further : (tokens : List Token) (starts : List ℕ) (t : Token) (start : ℕ) (split : Split)
     → with_found (tokens ++ t ∷ []) (starts ++ start ∷ []) split ≡ with_found tokens starts (put_first start t split)
@@ -245,9 +245,9 @@ stops_here n (b ∷ bytes) within e =
     let other : eqb at n ≡ false = grind (arith, nat_tests) in
     found ∙ ap (ends_at at) (sym other)
 
-nothing_further : (tokens : List Token) (starts : List ℕ) (place : ℕ) (whole : Bool)
-    → with_found tokens starts (ends_at place whole) ≡ record { tokens = tokens; starts = starts; end = place; whole = whole }
-nothing_further tokens starts place whole = simp append-nil
+nothing_further : (tokens : List Token) (starts : List ℕ) (offset : ℕ) (whole : Bool)
+    → with_found tokens starts (ends_at offset whole) ≡ record { tokens = tokens; starts = starts; end = offset; whole = whole }
+nothing_further tokens starts offset whole = simp append-nil
 
 pub split_stops : (n : ℕ) (tokens : List Token) (starts : List ℕ) (old left : List ℕ)
     → left ≡ drop (prefix_len is_blank old) old → length old ≤ n → token_here left ≡ None

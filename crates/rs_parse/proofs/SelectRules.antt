@@ -23,7 +23,7 @@ use Rattle.rs_ast.proofs.TokenLaws.{is_symbol_self}
 use Rattle.rs_parse.specs.Phrases.{Phrase, Is, Optional, AtMost}
 use Rattle.rs_parse.specs.Read.{Got, ◌>>=◌, begins, either_at, optional_at}
 use Rattle.rs_parse.specs.Grammar.{IsIdent, IsColRef, IsListed, IsOfColumn, IsItem, IsItems, IsDistinct, IsTableRef, IsGroup, IsKeyBy, IsDirection, IsKey, IsOrder, IsWhere, IsSelect}
-use Rattle.rs_parse.specs.Reader.{word_at, ident_at, is_ident_token, place_of, place_at, count_at, of_column_at, item_at, items_at, distinct_at, table_ref_at, group_by_at, group_at, key_by_at, direction_at, key_at, order_by_at, order_at, select_at, list_at, where_at}
+use Rattle.rs_parse.specs.Reader.{word_at, ident_at, is_ident_token, ordinal_of, ordinal_at, count_at, of_column_at, item_at, items_at, distinct_at, table_ref_at, group_by_at, group_at, key_by_at, direction_at, key_at, order_by_at, order_at, select_at, list_at, where_at}
 use Rattle.rs_parse.proofs.Readers.{IsReader, Then, Made, Either, Empty, IsToken, Begins, never, or_left, or_right, gives_before, reads_one, reads_optional, then_reads, suffix_reads, made_reads, either_reads, as_reads, before_reads, token_begins, end_begins, empty_begins, begins_fewer, begins_made, begins_either, suffix_begins}
 use Rattle.rs_parse.proofs.Series.{begins_apart}
 use Rattle.rs_parse.proofs.NameRules.{symbol_reads, word_reads, ident_reads, on_column, col_ref_reads, on_name, name_reads}
@@ -295,25 +295,25 @@ group_begins is e (c ∷ cs) prefix rest (f, b, at, others, p) ends = token_begi
 
 -- ---- ORDER BY
 
-abbrev IsPlace : Phrase ℕ
-IsPlace n ts = (n < 2 ^ 32) × Is (tokens.Number n) ts
+abbrev IsOrdinal : Phrase ℕ
+IsOrdinal n ts = (n < 2 ^ 32) × Is (tokens.Number n) ts
 
-place_is : (t : Token) (n : ℕ) → place_of t ≡ Some n → (n < 2 ^ 32) × (t ≡ tokens.Number n)
-place_is (tokens.Word word) n e = absurd (none-some n e)
-place_is (tokens.Number m) n e =
+ordinal_is : (t : Token) (n : ℕ) → ordinal_of t ≡ Some n → (n < 2 ^ 32) × (t ≡ tokens.Number n)
+ordinal_is (tokens.Word word) n e = absurd (none-some n e)
+ordinal_is (tokens.Number m) n e =
     let g = cond_some (ltb m (2 ^ 32)) m n e in
     subst (λ (k : ℕ). (k < 2 ^ 32) × (tokens.Number m ≡ tokens.Number k)) g.1 (ltb-true m (2 ^ 32) g.0, refl)
-place_is (tokens.Text text) n e = absurd (none-some n e)
-place_is (tokens.Symbol symbol) n e = absurd (none-some n e)
+ordinal_is (tokens.Text text) n e = absurd (none-some n e)
+ordinal_is (tokens.Symbol symbol) n e = absurd (none-some n e)
 
-place_reads : IsReader IsPlace never place_at
-unfolding place_at
-place_reads = as_reads IsPlace (reads_one place_of (tokens.Number 0) 0 refl)
-    (λ n ts is. let g = place_is is.0 n is.1 in (g.0, is.2 ∙ ap (λ (t : Token). t ∷ []) g.1))
+ordinal_reads : IsReader IsOrdinal never ordinal_at
+unfolding ordinal_at
+ordinal_reads = as_reads IsOrdinal (reads_one ordinal_of (tokens.Number 0) 0 refl)
+    (λ n ts is. let g = ordinal_is is.0 n is.1 in (g.0, is.2 ∙ ap (λ (t : Token). t ∷ []) g.1))
     (λ n ts is. (tokens.Number n, ap (λ (test : Bool). cond test (Some n) None) (lt-ltb n (2 ^ 32) is.0), is.1))
 
 abbrev KeyByChain : Phrase KeyBy
-KeyByChain = Either (Made keys.Col IsColRef) (Made keys.Place IsPlace)
+KeyByChain = Either (Made keys.Col IsColRef) (Made keys.Place IsOrdinal)
 
 key_by_to : (by : KeyBy) (ts : List Token) → KeyByChain by ts → IsKeyBy by ts
 key_by_to by ts (inl (c, is, e)) = subst (λ (x : KeyBy). IsKeyBy x ts) e is
@@ -326,7 +326,7 @@ key_by_from (keys.Place n) ts is = inr (n, is, refl)
 key_by_reads : IsReader IsKeyBy on_column key_by_at
 unfolding key_by_at
 key_by_reads = as_reads IsKeyBy
-    (either_reads is_ident_token (made_reads keys.Col col_ref_reads) (before_reads on_column (λ t e. refl) (made_reads keys.Place place_reads))
+    (either_reads is_ident_token (made_reads keys.Col col_ref_reads) (before_reads on_column (λ t e. refl) (made_reads keys.Place ordinal_reads))
     (λ by prefix rest p. col_ref_begins p.0 prefix rest p.1)
     (λ by prefix rest p ends. end_begins is_ident_token (tokens.Number p.0) false refl prefix rest p.1.1))
     key_by_to key_by_from

@@ -14,11 +14,11 @@ FaultOnce = (text : List ℕ) (one other : ℕ) → IsFault text one → IsFault
 
 -- each text spells a statement, or has a fault
 abbrev pub SpelledOrFaulty : Type 0
-SpelledOrFaulty = (text : List ℕ) → ((stmt : Stmt) × Spells text stmt) ⊎ ((place : ℕ) × IsFault text place)
+SpelledOrFaulty = (text : List ℕ) → ((stmt : Stmt) × Spells text stmt) ⊎ ((offset : ℕ) × IsFault text offset)
 
 -- a text that spells a statement has no fault
 abbrev pub SpelledHasNoFault : Type 0
-SpelledHasNoFault = (text : List ℕ) (stmt : Stmt) (place : ℕ) → Spells text stmt → IsFault text place → ⊥
+SpelledHasNoFault = (text : List ℕ) (stmt : Stmt) (offset : ℕ) → Spells text stmt → IsFault text offset → ⊥
 
 -- what is printed of a statement that some text spells spells that statement
 abbrev pub PrintedIsRead : Type 0

@@ -32,34 +32,34 @@ pub record IsOffending (ts : List Token) (number : ℕ) : Type 0 where
   pub barred : SomeBegins (before ++ token ∷ []) → ⊥
 
 -- The fault of a text stands at this place.
-pub data IsFault (text : List ℕ) (place : ℕ) : Type 0 where
+pub data IsFault (text : List ℕ) (offset : ℕ) : Type 0 where
   -- a token begins there: some request begins with the tokens before it, and none with those up to it
-  AtToken : (number : ℕ) → IsOffending (split_of text).tokens number → slice_get (split_of text).starts number ≡ Some place → IsFault text place
+  AtToken : (number : ℕ) → IsOffending (split_of text).tokens number → slice_get (split_of text).starts number ≡ Some offset → IsFault text offset
   -- no token begins there, and some request begins with all tokens before it
-  NoToken : (split_of text).whole ≡ false → SomeBegins (split_of text).tokens → place ≡ (split_of text).end → IsFault text place
+  NoToken : (split_of text).whole ≡ false → SomeBegins (split_of text).tokens → offset ≡ (split_of text).end → IsFault text offset
   -- the text is over: some request begins with all of its tokens, and they are none
-  AtEnd : (split_of text).whole ≡ true → SomeBegins (split_of text).tokens → ((stmt : Stmt) → IsRequest stmt (split_of text).tokens → ⊥) → place ≡ length text → IsFault text place
+  AtEnd : (split_of text).whole ≡ true → SomeBegins (split_of text).tokens → ((stmt : Stmt) → IsRequest stmt (split_of text).tokens → ⊥) → offset ≡ length text → IsFault text offset
 
 -- ---- the parse of a text, found by reading its tokens
 
 pub data Parsed : Type 0 where
   Statement : (stmt : Stmt) → Parsed
-  FaultAt : (place : ℕ) → Parsed
+  FaultAt : (offset : ℕ) → Parsed
 
 -- where the first of the tokens begins that are left, or where the split ends
-abbrev pub place_of : Split → ℕ → ℕ
-place_of split left = unwrap_or (slice_get split.starts (length split.tokens - left)) split.end
+abbrev pub offset_of : Split → ℕ → ℕ
+offset_of split left = unwrap_or (slice_get split.starts (length split.tokens - left)) split.end
 
 abbrev pub judged : Split → Read Stmt → Parsed
 judged split (Got stmt rest) = if split.whole then Statement stmt else FaultAt split.end
-judged split (Fault rest) = FaultAt (place_of split (length rest))
+judged split (Fault rest) = FaultAt (offset_of split (length rest))
 
 unfoldable pub parsed_of : List ℕ → Parsed
 parsed_of text = judged (split_of text) (request_of (split_of text).tokens)
 
 abbrev pub statement_in : Parsed → Option Stmt
 statement_in (Statement stmt) = Some stmt
-statement_in (FaultAt place) = None
+statement_in (FaultAt offset) = None
 
 -- the statement that a text spells, if it spells one
 abbrev pub statement_of : List ℕ → Option Stmt
@@ -68,5 +68,5 @@ statement_of text = statement_in (parsed_of text)
 -- a call gave what parsing gives, unless memory was wanting
 abbrev pub ParseGives : Result Stmt ParseFault → Parsed → Type 0
 ParseGives (Ok stmt) parsed = parsed ≡ Statement stmt
-ParseGives (Err (faults.Syntax place)) parsed = parsed ≡ FaultAt place
+ParseGives (Err (faults.Syntax offset)) parsed = parsed ≡ FaultAt offset
 ParseGives (Err faults.NoMemory) parsed = Unit {0}

@@ -117,14 +117,14 @@ unfoldable pub arith_at : List Token → Read Arith
 arith_at ts = one_at arith_of ts
 
 -- a key's place
-abbrev pub place_of : Token → Option ℕ
-place_of (tokens.Word word) = None
-place_of (tokens.Number n) = if nat_lt n (2 ^ 32) then Some n else None
-place_of (tokens.Text text) = None
-place_of (tokens.Symbol symbol) = None
+abbrev pub ordinal_of : Token → Option ℕ
+ordinal_of (tokens.Word word) = None
+ordinal_of (tokens.Number n) = if nat_lt n (2 ^ 32) then Some n else None
+ordinal_of (tokens.Text text) = None
+ordinal_of (tokens.Symbol symbol) = None
 
-unfoldable pub place_at : List Token → Read ℕ
-place_at ts = one_at place_of ts
+unfoldable pub ordinal_at : List Token → Read ℕ
+ordinal_at ts = one_at ordinal_of ts
 
 -- ---- literals
 
@@ -372,11 +372,11 @@ group_at ts = either_at (is_word (codes "group")) group_by_at (λ us. Got [] us)
 abbrev pub key_column_at : List Token → Read KeyBy
 key_column_at ts = col_ref_at ts >>= λ column. Got (keys.Col column.0) column.1
 
-abbrev pub key_place_at : List Token → Read KeyBy
-key_place_at ts = place_at ts >>= λ place. Got (keys.Place place.0) place.1
+abbrev pub key_ordinal_at : List Token → Read KeyBy
+key_ordinal_at ts = ordinal_at ts >>= λ offset. Got (keys.Place offset.0) offset.1
 
 unfoldable pub key_by_at : List Token → Read KeyBy
-key_by_at ts = either_at is_ident_token key_column_at key_place_at ts
+key_by_at ts = either_at is_ident_token key_column_at key_ordinal_at ts
 
 abbrev pub desc_at : List Token → Read Bool
 desc_at ts = word_at (codes "desc") ts >>= λ word. Got true word.1

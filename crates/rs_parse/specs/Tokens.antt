@@ -87,7 +87,7 @@ token_at b bytes =
 
 -- no tokens: the text is over at this place, or no token begins there
 abbrev pub ends_at : ℕ → Bool → Split
-ends_at place whole = record { tokens = []; starts = []; end = place; whole = whole }
+ends_at offset whole = record { tokens = []; starts = []; end = offset; whole = whole }
 
 -- one more token in front
 abbrev pub put_first : ℕ → Token → Split → Split

@@ -6,7 +6,7 @@ ghost use Rattle.rs_ast.specs.Token as tokens;
 ghost use Rattle.rs_parse.specs.Reader as spec;
 
 use crate::token::{
-    arith_of, ident_of, is_dml, is_unsigned, kind_of, negated_of, op_of, place_of, site_of,
+    arith_of, ident_of, is_dml, is_unsigned, kind_of, negated_of, op_of, ordinal_of, site_of,
     unsigned_of,
 };
 use rs_ast::{Arith, Symbol, Op, Stmt, Token};
@@ -204,18 +204,18 @@ impl<'a> Cursor<'a> {
     }
 
     /// A key's place.
-    #[tactic(auto, unfolding(crate::specs::Reader::place_at))]
-    pub fn place(&mut self) -> Result<u32, ReadFault>
-        ensures { Reads (spec.place_at self.old) result self.new }
+    #[tactic(auto, unfolding(crate::specs::Reader::ordinal_at))]
+    pub fn ordinal(&mut self) -> Result<u32, ReadFault>
+        ensures { Reads (spec.ordinal_at self.old) result self.new }
     {
         let [first, rest @ ..] = self.left else {
             return Err(ReadFault::Malformed);
         };
-        let Some(place) = place_of(first) else {
+        let Some(ordinal) = ordinal_of(first) else {
             return Err(ReadFault::Malformed);
         };
         self.left = rest;
-        Ok(place)
+        Ok(ordinal)
     }
 
     /// A number behind `-`.

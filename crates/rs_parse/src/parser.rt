@@ -2,7 +2,7 @@
 
 ghost use Rattle.std.specs.Prelude.{◌≡◌, ℕ, Err, IfOk};
 ghost use Rattle.rs_ast.specs.declared.stmt.Stmt.{Stmt};
-ghost use Rattle.rs_parse.specs.Parsing.{Spells, IsFault, Statement, ParseGives, place_of, parsed_of};
+ghost use Rattle.rs_parse.specs.Parsing.{Spells, IsFault, Statement, ParseGives, offset_of, parsed_of};
 ghost use Rattle.rs_parse.specs.declared.parser.ParseFault.TheVariants as faults;
 
 use crate::cursor::Cursor;
@@ -36,8 +36,8 @@ impl From<NoMemory> for ParseFault {
 }
 
 /// The byte at which the tokens begin that are left, or where the split ends.
-fn place(split: &Split, left: usize) -> usize
-    ensures { result ≡ place_of split.now left }
+fn offset(split: &Split, left: usize) -> usize
+    ensures { result ≡ offset_of split.now left }
 {
     let number = split.tokens.len().saturating_sub(left);
     match split.starts.get(number) {
@@ -61,7 +61,7 @@ fn read(alloc: Global, text: &[u8]) -> Result<Stmt, ParseFault>
             }
         }
         Err(ReadFault::Malformed) => Err(ParseFault::Syntax {
-            place: place(&split, tokens.len()),
+            place: offset(&split, tokens.len()),
         }),
         Err(ReadFault::NoMemory) => Err(ParseFault::NoMemory),
     }
@@ -81,7 +81,7 @@ pub fn parse(alloc: Global, text: &[u8]) -> Result<Stmt, ParseFault>
     // What is spelled so is read, unless memory is wanting.
     ensures only { (stmt : Stmt) → Spells text.now stmt → ParseGives result (Statement stmt) }
     // The fault of the text stands there.
-    ensures fault { (place : ℕ) → result ≡ Err (faults.Syntax place) → IsFault text.now place }
+    ensures fault { (offset : ℕ) → result ≡ Err (faults.Syntax offset) → IsFault text.now offset }
     // Which statement or place it is, as a function of the text.
     ensures exact { ParseGives result (parsed_of text.now) }
 {

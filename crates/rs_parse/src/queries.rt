@@ -123,7 +123,7 @@ fn key_by(tokens: &mut Cursor<'_>) -> Result<KeyBy, ReadFault>
     if tokens.begins_with_ident() {
         Ok(KeyBy::Col(col_ref(tokens)?))
     } else {
-        Ok(KeyBy::Place(tokens.place()?))
+        Ok(KeyBy::Place(tokens.ordinal()?))
     }
 }
 

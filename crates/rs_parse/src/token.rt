@@ -112,8 +112,8 @@ pub fn arith_of(token: &Token) -> Option<Arith>
 }
 
 /// A key's place.
-pub fn place_of(token: &Token) -> Option<u32>
-    ensures { result ≡ spec.place_of token.now }
+pub fn ordinal_of(token: &Token) -> Option<u32>
+    ensures { result ≡ spec.ordinal_of token.now }
 {
     match token {
         Token::Word(_) => None,

@@ -20,17 +20,17 @@ pub fn split(alloc: Global, text: &[u8]) -> Result<Split, NoMemory>
     let mut scanner = Scanner::new(text);
     loop {
         scanner.skip_blanks();
-        let place = text.len() - scanner.len();
+        let offset = text.len() - scanner.len();
         let Some(token) = scanner.next(alloc)? else {
             return Ok(Split {
                 tokens,
                 starts,
-                end: place,
-                whole: place == text.len(),
+                end: offset,
+                whole: offset == text.len(),
             });
         };
         tokens.push(token)?;
-        starts.push(place)?;
+        starts.push(offset)?;
     }
 }
 

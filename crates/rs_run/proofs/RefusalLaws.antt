@@ -64,7 +64,7 @@ record LaterAmong (unsettled : Bool) (sites : Option ℕ) (before : ℕ) (lines 
   line : List ℕ
   suffix : List (List ℕ)
   separated : lines ≡ prefix ++ line ∷ suffix
-  place : at ≡ before + length prefix + 1
+  numbered : at ≡ before + length prefix + 1
   given : List Event
   event : Event
   given_lines : AreLines prefix given
@@ -81,7 +81,7 @@ record LacksAmong (unsettled : Bool) (sites : Option ℕ) (before : ℕ) (lines 
   read : lines_at sites before lines ≡ Ok given
   may : may_all_come unsettled given ≡ true
   left_open : is_open_after_all unsettled given ≡ true
-  place : at ≡ before + length lines + 1
+  numbered : at ≡ before + length lines + 1
 
 data Found (unsettled : Bool) (sites : Option ℕ) (before : ℕ) (lines : List (List ℕ)) (read : Read) : Type 0 where
   played : (given : List Event) → read ≡ Ok given → lines_at sites before lines ≡ Ok given → are_accepted unsettled given ≡ true → Found unsettled sites before lines read
@@ -91,7 +91,7 @@ data Found (unsettled : Bool) (sites : Option ℕ) (before : ℕ) (lines : List 
 
 found_end : (unsettled : Bool) (sites : Option ℕ) (before : ℕ) → Found unsettled sites before [] (end_by unsettled sites before)
 found_end unsettled None before = bad (before + 1) whys.NoSites refl refl
-found_end true (Some sites) before = lacks (before + 1) refl (record { given = []; read = refl; may = refl; left_open = refl; place = omega arith })
+found_end true (Some sites) before = lacks (before + 1) refl (record { given = []; read = refl; may = refl; left_open = refl; numbered = omega arith })
 found_end false (Some sites) before = played [] refl refl refl
 
 found_comment : (unsettled : Bool) (sites : Option ℕ) (before : ℕ) (line : List ℕ) (lines : List (List ℕ)) (read : Read) → is_comment (without_returns line) ≡ true → Found unsettled sites (before + 1) lines read → Found unsettled sites before (line ∷ lines) read
@@ -102,14 +102,14 @@ found_comment unsettled sites before line lines read comment (lacks at is h) = l
   read = comment_lines_at line lines sites before comment ∙ h.read;
   may = h.may;
   left_open = h.left_open;
-  place = omega (arith, h.place);
+  numbered = omega (arith, h.numbered);
 })
 found_comment unsettled sites before line lines read comment (later at is h) = later at is (record {
   prefix = line ∷ h.prefix;
   line = h.line;
   suffix = h.suffix;
   separated = ap (λ (ls : List (List ℕ)). line ∷ ls) h.separated;
-  place = omega (arith, h.place);
+  numbered = omega (arith, h.numbered);
   given = h.given;
   event = h.event;
   given_lines = comment_more line h.prefix h.given comment h.given_lines;
@@ -141,7 +141,7 @@ found_event unsettled sites before line lines event read here may (lacks at is h
       read = all ∙ ap (sched.with_events (event ∷ [])) h.read;
       may = and_from (may_come unsettled event) (may_all_come (is_open_after unsettled event) h.given) may h.may;
       left_open = h.left_open;
-      place = omega (arith, h.place);
+      numbered = omega (arith, h.numbered);
     })
 found_event unsettled sites before line lines event read here may (later at is h) =
     let all = event_lines_at line lines sites before event here.no_comment here.read in
@@ -151,7 +151,7 @@ found_event unsettled sites before line lines event read here may (later at is h
       line = h.line;
       suffix = h.suffix;
       separated = ap (λ (ls : List (List ℕ)). line ∷ ls) h.separated;
-      place = omega (arith, h.place);
+      numbered = omega (arith, h.numbered);
       given = event ∷ h.given;
       event = h.event;
       given_lines = inr (here.follows.written, h.given_lines);
@@ -177,7 +177,7 @@ found_later unsettled sites before line lines event here none may =
       line = line;
       suffix = lines;
       separated = refl;
-      place = omega arith;
+      numbered = omega arith;
       given = [];
       event = event;
       given_lines = tt;
@@ -223,19 +223,19 @@ found_lines (line ∷ lines) unsettled sites before few feeds = by_comment (is_c
 
 later_again : (prefix : List (List ℕ)) (unsettled : Bool) (sites : Option ℕ) (before : ℕ) (given : List Event) (event : Event) (line : List ℕ) (suffix : List (List ℕ)) (at : ℕ) → AreLines prefix given → without_returns line ≡ line_of event
     → Completes sites (given ++ event ∷ []) → may_all_come unsettled given ≡ true → may_come (is_open_after_all unsettled given) event ≡ false → at ≡ before + length prefix + 1 → source_at unsettled sites before (prefix ++ line ∷ suffix) ≡ refused at causes.Later
-later_again [] unsettled sites before [] event line suffix at written here right may may_not place =
+later_again [] unsettled sites before [] event line suffix at written here right may may_not numbered =
     let next = next_of sites event [] right in
-    let is : at ≡ before + 1 = omega (arith, place) in
+    let is : at ≡ before + 1 = omega (arith, numbered) in
     rw (here, no_comment_line event, next.read, may_not, is) refl
-later_again [] unsettled sites before (first ∷ given) event line suffix at written here right may may_not place = absurd written
-later_again (l ∷ prefix) unsettled sites before [] event line suffix at written here right may may_not place =
-    let is : at ≡ (before + 1) + length prefix + 1 = omega (arith, place) in
+later_again [] unsettled sites before (first ∷ given) event line suffix at written here right may may_not numbered = absurd written
+later_again (l ∷ prefix) unsettled sites before [] event line suffix at written here right may may_not numbered =
+    let is : at ≡ (before + 1) + length prefix + 1 = omega (arith, numbered) in
     rw written.0 (later_again prefix unsettled sites (before + 1) [] event line suffix at written.1 here right may may_not is)
-later_again (l ∷ prefix) unsettled sites before (first ∷ given) event line suffix at (inl comment) here right may may_not place =
-    let is : at ≡ (before + 1) + length prefix + 1 = omega (arith, place) in
+later_again (l ∷ prefix) unsettled sites before (first ∷ given) event line suffix at (inl comment) here right may may_not numbered =
+    let is : at ≡ (before + 1) + length prefix + 1 = omega (arith, numbered) in
     rw comment.0 (later_again prefix unsettled sites (before + 1) (first ∷ given) event line suffix at comment.1 here right may may_not is)
-later_again (l ∷ prefix) unsettled sites before (first ∷ given) event line suffix at (inr one) here right may may_not place =
-    let is : at ≡ (before + 1) + length prefix + 1 = omega (arith, place) in
+later_again (l ∷ prefix) unsettled sites before (first ∷ given) event line suffix at (inr one) here right may may_not numbered =
+    let is : at ≡ (before + 1) + length prefix + 1 = omega (arith, numbered) in
     let next = next_of sites first (given ++ event ∷ []) right in
     let both = and_parts (may_come unsettled first) (may_all_come (is_open_after unsettled first) given) may in
     let others = later_again prefix (is_open_after unsettled first) (sites_after sites first) (before + 1) given event line suffix at one.1 here next.completes both.1 may_not is in
@@ -310,8 +310,8 @@ source_again bytes given source = by_found (found_bytes bytes short)
 
 pub later_line_again : (bytes : List ℕ) (at : ℕ) → IsLaterLine bytes at → source_of bytes ≡ refused at causes.Later
 later_line_again bytes at h =
-    let place : at ≡ 0 + length h.before + 1 = omega (arith, h.place) in
-    source_of-short bytes h.short ∙ ap (source_at false None 0) h.separated ∙ later_again h.before false None 0 h.given h.event h.line h.suffix at h.given_lines h.event_line h.right h.all_may h.may_not place
+    let numbered : at ≡ 0 + length h.before + 1 = omega (arith, h.numbered) in
+    source_of-short bytes h.short ∙ ap (source_at false None 0) h.separated ∙ later_again h.before false None 0 h.given h.event h.line h.suffix at h.given_lines h.event_line h.right h.all_may h.may_not numbered
 
 pub lacks_again : (bytes : List ℕ) (at : ℕ) → LacksSettle bytes at → source_of bytes ≡ refused at causes.Later
 lacks_again bytes at h = by_found (found_bytes bytes h.schedule.short)
@@ -327,7 +327,7 @@ lacks_again bytes at h = by_found (found_bytes bytes h.schedule.short)
     by_found (bad line why is wrong) = let e = sym wrong ∙ reads in absurd cc
     by_found (later line is k) = let e = sym (k.not_all h.given reads) ∙ h.all_may in absurd cc
     by_found (lacks line is k) =
-        let same : line ≡ at = omega (arith, k.place, h.place) in
+        let same : line ≡ at = omega (arith, k.numbered, h.numbered) in
         is ∙ ap (λ (n : ℕ). refused n causes.Later) same
 
 long_read : (bytes : List ℕ) → 16777216 < length bytes → source_of bytes ≡ refused 0 (causes.Bad whys.TooLong)
@@ -343,7 +343,7 @@ later_is bytes at short h = record {
   line = h.line;
   suffix = h.suffix;
   separated = h.separated;
-  place = omega (arith, h.place);
+  numbered = omega (arith, h.numbered);
   given = h.given;
   event = h.event;
   given_lines = h.given_lines;
@@ -377,7 +377,7 @@ result_of bytes = by_length (ltb 16777216 (length bytes)) refl
       schedule = events_are bytes h.given (reads short (Ok h.given) h.read);
       all_may = h.may;
       unsettled = h.left_open;
-      place = omega (arith, h.place);
+      numbered = omega (arith, h.numbered);
     }))
 
     by_length : (long : Bool) → ltb 16777216 (length bytes) ≡ long → Result_of bytes
@@ -385,4 +385,4 @@ result_of bytes = by_length (ltb 16777216 (length bytes)) refl
     by_length true l =
         let long = ltb-true 16777216 (length bytes) l in
         let is = long_read bytes long in
-        refusal 0 (causes.Bad whys.TooLong) is (inl (record { long = long; place = refl; cause = refl }))
+        refusal 0 (causes.Bad whys.TooLong) is (inl (record { long = long; numbered = refl; cause = refl }))

@@ -34,7 +34,7 @@ pub record IsLaterLine (bytes : List ℕ) (at : ℕ) : Type 0 where
   pub line : List ℕ
   pub suffix : List (List ℕ)
   pub separated : lines_of bytes ≡ before ++ line ∷ suffix
-  pub place : at ≡ length before + 1
+  pub numbered : at ≡ length before + 1
   pub given : List Event
   pub event : Event
   pub given_lines : AreLines before given
@@ -49,7 +49,7 @@ pub record LacksSettle (bytes : List ℕ) (at : ℕ) : Type 0 where
   pub schedule : IsSchedule bytes given
   pub all_may : IsTrue (may_all_come false given)
   pub unsettled : IsTrue (is_open_after_all false given)
-  pub place : at ≡ length (lines_of bytes) + 1
+  pub numbered : at ≡ length (lines_of bytes) + 1
 
 -- ---- refusals
 

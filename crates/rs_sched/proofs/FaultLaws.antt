@@ -105,23 +105,23 @@ place_next before n at is = omega (arith, is)
 
 bad_again : (prefix : List (List ℕ)) (sites : Option ℕ) (before : ℕ) (given : List Event) (line : List ℕ) (suffix : List (List ℕ)) (at : ℕ) (why : Why) → Few sites → Feedless (prefix ++ line ∷ suffix)
     → Continues sites given → AreLines prefix given → at ≡ before + length prefix + 1 → IsBadAfter sites given line why → lines_at sites before (prefix ++ line ∷ suffix) ≡ Err (faults.BadLine at why)
-bad_again [] sites before [] line suffix at why few feeds goes written place bad =
+bad_again [] sites before [] line suffix at why few feeds goes written numbered bad =
     let read = bad_here sites line why few (line_of_part line feeds.0) bad in
-    let is : at ≡ before + 1 = omega (arith, place) in
+    let is : at ≡ before + 1 = omega (arith, numbered) in
     rw (bad.no_comment, read, is) refl
-bad_again [] sites before (event ∷ given) line suffix at why few feeds goes written place bad = absurd written
-bad_again (first ∷ prefix) sites before [] line suffix at why few feeds goes written place bad =
-    rw written.0 (bad_again prefix sites (before + 1) [] line suffix at why few feeds.1 goes written.1 (place_next before (length prefix) at (omega (arith, place))) bad)
-bad_again (first ∷ prefix) sites before (event ∷ given) line suffix at why few feeds goes (inl comment) place bad =
-    rw comment.0 (bad_again prefix sites (before + 1) (event ∷ given) line suffix at why few feeds.1 goes comment.1 (place_next before (length prefix) at (omega (arith, place))) bad)
-bad_again (first ∷ prefix) sites before (event ∷ given) line suffix at why few feeds goes (inr here) place bad =
+bad_again [] sites before (event ∷ given) line suffix at why few feeds goes written numbered bad = absurd written
+bad_again (first ∷ prefix) sites before [] line suffix at why few feeds goes written numbered bad =
+    rw written.0 (bad_again prefix sites (before + 1) [] line suffix at why few feeds.1 goes written.1 (place_next before (length prefix) at (omega (arith, numbered))) bad)
+bad_again (first ∷ prefix) sites before (event ∷ given) line suffix at why few feeds goes (inl comment) numbered bad =
+    rw comment.0 (bad_again prefix sites (before + 1) (event ∷ given) line suffix at why few feeds.1 goes comment.1 (place_next before (length prefix) at (omega (arith, numbered))) bad)
+bad_again (first ∷ prefix) sites before (event ∷ given) line suffix at why few feeds goes (inr here) numbered bad =
     let next = goes_of sites event given few goes in
     let suffix_it : IsBadAfter (sites_after sites event) given line why = record {
       no_comment = bad.no_comment;
       not_right = subst (λ (s : Option ℕ). ¬ IsRightLine s (without_returns line)) next.knows bad.not_right;
       cause = subst (λ (s : Option ℕ). IsCause s (without_returns line) why) next.knows bad.cause;
     } in
-    let others = bad_again prefix (sites_after sites event) (before + 1) given line suffix at why next.few feeds.1 next.goes here.1 (place_next before (length prefix) at (omega (arith, place))) suffix_it in
+    let others = bad_again prefix (sites_after sites event) (before + 1) given line suffix at why next.few feeds.1 next.goes here.1 (place_next before (length prefix) at (omega (arith, numbered))) suffix_it in
     rw (here.0, no_comment_line event, next.read, others) refl
 
 none_again : (lines : List (List ℕ)) (before : ℕ) → AreLines lines [] → lines_at None before lines ≡ Err (faults.BadLine (before + length lines + 1) whys.NoSites)
@@ -137,15 +137,15 @@ not_true_false true h = absurd (h refl)
 -- What a refusal may say is what reading says.
 pub fault_again : (bytes : List ℕ) (at : ℕ) (why : Why) → IsFault bytes at why → events_of bytes ≡ Err (faults.BadLine at why)
 unfolding events_of
-fault_again bytes at why (inl many) = rw (lt-ltb 16777216 (length bytes) many.long, many.place, many.cause) refl
+fault_again bytes at why (inl many) = rw (lt-ltb 16777216 (length bytes) many.long, many.numbered, many.cause) refl
 fault_again bytes at why (inr (inl bad)) =
     let feeds : Feedless (bad.before ++ bad.line ∷ bad.suffix) = subst Feedless bad.separated (lines_feedless bytes) in
     let suffix : IsBadAfter None bad.given bad.line why = record { no_comment = not_true_false (is_comment (without_returns bad.line)) bad.no_comment; not_right = bad.not_right; cause = bad.cause } in
-    let place : at ≡ 0 + length bad.before + 1 = omega (arith, bad.place) in
-    rw (not_ltb 16777216 (length bytes) bad.short, bad.separated) (bad_again bad.before None 0 bad.given bad.line bad.suffix at why tt feeds bad.begun bad.given_right place suffix)
+    let numbered : at ≡ 0 + length bad.before + 1 = omega (arith, bad.numbered) in
+    rw (not_ltb 16777216 (length bytes) bad.short, bad.separated) (bad_again bad.before None 0 bad.given bad.line bad.suffix at why tt feeds bad.begun bad.given_right numbered suffix)
 fault_again bytes at why (inr (inr none)) =
-    let place : 0 + length (lines_of bytes) + 1 ≡ at = omega (arith, none.place) in
-    rw (not_ltb 16777216 (length bytes) none.short, none.cause) (none_again (lines_of bytes) 0 none.comments ∙ ap (λ (n : ℕ). Err (faults.BadLine n whys.NoSites)) place)
+    let numbered : 0 + length (lines_of bytes) + 1 ≡ at = omega (arith, none.numbered) in
+    rw (not_ltb 16777216 (length bytes) none.short, none.cause) (none_again (lines_of bytes) 0 none.comments ∙ ap (λ (n : ℕ). Err (faults.BadLine n whys.NoSites)) numbered)
 
 abbrev Read : Type 0
 Read = Result (List Event) SchedFault

@@ -217,7 +217,7 @@ record BadAmong (sites : Option ℕ) (before : ℕ) (lines : List (List ℕ)) (a
   line : List ℕ
   suffix : List (List ℕ)
   separated : lines ≡ prefix ++ line ∷ suffix
-  place : at ≡ before + length prefix + 1
+  numbered : at ≡ before + length prefix + 1
   given : List Event
   begun : Continues sites given
   written : AreLines prefix given
@@ -229,7 +229,7 @@ record BadAmong (sites : Option ℕ) (before : ℕ) (lines : List (List ℕ)) (a
 record NoneAmong (sites : Option ℕ) (before : ℕ) (lines : List (List ℕ)) (at : ℕ) (why : Why) : Type 0 where
   unknown : sites ≡ None
   comments : AreLines lines []
-  place : at ≡ before + length lines + 1
+  numbered : at ≡ before + length lines + 1
   cause : why ≡ whys.NoSites
 
 data Failed (sites : Option ℕ) (before : ℕ) (lines : List (List ℕ)) (fault : SchedFault) : Type 0 where
@@ -239,7 +239,7 @@ data Failed (sites : Option ℕ) (before : ℕ) (lines : List (List ℕ)) (fault
 end_failed : (sites : Option ℕ) (before : ℕ) (fault : SchedFault) → at_end sites before ≡ Err fault → Failed sites before [] fault
 end_failed (Some sites) before fault e = absurd cc
 end_failed None before fault e =
-    let made : NoneAmong None before [] (before + 1) whys.NoSites = record { unknown = refl; comments = tt; place = omega arith; cause = refl } in
+    let made : NoneAmong None before [] (before + 1) whys.NoSites = record { unknown = refl; comments = tt; numbered = omega arith; cause = refl } in
     let is : fault ≡ faults.BadLine (before + 1) whys.NoSites = cc in
     none (before + 1) whys.NoSites is made
 
@@ -250,7 +250,7 @@ comment_failed sites before line lines fault comment (bad at why is h) = bad at 
   line = h.line;
   suffix = h.suffix;
   separated = ap (λ (ls : List (List ℕ)). line ∷ ls) h.separated;
-  place = omega (arith, h.place);
+  numbered = omega (arith, h.numbered);
   given = h.given;
   begun = h.begun;
   written = comment_more line h.prefix h.given comment h.written;
@@ -261,7 +261,7 @@ comment_failed sites before line lines fault comment (bad at why is h) = bad at 
 comment_failed sites before line lines fault comment (none at why is h) = none at why is (record {
   unknown = h.unknown;
   comments = (comment, h.comments);
-  place = omega (arith, h.place);
+  numbered = omega (arith, h.numbered);
   cause = h.cause;
 })
 
@@ -277,7 +277,7 @@ event_failed sites before line lines event fault some follows (bad at why is h) 
   line = h.line;
   suffix = h.suffix;
   separated = ap (λ (ls : List (List ℕ)). line ∷ ls) h.separated;
-  place = omega (arith, h.place);
+  numbered = omega (arith, h.numbered);
   given = event ∷ h.given;
   begun = follows.begins h.given h.begun;
   written = inr (follows.written, h.written);
@@ -317,7 +317,7 @@ lines_failed (line ∷ lines) sites before fault few feeds e = by_comment (is_co
           line = line;
           suffix = lines;
           separated = refl;
-          place = omega arith;
+          numbered = omega arith;
           given = [];
           begun = none_begun sites;
           written = tt;
@@ -352,7 +352,7 @@ fault_of bytes at why short (bad k w is h) =
       line = h.line;
       suffix = h.suffix;
       separated = h.separated;
-      place = omega (arith, h.place);
+      numbered = omega (arith, h.numbered);
       given = h.given;
       begun = h.begun;
       given_right = h.written;
@@ -364,7 +364,7 @@ fault_of bytes at why short (bad k w is h) =
 fault_of bytes at why short (none k w is h) =
     let same : k ≡ at = cc in
     let also : w ≡ why = cc in
-    let made : IsFault bytes k w = inr (inr (record { short = short; comments = h.comments; place = omega (arith, h.place); cause = h.cause })) in
+    let made : IsFault bytes k w = inr (inr (record { short = short; comments = h.comments; numbered = omega (arith, h.numbered); cause = h.cause })) in
     subst (λ (n : ℕ). IsFault bytes n why) same (subst (IsFault bytes k) also made)
 
 -- A refusal says the first bad line, and the first cause that fits it.
@@ -376,7 +376,7 @@ fault_is bytes at why e = by_length (ltb 16777216 (length bytes)) refl e
     by_length true l e =
         let same : 0 ≡ at = cc in
         let also : whys.TooLong ≡ why = cc in
-        inl (record { long = ltb-true _ _ l; place = sym same; cause = sym also })
+        inl (record { long = ltb-true _ _ l; numbered = sym same; cause = sym also })
     by_length false l e = fault_of bytes at why (ltb-false 16777216 (length bytes) l) (lines_failed (lines_of bytes) None 0 (faults.BadLine at why) tt (lines_feedless bytes) e)
 
 -- ---- the clauses of the call

@@ -93,7 +93,7 @@ pub record IsBadLine (bytes : List ℕ) (at : ℕ) (why : Why) : Type 0 where
   pub line : List ℕ
   pub suffix : List (List ℕ)
   pub separated : lines_of bytes ≡ before ++ line ∷ suffix
-  pub place : at ≡ length before + 1
+  pub numbered : at ≡ length before + 1
   pub given : List Event
   pub begun : IsBegun given
   pub given_right : AreLines before given
@@ -105,13 +105,13 @@ pub record IsBadLine (bytes : List ℕ) (at : ℕ) (why : Why) : Type 0 where
 pub record HasNoLine (bytes : List ℕ) (at : ℕ) (why : Why) : Type 0 where
   pub short : length bytes ≤ 16777216
   pub comments : AreLines (lines_of bytes) []
-  pub place : at ≡ length (lines_of bytes) + 1
+  pub numbered : at ≡ length (lines_of bytes) + 1
   pub cause : why ≡ whys.NoSites
 
 -- There are too many bytes.
 pub record HasTooMany (bytes : List ℕ) (at : ℕ) (why : Why) : Type 0 where
   pub long : 16777216 < length bytes
-  pub place : at ≡ 0
+  pub numbered : at ≡ 0
   pub cause : why ≡ whys.TooLong
 
 -- what a refusal says of the bytes

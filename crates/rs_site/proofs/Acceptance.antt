@@ -27,7 +27,7 @@ module _ (site : SiteState) (origin : Origin) (epoch : origin.epoch ≡ site.epo
   not_refused (replies.Denied cause) refusal is = refusal
   not_refused (replies.Failed reason) refusal is = refusal
   not_refused (replies.Shown lines) refusal is = refusal
-  not_refused (replies.Syntax place) refusal is = refusal
+  not_refused (replies.Syntax offset) refusal is = refusal
   not_refused (replies.OldEpoch old) refusal is = is.1 epoch
   not_refused (replies.OldRequest last) refusal is = omega (arith, number, is.1, is.2)
   not_refused (replies.Gap last) refusal is =
@@ -88,7 +88,7 @@ kept_again site from origin text reply epoch number kept came (Refused other ref
     last_not_refused (replies.Denied cause) refusal is = refusal
     last_not_refused (replies.Failed reason) refusal is = refusal
     last_not_refused (replies.Shown lines) refusal is = refusal
-    last_not_refused (replies.Syntax place) refusal is = refusal
+    last_not_refused (replies.Syntax offset) refusal is = refusal
     last_not_refused (replies.OldEpoch old) refusal is = is.1 epoch
     last_not_refused (replies.OldRequest last) refusal is = omega (arith, number, is.1, is.2)
     last_not_refused (replies.Gap last) refusal is = elim is.2 [ inl far ↦ omega (arith, number, far) | inr stuck ↦ omega (arith, number, stuck.0) ]

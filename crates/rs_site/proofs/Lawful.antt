@@ -46,9 +46,9 @@ numbers site step (inl stays) =
     let e : step.0.begun ≡ site.begun = ap (λ t. t.begun) stays.0 in
     (last, omega (arith, e))
 numbers site step (inr (inl r)) =
-    let e : step.0 ≡ remembering site r.origin (replies.Syntax r.place) = ap (λ s. s.0) r.is in
+    let e : step.0 ≡ remembering site r.origin (replies.Syntax r.offset) = ap (λ s. s.0) r.is in
     let begun : step.0.begun ≡ site.begun = ap (λ t. t.begun) e in
-    (λ user. subst (λ t. last_of user site ≤ last_of user t) (sym e) (last_rises site r.origin (replies.Syntax r.place) user r.next), omega (arith, begun))
+    (λ user. subst (λ t. last_of user site ≤ last_of user t) (sym e) (last_rises site r.origin (replies.Syntax r.offset) user r.next), omega (arith, begun))
 numbers site step (inr (inr x)) =
     let last : (user : List ℕ) → last_of user site ≤ last_of user step.0 = λ user.
     let e : last_of user step.0 ≡ _ = ap (λ s. last_of user s.0) x.is in

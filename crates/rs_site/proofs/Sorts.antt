@@ -37,8 +37,8 @@ pub record Remembers (site : SiteState) (step : Step) : Type 0 where
   pub from : Peer
   pub origin : Origin
   pub next : IsNext site origin
-  pub place : ℕ
-  pub is : step ≡ no_request site from origin place
+  pub offset : ℕ
+  pub is : step ≡ no_request site from origin offset
 
 -- a statement was taken and executed
 pub record Executes (site : SiteState) (step : Step) : Type 0 where
@@ -65,7 +65,7 @@ module _ (site : SiteState) (from : Peer) where
 
   module _ (origin : Origin) (text : List ℕ) (next : IsNext site origin) where
     accepted_as_kind : (read : Option Stmt) → statement_of text ≡ read → Kind site (accepted_as site from origin text read)
-    accepted_as_kind None e = inr (inl (record { from = from; origin = origin; next = next; place = offset_replied text; is = refl }))
+    accepted_as_kind None e = inr (inl (record { from = from; origin = origin; next = next; offset = offset_replied text; is = refl }))
     accepted_as_kind (Some stmt) e =
         by_test (Kind site) (site.begun == last_number) (no_output site) (executed site from origin text stmt) (λ _. inl (refl, refl))
         (λ _. inr (inr (record { from = from; origin = origin; text = text; stmt = stmt; next = next; spelled = e; is = refl })))

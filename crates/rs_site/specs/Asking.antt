@@ -71,7 +71,7 @@ last_number = 18446744073709551615
 
 -- the text says no statement that is executed, and this place is told
 abbrev pub no_request : SiteState → Peer → Origin → ℕ → SiteState × Outs
-no_request site from origin place = (remembering site origin (replies.Syntax place), reply_with from origin 0 (replies.Syntax place))
+no_request site from origin offset = (remembering site origin (replies.Syntax offset), reply_with from origin 0 (replies.Syntax offset))
 
 -- A text that is no request is told so. A statement for which the epoch has no transaction left is dropped.
 abbrev pub accepted_as : SiteState → Peer → Origin → List ℕ → Option Stmt → SiteState × Outs

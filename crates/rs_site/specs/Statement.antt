@@ -15,15 +15,15 @@ unfoldable pub statement_of : List ℕ → Option Stmt
 statement_of text = statement_said (parsed_of text)
 
 -- the place of a fault as a reply tells it, by 32 bits
-abbrev pub place_said : Parsed → ℕ
-place_said (FaultAt place) = min place 4294967295
-place_said (Statement stmt) = 0
+abbrev pub offset_said : Parsed → ℕ
+offset_said (FaultAt offset) = min offset 4294967295
+offset_said (Statement stmt) = 0
 
 -- what is told of a text that says no statement that is executed
 unfoldable pub offset_replied : List ℕ → ℕ
-offset_replied text = place_said (parsed_of text)
+offset_replied text = offset_said (parsed_of text)
 
 -- The text says no statement that is executed: it has its fault at this place; or it spells a statement that isn't executed
 -- so far, and the place is 0.
 abbrev pub SaysNothing : List ℕ → ℕ → Type 0
-SaysNothing text place = IsFault text place ⊎ ((stmt : parsed.Stmt) × Spells text stmt × (built_of stmt ≡ None) × (place ≡ 0))
+SaysNothing text offset = IsFault text offset ⊎ ((stmt : parsed.Stmt) × Spells text stmt × (built_of stmt ≡ None) × (offset ≡ 0))

@@ -24,11 +24,11 @@ fn reply_of(outcome: Outcome) -> Reply
     }
 }
 
-/// The place of a fault as a reply tells it.
-fn reported(place: usize) -> u32
-    ensures { result ≡ min place 4294967295 }
+/// The offset of a fault as a reply tells it.
+fn reported(offset: usize) -> u32
+    ensures { result ≡ min offset 4294967295 }
 {
-    u32::try_from(place).unwrap_or(u32::MAX)
+    u32::try_from(offset).unwrap_or(u32::MAX)
 }
 
 /// The statement of a text, where it is one that is executed so far, and else what is told of the text.
@@ -36,14 +36,14 @@ fn reported(place: usize) -> u32
 fn statement(alloc: Global, text: &[u8]) -> Result<Result<Stmt, u32>, NoMemory>
     ensures statement { IfOk result (λ said. IfOk said (λ stmt. statement_of text.now ≡ Some stmt)) }
     ensures none { IfOk result (λ said. OnErr said (statement_of text.now ≡ None)) }
-    ensures place { IfOk result (λ said. IfErr said (λ place. place ≡ offset_replied text.now)) }
+    ensures offset { IfOk result (λ said. IfErr said (λ offset. offset ≡ offset_replied text.now)) }
 {
     match parse(alloc, text) {
         Ok(stmt) => match Stmt::built(stmt) {
             Some(stmt) => Ok(Ok(stmt)),
             None => Ok(Err(0)),
         },
-        Err(ParseFault::Syntax { place }) => Ok(Err(reported(place))),
+        Err(ParseFault::Syntax { place: offset }) => Ok(Err(reported(offset))),
         Err(ParseFault::NoMemory) => Err(NoMemory),
     }
 }
@@ -143,19 +143,19 @@ impl Site {
         self.execute(alloc, from, origin, text, stmt)
     }
 
-    /// Takes a text that says no statement that is executed, and tells this place.
+    /// Takes a text that says no statement that is executed, and tells this offset.
     fn take_no_request(
         &mut self,
         alloc: Global,
         from: &Peer,
         origin: &Origin,
-        place: u32,
+        offset: u32,
     ) -> Result<Outs, NoMemory>
-        ensures ok { IfOk result (λ outs. spec.no_request self.old from.now origin.now place ≡ (self.new, outs)) }
+        ensures ok { IfOk result (λ outs. spec.no_request self.old from.now origin.now offset ≡ (self.new, outs)) }
         ensures err { OnErr result (self.new ≡ self.old) }
     {
-        let outs = reply_with(alloc, from, origin, 0, Reply::Syntax(place))?;
-        self.remember(origin, Reply::Syntax(place))?;
+        let outs = reply_with(alloc, from, origin, 0, Reply::Syntax(offset))?;
+        self.remember(origin, Reply::Syntax(offset))?;
         Ok(outs)
     }
 
@@ -172,7 +172,7 @@ impl Site {
     {
         match statement(alloc, text.as_slice())? {
             Ok(stmt) => self.take_statement(alloc, from, origin, text, stmt),
-            Err(place) => self.take_no_request(alloc, from, origin, place),
+            Err(offset) => self.take_no_request(alloc, from, origin, offset),
         }
     }
 }

@@ -137,7 +137,7 @@ module _ (given : List Event) (valid : IsValid given) (are : IsTrue (are_accepte
             let entry : Decided = record { txn = next_txn accepts.site; origin = origin; text = text } in
             let whole : (course given).history ≡ (prefix ++ entry ∷ []) ++ c.more = c.history_is ∙ ap (λ (p : SiteState × Outs). (prefix ++ p.1.decided) ++ c.more) e in
             record {
-              place = length prefix;
+              position = length prefix;
               entry = entry;
               there = ap (λ (es : List Decided). slice_get es (length prefix)) whole ∙ get_prefix (prefix ++ entry ∷ []) c.more entry (length prefix) (get_last prefix entry);
               origin_is = refl;

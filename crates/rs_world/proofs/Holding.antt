@@ -43,8 +43,8 @@ nothing_at k x e = cc
 kept_first : (all : List Event) → Kept all (opened 1 1) [] []
 kept_first all = record {
   truly = λ k reported at. absurd (nothing_at k reported at);
-  syntax_replied = λ k place reported at. absurd (nothing_at k reported at);
-  syntax_kept = λ user place at. absurd (no_reply (replies.Syntax place) at);
+  syntax_replied = λ k position reported at. absurd (nothing_at k reported at);
+  syntax_kept = λ user position at. absurd (no_reply (replies.Syntax position) at);
   keepable = λ user reply at. absurd (no_reply reply at);
   settled = λ k reported at. absurd (nothing_at k reported at);
   again = λ k l a b at_a at_b. absurd (nothing_at k a at_a);

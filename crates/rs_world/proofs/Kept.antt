@@ -22,9 +22,9 @@ last_origin site user = record { site = site.me; user = user; epoch = site.epoch
 
 -- the history has an entry of this request
 pub record IsEntered (history : List Decided) (request : Origin) : Type 0 where
-  pub place : ℕ
+  pub position : ℕ
   pub entry : Decided
-  pub there : slice_get history place ≡ Some entry
+  pub there : slice_get history position ≡ Some entry
   pub origin : entry.origin ≡ request
 
 -- the reply is the one that is kept for its user's last request
@@ -42,15 +42,15 @@ IsKeepable (replies.Done answered) = Unit {0}
 IsKeepable (replies.Denied cause) = Unit {0}
 IsKeepable (replies.Failed reason) = ⊥
 IsKeepable (replies.Shown lines) = ⊥
-IsKeepable (replies.Syntax place) = Unit {0}
+IsKeepable (replies.Syntax position) = Unit {0}
 IsKeepable (replies.OldEpoch epoch) = ⊥
 IsKeepable (replies.OldRequest last) = ⊥
 IsKeepable (replies.Gap last) = ⊥
 
 pub record Kept (all : List Event) (site : SiteState) (reports : List Given) (history : List Decided) : Type 0 where
   pub truly : (k : ℕ) (reported : Given) → slice_get reports k ≡ Some reported → IsGivenTruly all k reported
-  pub syntax_replied : (k place : ℕ) (reported : Given) → slice_get reports k ≡ Some reported → reported.reply ≡ replies.Syntax place → IsNoRequest all reported.origin place
-  pub syntax_kept : (user : List ℕ) (place : ℕ) → (session_of user site.sessions).reply ≡ Some (replies.Syntax place) → IsNoRequest all (last_origin site user) place
+  pub syntax_replied : (k position : ℕ) (reported : Given) → slice_get reports k ≡ Some reported → reported.reply ≡ replies.Syntax position → IsNoRequest all reported.origin position
+  pub syntax_kept : (user : List ℕ) (position : ℕ) → (session_of user site.sessions).reply ≡ Some (replies.Syntax position) → IsNoRequest all (last_origin site user) position
   pub keepable : (user : List ℕ) (reply : Reply) → (session_of user site.sessions).reply ≡ Some reply → IsKeepable reply
   pub settled : (k : ℕ) (reported : Given) → slice_get reports k ≡ Some reported → IsFinal reported.reply → IsSettled site reported
   pub again : (k l : ℕ) (a b : Given) → slice_get reports k ≡ Some a → slice_get reports l ≡ Some b → a.origin ≡ b.origin → IsFinal a.reply → IsFinal b.reply → a.reply ≡ b.reply
@@ -67,13 +67,13 @@ get_prefix (z ∷ zs) ys x zero e = e
 get_prefix (z ∷ zs) ys x (suc i) e = get_prefix zs ys x i e
 
 pub entered_more : (history more : List Decided) (request : Origin) → IsEntered history request → IsEntered (history ++ more) request
-entered_more history more request at = record { place = at.place; entry = at.entry; there = get_prefix history more at.entry at.place at.there; origin = at.origin }
+entered_more history more request at = record { position = at.position; entry = at.entry; there = get_prefix history more at.entry at.position at.there; origin = at.origin }
 
 -- ---- a reply is given
 
 module _ (all : List Event) (site : SiteState) (reports : List Given) (history : List Decided) (holds : Kept all site reports history)
     (reported : Given) (truly : IsGivenTruly all (length reports) reported)
-    (syntax_is : (place : ℕ) → reported.reply ≡ replies.Syntax place → IsNoRequest all reported.origin place)
+    (syntax_is : (position : ℕ) → reported.reply ≡ replies.Syntax position → IsNoRequest all reported.origin position)
     (final : IsFinal reported.reply → IsKept site reported) (entered : IsCommitted reported.reply → IsEntered history reported.origin) where
   meets : (k : ℕ) (a : Given) → slice_get reports k ≡ Some a → a.origin ≡ reported.origin → IsFinal a.reply → IsFinal reported.reply → a.reply ≡ reported.reply
   meets k a at same final_a final_replied =
@@ -92,11 +92,11 @@ module _ (all : List Event) (site : SiteState) (reports : List Given) (history :
         | inr p ↦ subst (λ (n : ℕ). IsGivenTruly all n g) (sym p.0) (subst (λ (x : Given). IsGivenTruly all (length reports) x) p.1 truly)
       ]
 
-  syntax_next : (k place : ℕ) (g : Given) → slice_get (reports ++ reported ∷ []) k ≡ Some g → g.reply ≡ replies.Syntax place → IsNoRequest all g.origin place
-  syntax_next k place g at =
+  syntax_next : (k position : ℕ) (g : Given) → slice_get (reports ++ reported ∷ []) k ≡ Some g → g.reply ≡ replies.Syntax position → IsNoRequest all g.origin position
+  syntax_next k position g at =
       elim (get_push reports reported g k at) [
-        | inl p ↦ holds.syntax_replied k place g p.1
-        | inr p ↦ subst (λ (x : Given). x.reply ≡ replies.Syntax place → IsNoRequest all x.origin place) p.1 (syntax_is place)
+        | inl p ↦ holds.syntax_replied k position g p.1
+        | inr p ↦ subst (λ (x : Given). x.reply ≡ replies.Syntax position → IsNoRequest all x.origin position) p.1 (syntax_is position)
       ]
 
   settled_next : (k : ℕ) (g : Given) → slice_get (reports ++ reported ∷ []) k ≡ Some g → IsFinal g.reply → IsSettled site g
@@ -143,7 +143,7 @@ module _ (all : List Event) (site : SiteState) (reports : List Given) (history :
 module _ (all : List Event) (site : SiteState) (reports : List Given) (history : List Decided) (holds : Kept all site reports history)
     (origin : Origin) (home : origin.site ≡ site.me) (next : IsNext site origin) (reply : Reply) (after : SiteState) (me : after.me ≡ site.me) (epoch : after.epoch ≡ site.epoch)
     (sessions : after.sessions ≡ with_session origin.user (record { last = origin.number; reply = Some reply }) site.sessions) (more : List Decided)
-    (may_be : IsKeepable reply) (syntax_is : (place : ℕ) → reply ≡ replies.Syntax place → IsNoRequest all origin place) (entered : IsCommitted reply → IsEntered (history ++ more) origin) where
+    (may_be : IsKeepable reply) (syntax_is : (position : ℕ) → reply ≡ replies.Syntax position → IsNoRequest all origin position) (entered : IsCommitted reply → IsEntered (history ++ more) origin) where
   abbrev accepted_session : Session
   accepted_session = record { last = origin.number; reply = Some reply }
 
@@ -159,14 +159,14 @@ module _ (all : List Event) (site : SiteState) (reports : List Given) (history :
   as_before : (user : List ℕ) → user ≢ origin.user → last_origin site user ≡ last_origin after user
   as_before user differ = same_origin (last_origin site user) (last_origin after user) (sym me) refl (sym epoch) (sym (ap (λ (s : Session). s.last) (of_other user differ)))
 
-  syntax_after : (user : List ℕ) (place : ℕ) → (session_of user after.sessions).reply ≡ Some (replies.Syntax place) → IsNoRequest all (last_origin after user) place
-  syntax_after user place kept =
+  syntax_after : (user : List ℕ) (position : ℕ) → (session_of user after.sessions).reply ≡ Some (replies.Syntax position) → IsNoRequest all (last_origin after user) position
+  syntax_after user position kept =
       elim (user_is user origin.user) [
         | inl e ↦
-            let both : Some reply ≡ Some (replies.Syntax place) = sym (ap (λ (s : Session). s.reply) (of_user user e)) ∙ kept in
-            let is : reply ≡ replies.Syntax place = cc in
-            subst (λ (o : Origin). IsNoRequest all o place) (is_last user e) (syntax_is place is)
-        | inr differ ↦ subst (λ (o : Origin). IsNoRequest all o place) (as_before user differ) (holds.syntax_kept user place (sym (ap (λ (s : Session). s.reply) (of_other user differ)) ∙ kept))
+            let both : Some reply ≡ Some (replies.Syntax position) = sym (ap (λ (s : Session). s.reply) (of_user user e)) ∙ kept in
+            let is : reply ≡ replies.Syntax position = cc in
+            subst (λ (o : Origin). IsNoRequest all o position) (is_last user e) (syntax_is position is)
+        | inr differ ↦ subst (λ (o : Origin). IsNoRequest all o position) (as_before user differ) (holds.syntax_kept user position (sym (ap (λ (s : Session). s.reply) (of_other user differ)) ∙ kept))
       ]
 
   keepable_after : (user : List ℕ) (kept : Reply) → (session_of user after.sessions).reply ≡ Some kept → IsKeepable kept

@@ -14,5 +14,5 @@ pub replies_given_truly : (all : List Event) → IsValid all → IsTrue (are_acc
 replies_given_truly all valid are = (holds_last all valid are).holds.kept.truly
 
 pub syntax_true : (all : List Event) → IsValid all → IsTrue (are_accepted false all)
-    → (k place : ℕ) (given : Given) → slice_get (report_of (course all)).replies k ≡ Some given → given.reply ≡ replies.Syntax place → IsNoRequest all given.origin place
+    → (k position : ℕ) (given : Given) → slice_get (report_of (course all)).replies k ≡ Some given → given.reply ≡ replies.Syntax position → IsNoRequest all given.origin position
 syntax_true all valid are = (holds_last all valid are).holds.kept.syntax_replied

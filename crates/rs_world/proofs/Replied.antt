@@ -31,7 +31,7 @@ nothing_at : {X : Type 0} (i : ℕ) (x : X) → slice_get [] i ≡ Some x → �
 nothing_at i x e = cc
 
 reported_more : (givens more : List Given) (entry : Decided) → IsReplied givens entry → IsReplied (givens ++ more) entry
-reported_more givens more entry is = record { place = is.place; given = is.given; there = get_prefix givens more is.given is.place is.there; origin = is.origin; committed = is.committed }
+reported_more givens more entry is = record { position = is.position; given = is.given; there = get_prefix givens more is.given is.position is.there; origin = is.origin; committed = is.committed }
 
 is_committed : (outcome : Outcome) → IsCommitted (reply_of outcome)
 is_committed (Ok answered) = tt
@@ -61,7 +61,7 @@ module _ (site : SiteState) (origin : Origin) (text : List ℕ) (givens : List G
       reported = record { origin = origin; reply = reply_of outcome }
 
       new_replied : IsReplied (givens ++ reported ∷ []) new
-      new_replied = record { place = length givens; given = reported; there = get_last givens reported; origin = refl; committed = is_committed outcome }
+      new_replied = record { position = length givens; given = reported; there = get_last givens reported; origin = refl; committed = is_committed outcome }
 
   reported_received : (came : SiteState × Outs) → Asked site (peers.Client 0) origin text came → After came
   reported_received came (Refused reply refusal is e) = subst After (sym e) (no_entry ((record { origin = origin; reply = reply }) ∷ []))

@@ -38,8 +38,8 @@ module _ (before : List Action) (prefix more : List Decided) (posted : ArePosted
   earlier : (i j : ℕ) (origin : Origin) (a b : Decided) → IsEntered prefix origin → slice_get (prefix ++ more) i ≡ Some a → a.origin ≡ origin
       → slice_get (prefix ++ more) j ≡ Some b → ((text : List ℕ) → Contains before (Post b.origin text) → ⊥) → i < j
   earlier i j origin a b entered at_a is at_b unasked =
-      let same : i ≡ entered.place = one_place (prefix ++ more) distinct i entered.place a entered.entry at_a (get_prefix prefix more entered.entry entered.place entered.there) (is ∙ sym entered.origin) in
-      let low : entered.place < length prefix = get_below prefix entered.entry entered.place entered.there in
+      let same : i ≡ entered.position = one_place (prefix ++ more) distinct i entered.position a entered.entry at_a (get_prefix prefix more entered.entry entered.position entered.there) (is ∙ sym entered.origin) in
+      let low : entered.position < length prefix = get_below prefix entered.entry entered.position entered.there in
       elim (cases_lt j (length prefix)) [
         | inl lt ↦ absurd (unasked b.text (posted j b (at_start prefix more b j at_b lt)))
         | inr le ↦ omega (arith, same, low, le)

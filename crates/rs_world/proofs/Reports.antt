@@ -31,7 +31,7 @@ true_if_keepable site origin (replies.Done answered) may = tt
 true_if_keepable site origin (replies.Denied cause) may = tt
 true_if_keepable site origin (replies.Failed reason) may = may
 true_if_keepable site origin (replies.Shown lines) may = may
-true_if_keepable site origin (replies.Syntax place) may = tt
+true_if_keepable site origin (replies.Syntax position) may = tt
 true_if_keepable site origin (replies.OldEpoch epoch) may = absurd may
 true_if_keepable site origin (replies.OldRequest last) may = absurd may
 true_if_keepable site origin (replies.Gap last) may = absurd may
@@ -42,7 +42,7 @@ refusal_is_not_final (replies.Done answered) is final = is
 refusal_is_not_final (replies.Denied cause) is final = is
 refusal_is_not_final (replies.Failed reason) is final = is
 refusal_is_not_final (replies.Shown lines) is final = is
-refusal_is_not_final (replies.Syntax place) is final = is
+refusal_is_not_final (replies.Syntax position) is final = is
 refusal_is_not_final (replies.OldEpoch epoch) is final = final
 refusal_is_not_final (replies.OldRequest last) is final = final
 refusal_is_not_final (replies.Gap last) is final = final
@@ -52,21 +52,21 @@ committed_is_final (replies.Done answered) is = tt
 committed_is_final (replies.Denied cause) is = tt
 committed_is_final (replies.Failed reason) is = absurd is
 committed_is_final (replies.Shown lines) is = absurd is
-committed_is_final (replies.Syntax place) is = absurd is
+committed_is_final (replies.Syntax position) is = absurd is
 committed_is_final (replies.OldEpoch epoch) is = absurd is
 committed_is_final (replies.OldRequest last) is = absurd is
 committed_is_final (replies.Gap last) is = absurd is
 
-refusal_is_no_syntax : (reply : Reply) (place : ℕ) → IsRefusal reply → reply ≡ replies.Syntax place → ⊥
-refusal_is_no_syntax reply place is e = subst IsRefusal e is
+refusal_is_no_syntax : (reply : Reply) (position : ℕ) → IsRefusal reply → reply ≡ replies.Syntax position → ⊥
+refusal_is_no_syntax reply position is e = subst IsRefusal e is
 
 keepable_outcome : (outcome : Outcome) → IsKeepable (reply_of outcome)
 keepable_outcome (Ok answered) = tt
 keepable_outcome (Err cause) = tt
 
-outcome_is_no_syntax : (outcome : Outcome) (place : ℕ) → reply_of outcome ≡ replies.Syntax place → ⊥
-outcome_is_no_syntax (Ok answered) place e = cc
-outcome_is_no_syntax (Err cause) place e = cc
+outcome_is_no_syntax : (outcome : Outcome) (position : ℕ) → reply_of outcome ≡ replies.Syntax position → ⊥
+outcome_is_no_syntax (Ok answered) position e = cc
+outcome_is_no_syntax (Err cause) position e = cc
 
 pub get_last : {X : Type 0} (xs : List X) (x : X) → slice_get (xs ++ x ∷ []) (length xs) ≡ Some x
 get_last [] x = refl
@@ -106,7 +106,7 @@ module _ (all : List Event) (before : List Action) (site : SiteState) (from : Pe
 
   on_refusal : (reply : Reply) → IsRefusal reply → IsTrueReply site origin reply → Gives (replied_as reply ∷ []) → Kept all site (reports ++ replied_as reply ∷ []) (history ++ [])
   on_refusal reply refusal is gives = without_entry (replied_as reply ∷ []) (said all site reports history holds (replied_as reply) (truly_as reply gives is)
-      (λ place e. absurd (refusal_is_no_syntax reply place refusal e))
+      (λ position e. absurd (refusal_is_no_syntax reply position refusal e))
       (λ final. absurd (refusal_is_not_final reply refusal final))
       (λ committed. absurd (refusal_is_not_final reply refusal (committed_is_final reply committed))))
 
@@ -114,12 +114,12 @@ module _ (all : List Event) (before : List Action) (site : SiteState) (from : Pe
   on_repeat reply last kept gives =
       let is : last_origin site origin.user ≡ origin = same_origin (last_origin site origin.user) origin (sym home) refl (sym last.epoch) (sym last.number) in
       without_entry (replied_as reply ∷ []) (said all site reports history holds (replied_as reply) (truly_as reply gives (true_if_keepable site origin reply (holds.keepable origin.user reply kept)))
-      (λ place e. subst (λ (o : Origin). IsNoRequest all o place) is (holds.syntax_kept origin.user place (kept ∙ ap (λ (r : Reply). Some r) e)))
+      (λ position e. subst (λ (o : Origin). IsNoRequest all o position) is (holds.syntax_kept origin.user position (kept ∙ ap (λ (r : Reply). Some r) e)))
       (λ final. record { number = last.number; reply = kept })
       (λ committed. subst (λ (o : Origin). IsEntered history o) is (holds.entered_kept origin.user reply kept committed)))
 
   on_accepted : IsNext site origin → (reply : Reply) → (after : SiteState) → after.me ≡ site.me → after.epoch ≡ site.epoch → after.sessions ≡ (remembering site origin reply).sessions → (more : List Decided)
-      → IsKeepable reply → ((place : ℕ) → reply ≡ replies.Syntax place → IsNoRequest all origin place) → (IsCommitted reply → IsEntered (history ++ more) origin)
+      → IsKeepable reply → ((position : ℕ) → reply ≡ replies.Syntax position → IsNoRequest all origin position) → (IsCommitted reply → IsEntered (history ++ more) origin)
       → Gives (replied_as reply ∷ []) → Kept all after (reports ++ replied_as reply ∷ []) (history ++ more)
   on_accepted next reply after me epoch sessions more may syntax_is entered gives =
       said all after reports (history ++ more) (remembered all site reports history holds origin home next reply after me epoch sessions more may syntax_is entered) (replied_as reply)
@@ -130,7 +130,7 @@ module _ (all : List Event) (before : List Action) (site : SiteState) (from : Pe
   on_no_request next none gives =
       let no_request : IsNoRequest all origin (offset_replied text) = record { text = text; accepts = record { before = before; site = site; receives = receives; epoch = next.epoch; number = next.number }; no_request = none; says = reported_nothing text short none } in
       on_accepted next (replies.Syntax (offset_replied text)) (remembering site origin (replies.Syntax (offset_replied text))) refl refl refl [] tt
-      (λ place e. let same : offset_replied text ≡ place = cc in subst (IsNoRequest all origin) same no_request)
+      (λ position e. let same : offset_replied text ≡ position = cc in subst (IsNoRequest all origin) same no_request)
       (λ committed. absurd committed) gives
 
   on_executed : IsNext site origin → (stmt : Stmt) → After (executed site from origin text stmt)
@@ -138,8 +138,8 @@ module _ (all : List Event) (before : List Action) (site : SiteState) (from : Pe
       let outcome : Outcome = (meaning site.database (execution_of (next_txn site) origin stmt)).1 in
       let entry : Decided = record { txn = next_txn site; origin = origin; text = text } in
       on_accepted next (reply_of outcome) (executed site from origin text stmt).0 refl refl refl (entry ∷ []) (keepable_outcome outcome)
-      (λ place e. absurd (outcome_is_no_syntax outcome place e))
-      (λ committed. record { place = length history; entry = entry; there = get_last history entry; origin = refl }) gives
+      (λ position e. absurd (outcome_is_no_syntax outcome position e))
+      (λ committed. record { position = length history; entry = entry; there = get_last history entry; origin = refl }) gives
 
   pub reported_keeps : (came : SiteState × Outs) → Asked site from origin text came → After came
   reported_keeps came (Refused reply refusal is e) = subst After (sym e) (on_refusal reply refusal is)

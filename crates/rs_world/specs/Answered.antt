@@ -51,9 +51,9 @@ pub record NamesNone (site : SiteState) (origin : Origin) : Type 0 where
 
 -- the history has an entry of this request, with this text
 pub record IsEntered (history : List Decided) (origin : Origin) (text : List ℕ) : Type 0 where
-  pub place : ℕ
+  pub position : ℕ
   pub entry : Decided
-  pub there : slice_get history place ≡ Some entry
+  pub there : slice_get history position ≡ Some entry
   pub origin_is : entry.origin ≡ origin
   pub text_is : entry.text ≡ text
 

@@ -27,7 +27,7 @@ IsFinal (replies.Done answered) = Unit {0}
 IsFinal (replies.Denied cause) = Unit {0}
 IsFinal (replies.Failed reason) = Unit {0}
 IsFinal (replies.Shown lines) = Unit {0}
-IsFinal (replies.Syntax place) = Unit {0}
+IsFinal (replies.Syntax position) = Unit {0}
 IsFinal (replies.OldEpoch epoch) = ⊥
 IsFinal (replies.OldRequest last) = ⊥
 IsFinal (replies.Gap last) = ⊥
@@ -38,7 +38,7 @@ IsCommitted (replies.Done answered) = Unit {0}
 IsCommitted (replies.Denied cause) = Unit {0}
 IsCommitted (replies.Failed reason) = ⊥
 IsCommitted (replies.Shown lines) = ⊥
-IsCommitted (replies.Syntax place) = ⊥
+IsCommitted (replies.Syntax position) = ⊥
 IsCommitted (replies.OldEpoch epoch) = ⊥
 IsCommitted (replies.OldRequest last) = ⊥
 IsCommitted (replies.Gap last) = ⊥
@@ -55,29 +55,29 @@ pub record IsMeaningAt (history : List Decided) (i : ℕ) (given : Given) : Type
 
 -- The request of this entry was told that it is committed.
 pub record IsReplied (givens : List Given) (entry : Decided) : Type 0 where
-  pub place : ℕ
+  pub position : ℕ
   pub given : Given
-  pub there : slice_get givens place ≡ Some given
+  pub there : slice_get givens position ≡ Some given
   pub origin : given.origin ≡ entry.origin
   pub committed : IsCommitted given.reply
 
 -- The reply of this place was given when the site heard its request, and is true by what the site was then.
-pub record IsGivenTruly (events : List Event) (place : ℕ) (given : Given) : Type 0 where
+pub record IsGivenTruly (events : List Event) (position : ℕ) (given : Given) : Type 0 where
   pub before : List Action
   pub site : SiteState
   pub text : List ℕ
   pub receives : Receives events before site given.origin text
-  pub number : length (world_after before).replies ≡ place
+  pub number : length (world_after before).replies ≡ position
   -- and the delivery gave it
-  pub gives : slice_get (world_after (before ++ Deliver ∷ [])).replies place ≡ Some given
+  pub gives : slice_get (world_after (before ++ Deliver ∷ [])).replies position ≡ Some given
   pub true : IsTrueReply site given.origin given.reply
 
 -- The request was taken with a text that says no statement that is executed, and for which this place is told.
-pub record IsNoRequest (events : List Event) (origin : Origin) (place : ℕ) : Type 0 where
+pub record IsNoRequest (events : List Event) (origin : Origin) (position : ℕ) : Type 0 where
   pub text : List ℕ
   pub accepts : Accepts events origin text
   pub no_request : statement_of text ≡ None
-  pub says : SaysNothing text place
+  pub says : SaysNothing text position
 
 pub record Explains (events : List Event) (report : Report) : Type 0 where
   -- the report is that of the last state of the course
@@ -106,7 +106,7 @@ pub record Explains (events : List Event) (report : Report) : Type 0 where
   -- each reply was true when it was given
   pub replies_given_truly : (k : ℕ) (given : Given) → slice_get report.replies k ≡ Some given → IsGivenTruly events k given
   -- a text that was told to be no request says no statement that is executed, and its fault stands at the place that was told
-  pub syntax_true : (k place : ℕ) (given : Given) → slice_get report.replies k ≡ Some given → given.reply ≡ replies.Syntax place → IsNoRequest events given.origin place
+  pub syntax_true : (k position : ℕ) (given : Given) → slice_get report.replies k ≡ Some given → given.reply ≡ replies.Syntax position → IsNoRequest events given.origin position
   -- what a request is told again is what it was told first
   pub repeated_replies_agree : (k l : ℕ) (a b : Given) → slice_get report.replies k ≡ Some a → slice_get report.replies l ≡ Some b → a.origin ≡ b.origin → IsFinal a.reply → IsFinal b.reply → a.reply ≡ b.reply
   -- no stored section ran

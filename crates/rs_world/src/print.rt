@@ -21,10 +21,10 @@ fn print_givens(givens: &[Given], out: &mut Bytes) -> Result<(), NoMemory>
     Ok(())
 }
 
-fn print_entry(place: u64, entry: &Decided, out: &mut Bytes) -> Result<(), NoMemory>
-    ensures { OnOk result (out.new ≡ out.old ++ spec.printed_entry (place, entry.now)) }
+fn print_entry(position: u64, entry: &Decided, out: &mut Bytes) -> Result<(), NoMemory>
+    ensures { OnOk result (out.new ≡ out.old ++ spec.printed_entry (position, entry.now)) }
 {
-    put::number(out, place)?;
+    put::number(out, position)?;
     out.extend(b" ")?;
     put::txn(out, &entry.txn)?;
     out.extend(b" ")?;
@@ -37,10 +37,10 @@ fn print_entry(place: u64, entry: &Decided, out: &mut Bytes) -> Result<(), NoMem
 fn print_entries(entries: &[Decided], out: &mut Bytes) -> Result<(), NoMemory>
     ensures { OnOk result (out.new ≡ out.old ++ flat_map spec.printed_entry (enumerate_from 1 entries.now)) }
 {
-    let mut place = 1u64;
+    let mut position = 1u64;
     for entry in entries {
-        print_entry(place, entry, out)?;
-        place += 1;
+        print_entry(position, entry, out)?;
+        position += 1;
     }
     Ok(())
 }
