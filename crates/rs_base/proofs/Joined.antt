@@ -1,4 +1,4 @@
--- A row's values parted by commas: the first one, and then each further one behind a comma.
+-- A row's values separated by commas: the first one, and then each further one after a comma.
 use Rattle.std.proofs.Common.{◌≡◌, ℕ, ◌-◌, ◌<◌, List, [], ◌∷◌, ◌++◌, length, get_or, take, drop, map, sym, ap, ◌∙◌, append_assoc, arith}
 use Rattle.std.specs.Prelude.{flat_map}
 use Rattle.std.specs.List.{join_with_byte}
@@ -18,6 +18,6 @@ pub join-read : (row : List Value) (first : Value) → 0 < length row → first 
 join-read [] first long is = absurd (omega arith)
 join-read (x ∷ xs) first long is = rw (is, take_whole x xs) (join-first x xs)
 
--- two parts put one after the other are the whole
+-- two parts, one after the other, are the whole
 pub put_both : (old middle new first second whole : List ℕ) → whole ≡ first ++ second → middle ≡ old ++ first → new ≡ middle ++ second → new ≡ old ++ whole
 put_both old middle new first second whole parts one two = rw (two, one, parts) (append_assoc old first second)

@@ -1,11 +1,11 @@
--- Loops that build a list in front of what is still to be read. At such a loop the invariant is
+-- Loops that build a list before what is still to be read. At such a loop the invariant is
 -- `with_prefix found (read rest) ≡ read whole`.
 use Rattle.std.proofs.Common.{◌≡◌, ℕ, zero, suc, Bool, true, false, List, [], ◌∷◌, ◌++◌, drop, Option, Some, None, refl, sym, ap, ◌∙◌, append_assoc}
 use Rattle.rs_base.specs.declared.fault.ReadFault.{ReadFault}
 use Rattle.rs_base.specs.declared.fault.ReadFault.TheVariants as faults
 use Rattle.rs_base.specs.Reading.{◌>>=◌, Fails, with_prefix, push_first, separated}
 
--- an item that was read goes to the end of those before
+-- an item that was read is appended to those before
 pub with_prefix-push_first : {A R : Type 0} (prefix : List A) (first : A) (read : Option (List A × R)) → with_prefix prefix (push_first first read) ≡ with_prefix (prefix ++ first ∷ []) read
 with_prefix-push_first prefix first None = refl
 with_prefix-push_first {A} {R} prefix first (Some x) = ap (λ (items : List A). Some (items, x.1)) (sym (append_assoc prefix (first ∷ []) x.0))
@@ -26,14 +26,14 @@ Fails-bind faults.Malformed read f h = ap (λ (o : Option _). o >>= f) h
 Fails-bind faults.NoMemory read f h = tt
 
 module _ {A T : Type 0} (item : List T → Option (A × List T)) (is_next : List T → Bool) where
-  -- an item was read, and a separator stands behind it
+  -- an item was read, and a separator follows it
   pub separated-goes_on : (prefix : List A) (n : ℕ) (ts : List T) (x : A) (rest : List T) (total : Option (List A × List T)) → item ts ≡ Some (x, rest) → is_next rest ≡ true
       → with_prefix prefix (separated item is_next (suc n) ts) ≡ total → with_prefix (prefix ++ x ∷ []) (separated item is_next n (drop 1 rest)) ≡ total
   separated-goes_on prefix n ts x rest total read next so_far =
       let one : separated item is_next (suc n) ts ≡ push_first x (separated item is_next n (drop 1 rest)) = rw (read, next) refl in
       sym (with_prefix-push_first prefix x (separated item is_next n (drop 1 rest))) ∙ sym (ap (with_prefix prefix) one) ∙ so_far
 
-  -- an item was read, and no separator stands behind it
+  -- an item was read, and no separator follows it
   pub separated-ends : (prefix : List A) (n : ℕ) (ts : List T) (x : A) (rest : List T) (total : Option (List A × List T)) → item ts ≡ Some (x, rest) → is_next rest ≡ false
       → with_prefix prefix (separated item is_next (suc n) ts) ≡ total → total ≡ Some (prefix ++ x ∷ [], rest)
   separated-ends prefix n ts x rest total read next so_far =
@@ -48,6 +48,6 @@ module _ {A T : Type 0} (item : List T → Option (A × List T)) (is_next : List
       sym so_far ∙ ap (with_prefix prefix) one
   separated-fails faults.NoMemory prefix n ts total h so_far = tt
 
-  -- there are as many items as there may be, and a further one was to come
+  -- the limit is reached, and a further item was to come
   pub separated-too_many : (prefix : List A) (ts : List T) (total : Option (List A × List T)) → with_prefix prefix (separated item is_next zero ts) ≡ total → total ≡ None
   separated-too_many prefix ts total so_far = sym so_far

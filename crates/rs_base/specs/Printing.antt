@@ -21,7 +21,7 @@ use Rattle.rs_base.specs.declared.reply.Reply.TheVariants as replies
 
 -- ---- values and rows
 
--- a quote stands twice
+-- a quote is doubled
 abbrev pub quoted_byte : ℕ → List ℕ
 quoted_byte b = if b == 39 then 39 ∷ 39 ∷ [] else b ∷ []
 
@@ -33,7 +33,7 @@ abbrev pub printed_value : Value → List ℕ
 printed_value (values.Int n) = signed_decimal n
 printed_value (values.Text text) = printed_text text
 
--- a line of values, parted by commas
+-- a line of values, separated by commas
 abbrev pub printed_row : List Value → List ℕ
 printed_row row = join_with_byte 44 (map printed_value row) ++ codes "\n"
 
@@ -97,7 +97,7 @@ printed_holder holder = codes " holder " ++ printed_enlist holder
 unfoldable pub printed_wait : ℕ → Resource → Enlist → List ℕ
 printed_wait site what holder = codes "site " ++ decimal site ++ codes " " ++ printed_resource what ++ printed_holder holder
 
--- the number and the name of a reason, and what it rests on
+-- the number and the name of a reason, and its details
 abbrev pub printed_reason : Reason → List ℕ
 printed_reason (reasons.LockBudget site what holder) = codes "1 LockBudget " ++ printed_wait site what holder
 printed_reason (reasons.NoAnswer site) = codes "2 NoAnswer site " ++ decimal site
@@ -110,7 +110,7 @@ printed_line line = line ++ codes "\n"
 unfoldable pub printed_counted : List ℕ → ℕ → List ℕ
 printed_counted class n = class ++ decimal n ++ codes "\n"
 
--- what a reply says: the class, and for each answer of a done request its lines
+-- the text of a reply: the class, and for each answer of a done request its lines
 abbrev pub printed_class : Reply → List ℕ
 printed_class (replies.Done answered) = printed_counted (codes "done ") (length answered) ++ flat_map printed_answer answered
 printed_class (replies.Denied cause) = codes "denied " ++ printed_denial cause ++ codes "\n"
@@ -124,6 +124,6 @@ printed_class (replies.Gap last) = printed_counted (codes "gap ") last
 abbrev pub printed_reply : Origin → Reply → List ℕ
 printed_reply to reply = codes "reply " ++ printed_origin to ++ codes " " ++ printed_class reply
 
--- a value that isn't the first of its row
+-- a value after the first of its row
 abbrev pub further_value : Value → List ℕ
 further_value value = 44 ∷ printed_value value

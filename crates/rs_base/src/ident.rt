@@ -14,7 +14,7 @@ use std::marker::Model;
 
 /// An identifier: a lower-case ASCII letter and at most 23 lower-case letters, digits or `_`.
 ///
-/// It is kept in place, so that a name takes no memory.
+/// It is a fixed array, so a name takes no heap memory.
 #[derive(Clone, Copy, Debug)]
 pub struct Ident {
     bytes: [u8; 24],
@@ -81,7 +81,7 @@ fn padded(text: &[u8]) -> [u8; 24]
 }
 
 impl Ident {
-    /// The identifier of these bytes, or `None` where they are none.
+    /// Returns the identifier of these bytes; `None` exactly if they aren't one.
     pub fn new(bytes: &[u8]) -> Option<Ident>
         ensures { SomeIff result (IsTrue (spec.is_ident bytes.now)) bytes.now }
     {
@@ -94,7 +94,7 @@ impl Ident {
         })
     }
 
-    /// The identifier of these bytes in lower case, or `None` where they are none.
+    /// Returns the identifier of these bytes in lower case; `None` exactly if they aren't one.
     pub fn lowered(bytes: &[u8]) -> Option<Ident>
         ensures { SomeIff result (IsTrue (spec.is_ident (map to_ascii_lowercase bytes.now))) (map to_ascii_lowercase bytes.now) }
     {

@@ -1,5 +1,4 @@
-//! What every part of the database speaks of: sites, names, values, replies, and the streams that bytes come from
-//! and go to.
+//! The vocabulary of the whole database: sites, names, values, replies, and streams of bytes.
 #![tactic(auto)]
 
 mod bytes;

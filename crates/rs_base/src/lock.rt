@@ -1,4 +1,4 @@
-//! What transactions lock.
+//! Locks.
 
 use crate::ident::Ident;
 use crate::name::Swn;
@@ -15,12 +15,12 @@ pub enum Resource {
     Synonyms(Ident),
 }
 
-/// How it is locked: for reading, which others may do too, or for writing alone.
+/// The mode of a lock: shared for reading, or exclusive for writing.
 #[derive(Clone, Copy, Debug, PartialEq, Eq, PartialOrd, Ord)]
 pub enum Mode {
     Read,
     Write,
 }
 
-/// What is held, and in which mode.
+/// Locks held, each with its mode.
 pub type HeldLocks = Items<(Resource, Mode)>;

@@ -1,4 +1,4 @@
-//! A sink into memory whose writes fail at set numbers.
+//! A sink into memory whose writes fail at chosen calls.
 
 ghost use Rattle.std.specs.Prelude.{◌≡◌, ◌↔◌, ◌<◌, ◌≤◌, [], length, Some, IsTrue, IfOk, IsErrOf};
 ghost use Rattle.std.specs.Io.KnownBytes.{WriteAppends};
@@ -11,8 +11,8 @@ use crate::sure::SureSink;
 use std::alloc::Global;
 use std::marker::Model;
 
-/// A sink into memory. The writes whose numbers are in a list, from 1, fail, and all others take all that they are
-/// given, if there is memory. The counts of writes and of failed writes stand still at `u64::MAX`.
+/// A sink into memory. The writes numbered in a list, from 1, fail; every other write appends all its bytes, or fails on
+/// out of memory. The counts of writes and of failed writes stay at `u64::MAX` once they reach it.
 #[derive(Debug, Drop)]
 pub struct MemSink {
     inner: SureSink,
@@ -30,7 +30,7 @@ impl Model for MemSink {
 }
 
 impl MemSink {
-    /// A sink whose writes numbered in `fail`, from 1, fail.
+    /// Makes a sink whose writes numbered in `fail`, from 1, fail.
     pub fn new(alloc: Global, fail: &[u64]) -> Result<MemSink, NoMemory>
         ensures { IfOk result (λ it. it ≡ record { written = []; calls = 0; fail = fail.now; faults = 0 }) }
     {
@@ -43,7 +43,7 @@ impl MemSink {
         })
     }
 
-    /// The bytes that were written.
+    /// Returns the bytes written so far.
     pub fn bytes(&self) -> &[u8]
         ensures { result.now ≡ self.now.written }
     {
@@ -56,7 +56,7 @@ impl Sink for MemSink {
 
     ghost faults = { λ it. it.faults };
 
-    /// Takes all, unless this write is one of those that fail, or wants memory.
+    /// Appends all of `from`, unless this write is one of those that fail. On out of memory it appends nothing.
     fn write(&mut self, from: &[u8]) -> Result<usize, Fault>
         ensures within { IfOk result (λ n. n ≤ length from.now) }
         ensures progress { 0 < length from.now → IfOk result (λ n. 0 < n) }

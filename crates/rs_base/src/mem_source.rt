@@ -1,4 +1,4 @@
-//! A source over memory whose reads fail at set numbers.
+//! A source over memory whose reads fail at chosen calls.
 
 ghost use Rattle.std.specs.Prelude.{◌≡◌, ◌≤◌, ◌++◌, length, min, take, drop, Some, is_err, IfOk, OnErr};
 ghost use Rattle.std.specs.Io.KnownBytes.{ReadConsumes};
@@ -11,8 +11,8 @@ use crate::sure::SureSource;
 use std::alloc::Global;
 use std::marker::Model;
 
-/// A source over a copy of bytes in memory. The reads whose numbers are in a list, from 1, fail, and all others
-/// succeed. The counts of reads and of failed reads stand still at `u64::MAX`.
+/// A source over a copy of bytes in memory. The reads numbered in a list, from 1, fail; every other read succeeds. The
+/// counts of reads and of failed reads stay at `u64::MAX` once they reach it.
 #[derive(Debug, Drop)]
 pub struct MemSource {
     inner: SureSource,
@@ -30,7 +30,7 @@ impl Model for MemSource {
 }
 
 impl MemSource {
-    /// A source of `bytes` whose reads numbered in `fail`, from 1, fail.
+    /// Makes a source of `bytes` whose reads numbered in `fail`, from 1, fail.
     pub fn new(alloc: Global, bytes: &[u8], fail: &[u64]) -> Result<MemSource, NoMemory>
         ensures { IfOk result (λ it. it ≡ record { left = bytes.now; calls = 0; fail = fail.now; faults = 0 }) }
     {
@@ -50,7 +50,7 @@ impl Source for MemSource {
 
     ghost faults = { λ it. it.faults };
 
-    /// Gives as much as fits the piece, unless this read is one of those that fail.
+    /// Reads as many bytes as fit, unless this read is one of those that fail.
     fn read(&mut self, into: &mut [u8]) -> Result<usize, Failed>
         ensures within { IfOk result (λ n. n ≤ length into.old) }
         ensures bytes { ReadConsumes (Some self.old.left) (Some self.new.left) result into.new }

@@ -1,4 +1,4 @@
-//! Who sends and receives datagrams.
+//! The two ends of a datagram.
 
 use crate::bytes::Bytes;
 use crate::site_no::SiteNo;
@@ -11,5 +11,5 @@ pub enum Peer {
     Client(u16),
 }
 
-/// Datagrams, each with the peer that it goes to.
+/// Datagrams, each with its destination.
 pub type Datagrams = Items<(Peer, Bytes)>;

@@ -1,4 +1,4 @@
-//! Texts put at the end of bytes, part by part. Where memory is wanting, a part of the text may stand there.
+//! Appends the printed text of values, names and replies part by part. On out of memory a part of the text is left.
 
 ghost use Rattle.std.specs.Prelude.{◌≡◌, ◌++◌, length, take, flat_map, map, decimal, codes, OnOk};
 ghost use Rattle.std.specs.List.{join_with_byte};

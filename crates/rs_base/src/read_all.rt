@@ -10,8 +10,8 @@ use crate::fault::Fault;
 use crate::source::Source;
 use std::alloc::Global;
 
-/// Reads until the source ends or `limit` bytes were read, whichever is first. It reads no byte behind those that it
-/// gives.
+/// Reads until the source ends or `limit` bytes were read, whichever is first. It reads no byte beyond those that it
+/// returns.
 pub fn read_to_end<S: Source>(alloc: Global, source: &mut S, limit: usize) -> Result<Bytes, Fault>
     ensures consumed { IfOk result (λ bytes. Consumes (S.left source.old) (S.left source.new) bytes) }
     ensures within { IfOk result (λ bytes. length bytes ≤ limit) }

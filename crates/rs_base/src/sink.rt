@@ -6,18 +6,18 @@ ghost use Rattle.rs_base.specs.Faults.{CountsFault};
 
 use crate::fault::Fault;
 
-/// A stream of bytes that is written, and counts the writes that failed.
+/// A stream of bytes to write, with a count of the writes that failed.
 pub trait Sink {
     ghost use Rattle.std.specs.Prelude.{List, Option, ℕ};
 
-    // The bytes that were written, where the sink tells them.
+    // The bytes that were written, if the sink reports them.
     ghost written: { Self → Option (List ℕ) };
 
-    // How many writes failed.
+    // The number of writes that failed.
     ghost faults: { Self → ℕ };
 
-    /// Writes bytes at the front of `from`, and says how many: at least one, where there is one. A write that failed
-    /// has written nothing.
+    /// Writes the first bytes of `from` and returns how many: at least one, unless `from` is empty. A write that failed has
+    /// written nothing.
     fn write(&mut self, from: &[u8]) -> Result<usize, Fault>
         ensures within { IfOk result (λ n. n ≤ length from.now) }
         ensures progress { 0 < length from.now → IfOk result (λ n. 0 < n) }

@@ -1,4 +1,4 @@
-//! Streams over those of std, such as a socket or a file. They tell nothing of the bytes.
+//! Streams over those of std, such as a socket or a file. They report nothing of the bytes.
 
 ghost use Rattle.std.specs.Prelude.{◌≡◌, ◌<◌, ◌≤◌, length, None, is_err, IfOk, IfErr};
 ghost use Rattle.std.specs.Io.KnownBytes.{ReadConsumes, WriteAppends};
@@ -10,8 +10,8 @@ use crate::sink::Sink;
 use crate::source::Source;
 use std::io::{Read, Write};
 
-/// A source that reads from a reader of std. An error of the reader is a fault, an interrupted read too. The count of
-/// faults stands still at `u64::MAX`.
+/// A source over a reader of std. Each error of the reader is a fault, an interrupted read too. The count of faults
+/// stays at `u64::MAX` once it reaches it.
 #[derive(Drop)]
 pub struct StdSource<R> {
     reader: R,
@@ -49,9 +49,8 @@ impl<R: Read> Source for StdSource<R> {
     }
 }
 
-/// A sink that writes to a writer of std, and holds back no byte. An error of the writer is a fault, an interrupted
-/// write too, and so is a write that takes none of the bytes that it is given. The count of faults stands still at
-/// `u64::MAX`.
+/// A sink over a writer of std, without a buffer. Each error of the writer is a fault, an interrupted write too, and so
+/// is a write of no byte of a buffer that isn't empty. The count of faults stays at `u64::MAX` once it reaches it.
 #[derive(Drop)]
 pub struct StdSink<W> {
     writer: W,

@@ -11,7 +11,7 @@ use crate::source::Source;
 use std::alloc::Global;
 use std::marker::Model;
 
-/// A source over a copy of bytes in memory. Contracts see it as the list of the bytes that are left.
+/// A source over a copy of bytes in memory. Contracts see it as the list of the bytes left.
 #[derive(Debug, Drop)]
 pub struct SureSource {
     bytes: Bytes,
@@ -42,7 +42,7 @@ impl Source for SureSource {
 
     ghost faults = { λ _. 0 };
 
-    /// Gives as much as fits the piece.
+    /// Reads as many bytes as fit.
     fn read(&mut self, into: &mut [u8]) -> Result<usize, Failed>
         ensures within { IfOk result (λ n. n ≤ length into.old) }
         ensures bytes { ReadConsumes (Some self.old) (Some self.new) result into.new }
@@ -58,7 +58,7 @@ impl Source for SureSource {
     }
 }
 
-/// A sink into memory. Contracts see it as the list of the bytes that were written.
+/// A sink into memory. Contracts see it as the list of the bytes written.
 #[derive(Debug, Drop)]
 pub struct SureSink {
     bytes: Bytes,
@@ -81,7 +81,7 @@ impl SureSink {
         }
     }
 
-    /// The bytes that were written.
+    /// Returns the bytes written so far.
     pub fn bytes(&self) -> &[u8]
         ensures { result.now ≡ self.now }
     {
@@ -94,7 +94,7 @@ impl Sink for SureSink {
 
     ghost faults = { λ _. 0 };
 
-    /// Takes all, or wants memory and takes nothing.
+    /// Appends all of `from`. On out of memory it appends nothing.
     fn write(&mut self, from: &[u8]) -> Result<usize, Fault>
         ensures within { IfOk result (λ n. n ≤ length from.now) }
         ensures progress { 0 < length from.now → IfOk result (λ n. 0 < n) }

@@ -1,4 +1,4 @@
-//! Writing bytes whole.
+//! Writing all of a byte string.
 
 ghost use Rattle.std.specs.Prelude.{OnOk, OnErr};
 ghost use Rattle.std.specs.Io.KnownBytes.{Appends};
@@ -8,7 +8,7 @@ ghost use Rattle.rs_base.specs.Streams.{AppendsPrefix};
 use crate::fault::Fault;
 use crate::sink::Sink;
 
-/// Writes all of `bytes`. Where a write fails, a front of them was written.
+/// Writes all of `bytes`. If a write fails, a prefix of them was written.
 pub fn write_whole<K: Sink>(sink: &mut K, bytes: &[u8]) -> Result<(), Fault>
     ensures whole { OnOk result (Appends (K.written sink.old) (K.written sink.new) bytes.now) }
     ensures prefix { OnErr result (AppendsPrefix (K.written sink.old) (K.written sink.new) bytes.now) }

@@ -5,7 +5,7 @@ use Rattle.rs_base.specs.declared.fault.Fault.{Fault}
 use Rattle.rs_base.specs.declared.fault.Fault.TheVariants as faults
 use Rattle.rs_base.proofs.mem_sink.MemSinkSink.write.Goals as goal
 
--- want of memory is no failure
+-- running out of memory is no failure of the device
 not_failed : (r : Result ℕ Fault) → IfErr r (λ fault. fault ≡ faults.NoMemory) → IsErrOf r faults.Failed → ⊥
 not_failed (Ok n) want failed = cc
 not_failed (Err fault) want failed = cc
