@@ -1,4 +1,4 @@
--- How often elements are in a list, said of whether the list has them, and of whether two of its elements are equal.
+-- The number of times that elements are in a list, by whether the list has them and whether two of its elements are equal.
 use Rattle.std.proofs.Common.{◌≡◌, ◌≢◌, ℕ, ◌<◌, ◌≤◌, List, [], ◌∷◌, Bool, true, false, cond, zero, suc, length, get_or, map, sym, ap, ◌∙◌, subst, arith, ⊎_elim}
 use Rattle.std.specs.List.{filter, AllPairs, AllByRecursion, Contains}
 use Rattle.std.proofs.lemmas.Bool.{cases_Bool}
@@ -56,7 +56,7 @@ module _ {X : Type 0} (same : X → X → Bool) (is : Decides same) where
   absent z [] h = tt
   absent z (x ∷ xs) h = ((λ e. absurd (omega (arith, h, one_for z x (sym e)))), absent z xs (omega (arith, h)))
 
-  -- where each is there at most once, a fact of any two different ones is a fact of any two
+  -- if each is there at most once, a fact of any two different ones is a fact of any two
   pub pairs_apart : {Y : Type 0} (R : Y → Y → Type 0) (f : X → Y) → ((v w : X) → v ≢ w → R (f v) (f w)) → (xs : List X) → ((z : X) → times same z xs ≤ 1) → AllPairs R (map f xs)
   pairs_apart R f differ [] once = λ i j d low high. absurd (omega arith)
   pairs_apart R f differ (x ∷ xs) once =

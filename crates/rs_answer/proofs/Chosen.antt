@@ -1,4 +1,4 @@
--- The values at a place of rows, one row more: their sum, the least and the greatest.
+-- The values of a column over rows, one row more: their sum, the least and the greatest.
 use Rattle.std.proofs.Common.{◌≡◌, ℕ, ◌+◌, ◌<◌, List, [], ◌∷◌, ◌++◌, length, append-nil, take, get_or, Option, Some, None, refl, sym, ap, ◌∙◌, fold, slice_get, arith, ◌+ℤ◌}
 use Rattle.std.specs.List.{cons_option}
 use Rattle.std.proofs.lemmas.List.{take_more}

@@ -14,7 +14,7 @@ use Rattle.rs_ast.specs.declared.shape.ShapeKey.{ShapeKey}
 use Rattle.rs_answer.specs.Groups.{group_cmp}
 use Rattle.rs_answer.specs.Sorting.{key_cmp, answer_cmp}
 
--- a chain of two answers is a tie only where both are
+-- a chain of two answers is a tie exactly if both are
 both_tie : (o p : Ordering) → ordering_then o p ≡ Equal → (o ≡ Equal) × (p ≡ Equal)
 both_tie Less p h = cc
 both_tie Equal p h = (refl, h)
@@ -35,7 +35,7 @@ options_exact h None (Some y) e = cc
 options_exact h (Some x) None e = cc
 options_exact h (Some x) (Some y) e = ap Some (h x y e)
 
--- ---- an order turned
+---- an order reversed
 
 reversed_tie : (o : Ordering) → ordering_reverse o ≡ Equal → o ≡ Equal
 reversed_tie Less h = cc

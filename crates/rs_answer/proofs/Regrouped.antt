@@ -1,4 +1,4 @@
--- Rows that a stable sort has put in order of their groups' values are in the same groups, and these give the same rows.
+-- A stable sort by the group's values leaves the groups, and these give the same rows.
 use Rattle.std.proofs.Common.{◌≡◌, ◌≢◌, ℕ, ◌+◌, List, [], ◌∷◌, Bool, true, not, ◌&&◌, map, Option, Some, None, Ordering, Less, Equal, Greater, Result, Ok, Err, refl, sym, ap, ◌∙◌, subst, arith, is_lt}
 use Rattle.std.specs.List.{filter_map, cons_option, sum_by, AllByRecursion}
 use Rattle.std.specs.List.Sorted.{IsPermutation, IsStableByKey, ties}

@@ -1,4 +1,4 @@
--- Rows in order of their groups' values: each run of equal ones is a group.
+-- Rows sorted by their group's values: each run of equal ones is a group.
 use Rattle.std.proofs.Common.{◌≡◌, ℕ, ◌+◌, ◌<◌, List, [], ◌∷◌, ◌++◌, Bool, true, false, not, length, take, drop, get_or, map, Option, zero, suc, take-append-drop, Ordering, refl, sym, ap, ◌∙◌, subst, arith, append-nil}
 use Rattle.std.specs.List.{filter, prefix_len, AllByRecursion}
 use Rattle.std.proofs.lemmas.Bool.{cond_both, cond-true, cond-false}
@@ -55,7 +55,7 @@ module _ (column_indexes : List ℕ) where
   abbrev IsOf : List (Option Value) → Bool → List Value → Type 0
   IsOf values is row = same_group values (group_values column_indexes row) ≡ is
 
-  -- ---- a run and what stands behind it
+  ---- a run and what follows it
 
   keys_after : (k : List (Option Value)) (run others : List (List Value)) → AllByRecursion (IsOf k true) run → AllByRecursion (IsOf k false) others
       → filter (λ other. not (same_group k other)) (once same_group (map (group_values column_indexes) (run ++ others))) ≡ once same_group (map (group_values column_indexes) others)
@@ -108,7 +108,7 @@ module _ (column_indexes : List ℕ) where
       ap (λ groups. members_of column_indexes (first ∷ (run ++ others)) k ∷ groups) (ap (map (members_of column_indexes (first ∷ (run ++ others)))) suffix ∙ agree)
       ∙ ap (λ group. group ∷ grouped_by column_indexes others) here
 
-  -- ---- the run at the front
+  ---- the first run
 
   abbrev pub by_group : List Value → List Value → Ordering
   by_group one other = group_cmp (group_values column_indexes one) (group_values column_indexes other)
@@ -146,7 +146,7 @@ module _ (column_indexes : List ℕ) where
   prefix_length : (first : List Value) (rows : List (List Value)) → prefix_len (alike_to first) (first ∷ rows) ≡ suc (prefix_len (alike_to first) rows)
   prefix_length first rows = cond-true (alike_to first first) _ _ (group_decides.itself (group_values column_indexes first)) ∙ sym (one_more (prefix_len (alike_to first) rows))
 
-  -- what a loop finds at the front of what is left
+  -- what a loop finds first in what is left
   pub run_cut : (first : List Value) (rest : List (List Value)) (n : ℕ) → 0 < length rest → first ≡ get_or rest 0 first → n ≡ prefix_len (alike_to first) rest → Rising by_group rest
       → grouped_by column_indexes rest ≡ take n rest ∷ grouped_by column_indexes (drop n rest)
   run_cut first [] n some is e up = absurd (omega (arith, some))

@@ -1,4 +1,4 @@
--- The kinds of what rows answer, from those of the joined rows.
+-- The kinds of answered values, from those of the joined rows.
 use Rattle.std.proofs.Common.{◌≡◌, ℕ, List, [], ◌∷◌, Bool, true, false, cond, Option, Some, None, length, pos, map, fold, slice_get, refl, sym, ap, ap₂, ◌∙◌, subst, ⊎_elim}
 use Rattle.std.specs.List.{AllByRecursion, cons_option}
 use Rattle.std.specs.Option.{option_map, option_and_then}
@@ -34,14 +34,14 @@ both_found (Some value) None row e = absurd cc
 both_found (Some value) (Some others) row e = (value, others, refl, refl, cc)
 
 module _ (columns : List Kind) where
-  -- the value is of the kind of the column at this place
+  -- the value has the kind of the column at this index
   abbrev IsOfColumn : ℕ → Value → Type 0
   IsOfColumn column_index value = slice_get columns column_index ≡ Some (kind_of value)
 
   abbrev AreTyped : List (List Value) → Type 0
   AreTyped rows = AllByRecursion (HasKinds columns) rows
 
-  -- ---- the values at a place
+  ---- the values of a column
 
   at_column_index : (row : List Value) (column_index : ℕ) (value : Value) → HasKinds columns row → slice_get row column_index ≡ Some value → IsOfColumn column_index value
   at_column_index row column_index value typed found =

@@ -8,7 +8,7 @@ use Rattle.rs_base.specs.declared.value.Value.{Value}
 use Rattle.rs_base.specs.Value.{value_cmp}
 use Rattle.rs_ast.specs.declared.shape.Shape.{Shape}
 
--- each item once, where it stands first
+-- the distinct items, each where it comes first
 abbrev pub once : {A : Type 0} → (A → A → Bool) → List A → List A
 once same [] = []
 once same (item ∷ items) = item ∷ filter (λ other. not (same item other)) (once same items)
@@ -27,7 +27,7 @@ same_group one other = is_eq (group_cmp one other)
 abbrev pub members_of : List ℕ → List (List Value) → List (Option Value) → List (List Value)
 members_of column_indexes rows values = filter (λ row. same_group values (group_values column_indexes row)) rows
 
--- the rows in groups of equal values, a group for each values that a row has
+-- the rows in groups of equal values, one group for each combination of values
 abbrev pub grouped_by : List ℕ → List (List Value) → List (List (List Value))
 grouped_by column_indexes rows = map (members_of column_indexes rows) (once same_group (map (group_values column_indexes) rows))
 

@@ -1,4 +1,4 @@
--- The kinds of what rows answer.
+-- The kinds of answered values.
 use Rattle.std.specs.Prelude.{◌≡◌, List, map, Option, Some, slice_get}
 use Rattle.rs_base.specs.declared.value.Kind.{Kind}
 use Rattle.rs_base.specs.declared.value.Kind.TheVariants as kinds
@@ -11,7 +11,7 @@ use Rattle.rs_ast.specs.declared.shape.ShapeItem.TheVariants as items
 abbrev pub HasKinds : List Kind → List Value → Type 0
 HasKinds known row = map kind_of row ≡ known
 
--- the kind of what an item answers over columns of these kinds, if its column is there
+-- the kind of an item over columns of these kinds, if its column is there
 abbrev pub item_kind : List Kind → ShapeItem → Option Kind
 item_kind columns (items.Col column_index) = slice_get columns column_index
 item_kind columns items.Count = Some kinds.Int

@@ -3,7 +3,7 @@
 use rs_base::NoMemory;
 use std::alloc::{AllocError, AllocFailed};
 
-/// A sum isn't an integer of 64 bits, or memory was wanting.
+/// A sum isn't an integer of 64 bits, or an allocation failed.
 #[derive(Clone, Copy, Debug, PartialEq, Eq)]
 pub enum AnswerFault {
     Overflow,

@@ -1,4 +1,4 @@
-//! The groups of joined rows, and the rows that they give.
+//! The groups of joined rows, and the rows of groups.
 
 ghost use Rattle.std.specs.Prelude.{◌≡◌, [], ◌∷◌, map, IfOk};
 ghost use Rattle.std.specs.List.{prefix_len};
@@ -16,7 +16,7 @@ use std::alloc::Global;
 use std::cmp::Ordering;
 use std::slice::from_ref;
 
-/// Two rows by the values of the columns by which rows are grouped.
+/// Orders two rows by the values of the columns to group by.
 fn compare_groups(column_indexes: &[u16], one: &[Value], other: &[Value]) -> Ordering
     ensures { result ≡ group_cmp (group_values column_indexes.now one.now) (group_values column_indexes.now other.now) }
 {
@@ -29,7 +29,7 @@ fn compare_groups(column_indexes: &[u16], one: &[Value], other: &[Value]) -> Ord
     Ordering::Equal
 }
 
-/// How many rows at the front are of the group of a row.
+/// Returns the number of first rows in the group of a row.
 fn run_length(column_indexes: &[u16], first: &[Value], rows: &[Row]) -> usize
     ensures { result ≡ prefix_len (λ row. same_group (group_values column_indexes.now first.now) (group_values column_indexes.now row)) rows.now }
 {
@@ -43,7 +43,7 @@ fn run_length(column_indexes: &[u16], first: &[Value], rows: &[Row]) -> usize
     length
 }
 
-/// The rows, moved.
+/// Moves the rows.
 fn into_vec(alloc: Global, mut rows: Rows) -> Result<Vec<Row>, NoMemory>
     ensures { IfOk result (λ moved. moved.items ≡ rows) }
 {
@@ -55,7 +55,7 @@ fn into_vec(alloc: Global, mut rows: Rows) -> Result<Vec<Row>, NoMemory>
     Ok(moved)
 }
 
-/// The rows of each group together, the groups in order of their values, and the rows of each as they stood.
+/// Returns the rows of each group together, the groups ordered by their values, and the rows of each in their old order.
 fn rows_by_group(alloc: Global, column_indexes: &[u16], joined: Rows) -> Result<Vec<Row>, NoMemory>
     ensures sorted { IfOk result (λ rows. IsSortedByKey (group_values column_indexes.now) group_cmp rows.items) }
     ensures same { IfOk result (λ rows. IsPermutation joined rows.items) }
@@ -70,7 +70,7 @@ fn rows_by_group(alloc: Global, column_indexes: &[u16], joined: Rows) -> Result<
     Ok(rows)
 }
 
-/// What each row gives as a group of its own.
+/// Returns the row of each row as a group of its own.
 fn each_alone(alloc: Global, items: &[ShapeItem], rows: &[Row]) -> Result<Vec<Row>, AnswerFault>
     ensures { Gives (any_overflows items.now (map (λ row. row ∷ []) rows.now)) (λ given. given.items ≡ rows_of items.now (map (λ row. row ∷ []) rows.now)) result }
 {
@@ -81,7 +81,7 @@ fn each_alone(alloc: Global, items: &[ShapeItem], rows: &[Row]) -> Result<Vec<Ro
     Ok(given)
 }
 
-/// What all rows give as one group.
+/// Returns the row of all rows as one group.
 fn all_together(alloc: Global, items: &[ShapeItem], rows: &[Row]) -> Result<Vec<Row>, AnswerFault>
     ensures { Gives (any_overflows items.now (rows.now ∷ [])) (λ given. given.items ≡ rows_of items.now (rows.now ∷ [])) result }
 {
@@ -90,7 +90,7 @@ fn all_together(alloc: Global, items: &[ShapeItem], rows: &[Row]) -> Result<Vec<
     Ok(given)
 }
 
-/// What the groups give, where the rows are in order of their groups' values: each run of equal ones is a group.
+/// Returns the rows of the groups, if the rows are ordered by their groups' values: each run of equal ones is a group.
 fn each_run(
     alloc: Global,
     items: &[ShapeItem],
@@ -110,7 +110,7 @@ fn each_run(
     Ok(given)
 }
 
-/// The rows that a query shows, in some order.
+/// Returns the rows that a query shows, in some order.
 pub(crate) fn shown_rows(
     alloc: Global,
     shape: &Shape,

@@ -1,4 +1,4 @@
-//! What a group of rows answers in each column.
+//! The row of a group, item by item.
 
 ghost use Rattle.std.specs.Prelude.{◌≡◌, [], ◌∷◌, ◌++◌, ◌&&◌, pos, length, IfOk, slice_get, cond};
 ghost use Rattle.std.specs.Option.{option_copied, option_to_list};
@@ -11,7 +11,7 @@ use rs_ast::ShapeItem;
 use rs_base::{NoMemory, Row, Value, with_room};
 use std::alloc::Global;
 
-/// The value at a place of a row, if it is there.
+/// Returns the value at a column index, if the row has one.
 fn value_at(column_index: u16, row: &Row) -> Option<&Value>
     ensures { option_copied result ≡ slice_get row.now column_index }
 {
@@ -27,7 +27,7 @@ fn first_at(column_index: u16, members: &[Row]) -> Option<&Value>
     }
 }
 
-/// What a row adds to the sum of the integers at a place.
+/// Returns what a row adds to the sum of a column.
 fn addend(column_index: u16, row: &Row) -> i64
     ensures { result ≡ spec.sum_of (spec.values_at column_index (row.now ∷ [])) }
 {
@@ -37,7 +37,7 @@ fn addend(column_index: u16, row: &Row) -> i64
     }
 }
 
-/// The sum of the integers at a place, as large as it is: rows in memory can't take it out of 128 bits.
+/// Returns the sum of a column's integers: rows in memory can't exceed 128 bits.
 fn sum_at(column_index: u16, members: &[Row]) -> i128
     ensures { result ≡ spec.sum_of (spec.values_at column_index members.now) }
 {
@@ -48,7 +48,7 @@ fn sum_at(column_index: u16, members: &[Row]) -> i128
     sum
 }
 
-/// The lesser of two values that may be there; of equal ones the first.
+/// Returns the lesser of two optional values; of equal ones the first.
 fn lesser<'a>(one: Option<&'a Value>, other: Option<&'a Value>) -> Option<&'a Value>
     ensures { option_copied result ≡ better_of spec.lesser (option_copied one.entry) (option_copied other.entry) }
 {
@@ -59,7 +59,7 @@ fn lesser<'a>(one: Option<&'a Value>, other: Option<&'a Value>) -> Option<&'a Va
     }
 }
 
-/// The greater of two values that may be there; of equal ones the first.
+/// Returns the greater of two optional values; of equal ones the first.
 fn greater<'a>(one: Option<&'a Value>, other: Option<&'a Value>) -> Option<&'a Value>
     ensures { option_copied result ≡ better_of spec.greater (option_copied one.entry) (option_copied other.entry) }
 {
@@ -108,7 +108,7 @@ fn sum_value(column_index: u16, members: &[Row]) -> Result<Value, AnswerFault>
     }
 }
 
-/// What an item is for a group, if it is anything.
+/// Returns the value of an item for a group, if it has one.
 fn item_value(alloc: Global, item: ShapeItem, members: &[Row]) -> Result<Option<Value>, AnswerFault>
     ensures { Gives (spec.item_overflows members.now item) (λ value. value ≡ spec.item_value members.now item) result }
 {
@@ -121,7 +121,7 @@ fn item_value(alloc: Global, item: ShapeItem, members: &[Row]) -> Result<Option<
     }
 }
 
-/// The row that a group gives, if it gives one: each item's value. Where one has none the later sums count for Overflow still.
+/// Returns the row of a group, if it has one: each item's value. If one has none the later sums count for Overflow still.
 fn group_row(
     alloc: Global,
     items: &[ShapeItem],
@@ -140,7 +140,7 @@ fn group_row(
     Ok(whole.then_some(row))
 }
 
-/// Puts the row that a group gives, if it gives one, at the end of the rows.
+/// Appends the row of a group, if it has one.
 pub(crate) fn push_group(
     alloc: Global,
     items: &[ShapeItem],

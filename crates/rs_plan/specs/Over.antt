@@ -1,4 +1,4 @@
--- When a bound statement is over tables of which entries tell. A parameter fits any kind.
+-- When a bound statement is over the tables that entries describe. A parameter fits any kind.
 use Rattle.std.specs.Prelude.{◌≡◌, ◌≤◌, ℕ, Bool, true, false, ◌&&◌, ◌||◌, not, ◌==◌, nat_lt, List, [], ◌∷◌, map, flat_map, length, Option, Some, None, slice_get, IsTrue, All}
 use Rattle.std.specs.List.{list_any, list_all}
 use Rattle.std.specs.Cmp.Lexicographic.{pointwise}
@@ -23,7 +23,7 @@ use Rattle.rs_plan.specs.Kinds.{kinds_fit}
 
 -- ---- columns
 
--- the kinds of the columns, place by place
+-- the kinds of the columns, by column index
 abbrev pub kinds_of : List Entry → List Kind
 kinds_of entries = flat_map (λ entry. map (λ column. column.kind) entry.columns) entries
 
@@ -34,7 +34,7 @@ is_column_index columns column_index = nat_lt column_index (length columns)
 abbrev pub has_kind : List Kind → Kind → ℕ → Bool
 has_kind columns kind column_index = is_column_index columns column_index && kinds_fit (Some kind) (slice_get columns column_index)
 
--- ---- clauses
+---- predicates
 
 abbrev pub side_kind : List Kind → BoundSide → Option Kind
 side_kind columns (sides.Place column_index) = slice_get columns column_index
@@ -46,7 +46,7 @@ side_is_column columns (sides.Place column_index) = is_column_index columns colu
 side_is_column columns (sides.Lit value) = true
 side_is_column columns (sides.Param param) = true
 
--- its columns are there, and its two sides have one kind
+-- its columns are there, and its two operands have one kind
 abbrev pub cmp_fits : List Kind → BoundCmp → Bool
 cmp_fits columns cmp =
     is_column_index columns cmp.left && side_is_column columns cmp.right && kinds_fit (slice_get columns cmp.left) (side_kind columns cmp.right)
@@ -75,7 +75,7 @@ abbrev pub is_filled : {A : Type 0} → List A → Bool
 is_filled [] = false
 is_filled (item ∷ items) = true
 
--- the item is no column but one of those of the group
+-- the item is no column, or one of the group
 abbrev pub is_of_group : List ℕ → ShapeItem → Bool
 is_of_group group (items.Col column_index) = list_any (λ other. column_index == other) group
 is_of_group group items.Count = true
@@ -83,7 +83,7 @@ is_of_group group (items.Sum column_index) = true
 is_of_group group (items.Min column_index) = true
 is_of_group group (items.Max column_index) = true
 
--- The shape is over these columns: all its columns, items and keys are there; it is grouped exactly where an item is an
+-- The shape is over these columns: all its columns, items and keys are there; it is grouped exactly if an item is an
 -- aggregate or there are columns to group by; and then each item that is a column is one of these.
 pub record IsShapeOver (columns : List Kind) (shape : Shape) : Type 0 where
   pub items : IsTrue (list_all (item_fits columns) shape.items)
@@ -112,7 +112,7 @@ abbrev pub more_fits : List Kind → Option (Arith × BoundTerm) → Bool
 more_fits columns None = true
 more_fits columns (Some (op, second)) = term_fits columns kinds.Int second
 
--- the kind of what a set computes: an integer where two terms are combined, and else that of its column
+-- the kind that an assignment computes: an integer if two terms are combined, and else that of its column
 abbrev pub set_kind : Kind → Option (Arith × BoundTerm) → Kind
 set_kind kind None = kind
 set_kind kind (Some more) = kinds.Int
@@ -164,7 +164,7 @@ pub record IsDeleteOver (name : Swn) (clauses : List (List BoundCmp)) (entries :
   pub tables : AreEntriesOf (name ∷ []) entries
   pub clauses_are : IsTrue (clauses_fit (kinds_of entries) clauses)
 
--- the statement is over the tables of which the entries tell
+-- the statement is over the tables that the entries describe
 abbrev pub IsOver : Bound → List Entry → Type 0
 IsOver (bounds.Select names aliases widths clauses shape) entries = IsSelectOver names aliases widths clauses shape entries
 IsOver (bounds.Insert name rows) entries = IsInsertOver name rows entries
