@@ -1,4 +1,4 @@
--- Rows and sets that are not denied fit the columns.
+-- Rows and assignments that are not denied fit the columns.
 use Rattle.std.proofs.Common.{◌≡◌, ℕ, ◌≤◌, Bool, true, false, not, ◌&&◌, List, [], ◌∷◌, ◌++◌, map, length, Option, Some, None, IsTrue, refl, ap, ◌∙◌, arith}
 use Rattle.std.specs.Prelude.{◌==◌, bytes_eq, flat_map}
 use Rattle.std.specs.Cmp.Lexicographic.{pointwise}
@@ -25,7 +25,7 @@ use Rattle.rs_bind.proofs.OverClauses.{fits_any}
 use Rattle.rs_bind.proofs.OverScope.{kinds_in, kind_known, column_index_kind, column_index_there, column_index_within}
 use Rattle.rs_bind.proofs.OverTests.{first_passes, both_pass, each_passes}
 
--- ---- rows that are put in
+---- inserted rows
 
 module _ (scope : List ScopeColumn) (params : List Param) where
   term_is_given : (term : Term) (column : ScopeColumn) → term_fits params term column ≡ true → over.is_given (bound_term scope params term) ≡ true
@@ -68,7 +68,7 @@ module _ (scope : List ScopeColumn) (params : List Param) where
       → IsTrue (list_all (over.row_fits (kinds_in scope)) (bound_rows scope params rows))
   rows_over rows passes = each_passes (map (bound_term scope params)) (over.row_fits (kinds_in scope)) (row_tests scope params) row_over rows passes
 
--- ---- sets
+---- assignments
 
 own_kind : (kind : Kind) → same_kind kind kind ≡ true
 own_kind kinds.Int = refl

@@ -1,4 +1,4 @@
--- Clauses that are not denied fit the columns.
+-- Predicates that are not denied fit the columns.
 use Rattle.std.proofs.Common.{◌≡◌, ◌≤◌, true, not, List, [], ◌∷◌, ◌++◌, map, length, Option, Some, None, IsTrue, refl, ap, ap₂, ◌∙◌}
 use Rattle.std.specs.Prelude.{flat_map}
 use Rattle.std.specs.List.{list_all, slice_get}
@@ -21,7 +21,7 @@ use Rattle.rs_bind.specs.Scope.{column_index_of, column_kind}
 use Rattle.rs_bind.proofs.OverScope.{kinds_in, column_there, column_index_kind}
 use Rattle.rs_bind.proofs.OverTests.{first_passes, both_pass, each_passes}
 
--- what isn't known fits any kind
+-- an unknown kind fits any
 pub fits_any : (kind : Option Kind) → kinds_fit kind None ≡ true
 fits_any None = refl
 fits_any (Some kind) = refl

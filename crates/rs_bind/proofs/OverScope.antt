@@ -1,4 +1,4 @@
--- The columns of a statement against those of its entries: a column that is there has its place, and its kind there.
+-- The columns of a statement against those of its entries: a column that is there has its index, and its kind there.
 use Rattle.std.proofs.Common.{◌≡◌, ℕ, zero, suc, ◌+◌, ◌*◌, ◌<◌, ◌≤◌, Bool, true, false, cond, not, ◌&&◌, ◌||◌, List, [], ◌∷◌, ◌++◌, map, length, None, refl, sym, ap, ap₂, ◌∙◌, append-nil, arith, lt-ltb, length-append}
 use Rattle.std.specs.Prelude.{◌==◌, nat_lt, count_by, All}
 use Rattle.std.specs.List.{list_any, list_all, position_or_len, slice_get}
@@ -29,7 +29,7 @@ kinds_in scope = map (λ (column : ScopeColumn). column.kind) scope
 abbrev pub entry_kinds : Entry → List Kind
 entry_kinds entry = map (λ (column : Column). column.kind) entry.columns
 
--- a table's columns have the kinds that its entry tells, whatever the table goes by
+-- a table's columns have the kinds of its entry, whatever its alias
 kinds_as : (alias : List ℕ) (columns : List Column) → kinds_in (columns_as alias (map defined columns)) ≡ map (λ (column : Column). column.kind) columns
 kinds_as alias [] = refl
 kinds_as alias (column ∷ columns) = ap (λ (kinds : List Kind). column.kind ∷ kinds) (kinds_as alias columns)
@@ -45,7 +45,7 @@ query_kinds (ref ∷ refs) (entry ∷ entries) long =
     map-append (λ (column : ScopeColumn). column.kind) (columns_as (alias_of ref (heading_of entry)) (map defined entry.columns)) (query_scope refs (headings_of entries))
     ∙ ap₂ (λ (ones others : List Kind). ones ++ others) (kinds_as (alias_of ref (heading_of entry)) entry.columns) (query_kinds refs entries (omega arith))
 
--- ---- how many columns there are
+---- the number of columns
 
 abbrev pub IsNarrow : Entry → Type 0
 IsNarrow entry = length entry.columns ≤ 16
@@ -59,10 +59,10 @@ kinds_are_few (entry ∷ entries) narrow =
     let mapped = length-map entry.columns (λ (column : Column). column.kind) in
     omega arith
 
--- ---- the place of a column
+---- the index of a column
 
 module _ {X : Type 0} (p : X → Bool) where
-  -- one that passes has its place
+  -- one that passes has its index
   pub any_found : (xs : List X) → list_any p xs ≡ true → position_or_len p xs < length xs
   any_found [] = λ e. absurd cc
   any_found (x ∷ xs) =
@@ -84,7 +84,7 @@ get_within (x ∷ xs) zero within e = cc
 get_within (x ∷ xs) (suc i) within e = get_within xs i (omega arith) e
 
 module _ (scope : List ScopeColumn) where
-  -- a column that is there has a place among them
+  -- a column that is there has an index among them
   pub column_index_within : (written : ColRef) → (named_count scope written == 0) ≡ false → column_index_of scope written < length scope
   column_index_within written named = let found = some_found (is_named written) scope named in omega arith
 
@@ -99,7 +99,7 @@ module _ (scope : List ScopeColumn) where
       column_index_there written
       (first_passes (test (named_count scope written == 0) denials.NoColumn) (test (nat_lt 1 (named_count scope written)) denials.TwoColumns ∷ []) passes).0
 
-  -- the kind at a column's place is its kind, where there are few columns
+  -- the kind at a column's index is its kind, if there are few columns
   module _ (small : length scope ≤ 96) where
     column_index_is : (written : ColRef) → column_index_of scope written ≡ position_or_len (is_named written) scope
     column_index_is written =

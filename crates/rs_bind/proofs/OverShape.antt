@@ -29,7 +29,7 @@ use Rattle.rs_bind.specs.Scope.{as_u16, column_index_of, column_kind}
 use Rattle.rs_bind.proofs.OverScope.{kinds_in, any_found, column_there, column_index_kind}
 use Rattle.rs_bind.proofs.OverTests.{first_passes, both_pass, each_passes, each_passes_too, all_made, any_made}
 
--- an item that is the column at a place
+-- an item that is the column of this index
 abbrev column_at : ℕ → ShapeItem
 column_at column_index = shape_items.Col (as_u16 column_index)
 

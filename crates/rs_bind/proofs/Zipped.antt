@@ -1,4 +1,4 @@
--- What is made of two slices in step, where a loop has gone over both.
+-- What is made of two slices in step, after a loop over both.
 use Rattle.std.proofs.Common.{◌≡◌, List, [], ◌∷◌, map, Bor, refl, ap, sym, ◌∙◌}
 use Rattle.std.specs.Prelude.{flat_map}
 use Rattle.std.proofs.lemmas.List.Folds.{flat_map-map}

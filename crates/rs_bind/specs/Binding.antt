@@ -1,4 +1,4 @@
--- A statement with places for columns and positions for parameters. It says something of a statement that isn't denied.
+-- A statement with column indexes for names and positions for parameters. It is meant for a statement that isn't denied.
 use Rattle.std.specs.Prelude.{ℕ, ◌-◌, ◌==◌, Bool, false, List, [], ◌∷◌, map, length, Option, Some, None, option_map, Result, Ok, Err}
 use Rattle.std.specs.List.{position_or_len, range_with_len}
 use Rattle.rs_base.specs.declared.reply.Denial.{Denial}
@@ -35,7 +35,7 @@ use Rattle.rs_bind.specs.declared.scope.ScopeColumn.{ScopeColumn}
 use Rattle.rs_bind.specs.Denials.{is_grouped, first_denial, select_tests, insert_tests, update_tests, delete_tests}
 use Rattle.rs_bind.specs.Scope.{as_u16, as_position, column_index_of, unqualified, param_index, aliases_of, query_scope, table_scope}
 
--- ---- clauses
+---- predicates
 
 abbrev pub bound_side : List ScopeColumn → List Param → Operand → BoundSide
 bound_side scope params (operands.Col written) = sides.Place (column_index_of scope written)
@@ -57,7 +57,7 @@ shape_item scope (items.Sum written) = shape_items.Sum (column_index_of scope wr
 shape_item scope (items.Min written) = shape_items.Min (column_index_of scope written)
 shape_item scope (items.Max written) = shape_items.Max (column_index_of scope written)
 
--- the items; `*` stands for every column of the tables, in their order
+-- the items; `*` is every column of the tables, in their order
 abbrev pub items_shown : List ScopeColumn → Option (List Item) → List ShapeItem
 items_shown scope None = map (λ column_index. shape_items.Col (as_u16 column_index)) (range_with_len 0 (length scope))
 items_shown scope (Some shown) = map (shape_item scope) shown
@@ -69,7 +69,7 @@ shows_column column_index (shape_items.Sum other) = false
 shows_column column_index (shape_items.Min other) = false
 shows_column column_index (shape_items.Max other) = false
 
--- the item that a key names, counted from 0: the first one that is its column, or that of its number, which counts from 1
+-- the item that a key names, counted from 0: the first one that is its column, or that of its ordinal, which counts from 1
 abbrev pub key_item : List ScopeColumn → List ShapeItem → KeyBy → ℕ
 key_item scope shown (keys.Col written) = as_u16 (position_or_len (shows_column (column_index_of scope written)) shown)
 key_item scope shown (keys.Place n) = as_u16 (n - 1)
@@ -109,7 +109,7 @@ bound_set scope params set = record {
 abbrev pub bound_rows : List ScopeColumn → List Param → List (List Term) → List (List BoundTerm)
 bound_rows scope params rows = map (λ row. map (bound_term scope params) row) rows
 
--- ---- statements: what is bound, or why it is denied
+---- statements: what is bound, or the cause of the denial
 
 abbrev pub unless_denied : Option Denial → Bound → Result Bound Denial
 unless_denied None bound = Ok bound

@@ -1,4 +1,4 @@
-//! Clauses with places for columns and positions for parameters.
+//! Predicates with column indexes for names and positions for parameters.
 
 ghost use Rattle.std.specs.Prelude.{◌≡◌, map, IfOk};
 ghost use Rattle.rs_bind.specs.Binding as spec;

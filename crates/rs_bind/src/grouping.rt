@@ -1,4 +1,4 @@
-//! Queries whose rows are grouped.
+//! Grouped queries.
 
 ghost use Rattle.std.specs.Prelude.{◌≡◌};
 ghost use Rattle.std.specs.List.{list_any, list_all};
@@ -35,14 +35,14 @@ fn has_aggregate(select: &Select) -> bool
     }
 }
 
-/// Whether there is an aggregate, or GROUP BY.
+/// Returns whether there is an aggregate, or GROUP BY.
 pub(crate) fn is_grouped(select: &Select) -> bool
     ensures { result ≡ spec.is_grouped select.now }
 {
     has_aggregate(select) || !select.group.is_empty()
 }
 
-/// Whether two names stand for one column.
+/// Returns whether two names refer to one column.
 pub(crate) fn is_same_column(scope: &[ScopeColumn], one: &ColRef, other: &ColRef) -> bool
     ensures { result ≡ spec.is_same_column scope.now one.now other.now }
 {
@@ -75,7 +75,7 @@ fn are_of_group(scope: &[ScopeColumn], group: &[ColRef], shown: &[Item]) -> bool
     shown.iter().all(|item| is_of_group(scope, group, item))
 }
 
-/// Whether each item is an aggregate or a column by which is grouped. `*` isn't.
+/// Returns whether each item is an aggregate or a column to group by. `*` isn't.
 pub(crate) fn shows_group(scope: &[ScopeColumn], select: &Select) -> bool
     ensures { result ≡ spec.are_of_group scope.now select.now.group select.now.items }
 {

@@ -36,7 +36,7 @@ fn widths_of(alloc: Global, headings: &[Heading]) -> Result<Places, NoMemory>
     Ok(widths)
 }
 
-/// Binds a query over these columns, whose tables go by these aliases. It says something of a query that isn't denied.
+/// Binds a query over these columns, whose tables have these aliases. It is meant for a query that isn't denied.
 fn bound_select(
     alloc: Global,
     scope: &[ScopeColumn],
@@ -56,7 +56,7 @@ fn bound_select(
     })
 }
 
-/// Binds a query over these tables, or tells why it is denied: two tables go by one name; the names and comparisons in the
+/// Binds a query over these tables, or returns its denial: two tables with one alias; the names and comparisons in the
 /// order of the text; what a grouped query shows; the keys of the order.
 #[tactic(auto, unfolding(crate::specs::Binding::select_bound))]
 pub fn bind_select(

@@ -1,9 +1,9 @@
-//! What the names in a statement may stand for.
+//! What the names in a statement may refer to.
 
 use rs_base::{Ident, Kind};
 use sqlite_items::Items;
 
-/// A column that a statement may name: what its table goes by there, its name, and its kind.
+/// A column that a statement may name: its table's alias, its name, and its kind.
 #[derive(Clone, Copy, Debug, PartialEq, Eq)]
 pub struct ScopeColumn {
     pub table: Ident,
@@ -11,7 +11,7 @@ pub struct ScopeColumn {
     pub kind: Kind,
 }
 
-/// The columns of a statement's tables, one table after the other. A column's place is where it stands here, from 0.
+/// The columns of a statement's tables, one table after the other. A column's index is its position here, from 0.
 pub type Scope = Items<ScopeColumn>;
 
 /// A declared parameter, and the kind of its value, if it has one.

@@ -1,4 +1,4 @@
-//! What a query makes of its joined rows, with places for columns.
+//! The shape of a query's answer, with column indexes for names.
 
 ghost use Rattle.std.specs.Prelude.{◌≡◌, map, position, IfOk, None};
 ghost use Rattle.std.specs.List.{position_or_len};
@@ -37,7 +37,7 @@ fn shape_items(alloc: Global, scope: &[ScopeColumn], shown: &[Item]) -> Result<S
     Ok(items)
 }
 
-/// Every column of the tables, in their order.
+/// Returns every column of the tables, in their order.
 fn every_column(alloc: Global, scope: &[ScopeColumn]) -> Result<ShapeItems, NoMemory>
     ensures { IfOk result (λ bound. bound ≡ spec.items_shown scope.now None) }
 {
@@ -89,7 +89,7 @@ fn position_of(shown: &[ShapeItem], column_index: u16) -> Option<usize>
     shown.iter().position(|item| shows_column(column_index, item))
 }
 
-/// The first item that is the column of this place.
+/// Returns the first item that is the column of this index.
 #[tactic(auto, using(crate::proofs::Positions::position_or_end))]
 fn item_of(shown: &[ShapeItem], column_index: u16) -> usize
     ensures { result ≡ position_or_len (spec.shows_column column_index) shown.now }
@@ -97,7 +97,7 @@ fn item_of(shown: &[ShapeItem], column_index: u16) -> usize
     position_of(shown, column_index).unwrap_or(shown.len())
 }
 
-/// The item that a key names, counted from 0.
+/// Returns the item that a key names, counted from 0.
 fn key_item(scope: &[ScopeColumn], shown: &[ShapeItem], by: &KeyBy) -> u16
     ensures { result ≡ spec.key_item scope.now shown.now by.now }
 {

@@ -1,4 +1,4 @@
-//! Rows and sets with places for columns and positions for parameters.
+//! Rows and assignments with column indexes for names and positions for parameters.
 
 ghost use Rattle.std.specs.Prelude.{◌≡◌, map, option_map, IfOk};
 ghost use Rattle.rs_bind.specs.Binding as spec;
