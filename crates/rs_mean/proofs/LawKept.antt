@@ -1,4 +1,4 @@
--- What each table keeps: how large it is, and that its columns and its indexes have names of their own.
+-- Invariants of each table: its size, and that its columns and its indexes have names of their own.
 use Rattle.std.proofs.Common.{◌≡◌, ◌≢◌, ℕ, ◌≤◌, true, false, ◌==◌, not, List, [], ◌∷◌, ◌++◌, length, nat_le, All, AllPairs, Option, Some, None, IfSome, refl, sym, ◌∙◌, arith, leb-true}
 use Rattle.std.specs.Prelude.{bytes_eq}
 use Rattle.std.specs.BTreeMap.{is_at}
@@ -43,7 +43,7 @@ use Rattle.rs_mean.proofs.LawRows.{kept_and_met}
 abbrev pub KeepsIn : (Table → Type 0) → Option Table → (Table → Table) → Type 0
 KeepsIn P found change = IfSome found (λ table. P (change table))
 
--- the table that the change puts in its place is so
+-- the table that the change puts in its place satisfies it
 abbrev pub Keeps : (Table → Type 0) → Database → Change → Type 0
 Keeps P db changes.Nothing = Unit {0}
 Keeps P db (changes.PutTable name table) = P table
@@ -86,7 +86,7 @@ rows_fit : (rows : List (List Value)) → list_all fits_row rows ≡ true → Al
 rows_fit rows fit =
     All-weaker (λ row. fits_row row ≡ true) (λ row. row_size row ≤ max_row_bytes) (λ row e. leb-true (row_size row) max_row_bytes e) rows (AllPass-from_list_all fits_row rows fit)
 
--- a table stays within its limits where it has room for the rows
+-- a table stays within its limits if it has room for the rows
 pub longer_within : (found : Option Table) (rows : List (List Value)) → IfSome found IsWithin → has_room (rows_of found) rows ≡ true → KeepsIn IsWithin found (with_rows rows)
 longer_within None rows within room = tt
 longer_within (Some table) rows within room =
@@ -98,7 +98,7 @@ longer_within (Some table) rows within room =
       row_bytes = All-append (λ row. row_size row ≤ max_row_bytes) table.rows rows within.row_bytes (rows_fit rows apart.0);
     }
 
--- a table is within its limits where its rows may be
+-- a table is within its limits if the test of its rows says so
 pub set_within : (found : Option Table) (rows : List (List Value)) → may_be_rows rows ≡ true → KeepsIn IsWithin found (λ table. record table { rows = rows })
 set_within None rows may = tt
 set_within (Some table) rows may =
@@ -131,7 +131,7 @@ unnamed (column ∷ columns) name e =
     let apart = neither (bytes_eq column.name name) (has_name columns name) e in
     All-cons (λ (column : ColDef). name ≢ column.name) column columns (λ same. apart_from name column.name apart.0 (sym same)) (unnamed columns name apart.1)
 
--- no two columns have one name where the test says so
+-- no two columns have one name if the test says so
 pub columns_distinct : (columns : List ColDef) → names_differ columns ≡ true → AllPairs (λ (one other : ColDef). one.name ≢ other.name) columns
 columns_distinct [] e = λ i j d less low. absurd (omega arith)
 columns_distinct (column ∷ columns) e =
@@ -153,7 +153,7 @@ module _ (new : IndexOf) where
       let columns = neither (index.column == new.column) (is_indexed indexes new.column) column in
       All-cons (λ one. Differ one new) index indexes (apart_from new.name index.name names.0, eqb-false index.column new.column columns.0) (all_differ indexes names.1 columns.1)
 
-  -- the indexes differ where the one that was put behind them has a name and a column of its own
+  -- the indexes differ if the appended one has a name and a column of its own
   pub added_distinct : (found : Option Table) → IfSome found HasDistinctIndexes → has_index (indexes_of found) new.name ≡ false → is_indexed (indexes_of found) new.column ≡ false
       → KeepsIn HasDistinctIndexes found (λ table. record table { indexes = indexes_of found ++ new ∷ [] })
   added_distinct None distinct name column = tt

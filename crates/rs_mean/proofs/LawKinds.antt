@@ -1,4 +1,4 @@
--- The kinds of the values in rows: those that INSERT puts in, and those that UPDATE sets.
+-- The kinds of the values in rows: those of INSERT, and those of UPDATE.
 use Rattle.std.proofs.Common.{◌≡◌, ℕ, ◌<◌, ◌≤◌, Bool, true, false, cond, List, [], ◌∷◌, ◌++◌, map, length, All, Option, Some, None, Result, Ok, Err, pos, flat_map, fold, slice_get, slice_set, get_or, unwrap_or, option_map, bytes_eq, ◌==◌, not, refl, sym, ap, ap₂, ◌∙◌, subst, arith}
 use Rattle.std.specs.Cmp.Lexicographic.{pointwise}
 use Rattle.std.specs.List.{list_any, list_all}
@@ -41,7 +41,7 @@ same_kinds kinds.Int kinds.Text e = absurd cc
 same_kinds kinds.Text kinds.Int e = absurd cc
 same_kinds kinds.Text kinds.Text e = refl
 
--- a table's columns have the same kinds whatever the table goes by
+-- a table's columns have the same kinds whatever its alias
 pub kinds_as : (alias : List ℕ) (columns : List ColDef) → kinds_in (columns_as alias columns) ≡ map (λ (column : ColDef). column.kind) columns
 kinds_as alias [] = refl
 kinds_as alias (column ∷ columns) = ap (λ (others : List Kind). column.kind ∷ others) (kinds_as alias columns)
@@ -94,11 +94,11 @@ the_known None there = absurd (there refl)
 the_known (Some kind) there = (kind, refl)
 
 module _ (scope : List ScopeColumn) (few : length scope ≤ 16) where
-  -- so few columns have places
+  -- few columns have indexes of 16 bits
   small : length scope ≤ 96
   small = omega arith
 
-  -- at the place of a column a row has a value of its kind
+  -- a row has a value of its kind at the index of a column
   at_column_index : (row : List Value) (written : ColRef) (kind : Kind) → HasKinds (kinds_in scope) row → column_kind scope written ≡ Some kind
       → kind_of (unwrap_or (slice_get row (column_index_of scope written)) (values.Int (pos 0))) ≡ kind
   at_column_index row written kind typed is =
@@ -117,7 +117,7 @@ module _ (scope : List ScopeColumn) (few : length scope ≤ 16) where
     term_of_kind kind (terms.Lit value) passes fits = sym (same_kinds kind (kind_of value) fits)
     term_of_kind kind (terms.Param name) passes fits = absurd cc
 
-    -- what the second term is, where there is one
+    -- the second term, if there is one
     abbrev more_value : Option (Arith × Term) → Option (Arith × Value)
     more_value more =
         option_map (λ (bound : Arith × BoundTerm). (bound.0, term_value [] row bound.1)) (option_map (λ (written : Arith × Term). (written.0, bound_term scope [] written.1)) more)
@@ -132,11 +132,11 @@ module _ (scope : List ScopeColumn) (few : length scope ≤ 16) where
         sym (same_kinds kind kinds.Int ones.0)
 
     module _ (set : Set) (before : List Set) (passes : first_denial (set_tests scope [] before set) ≡ None) where
-      -- the column that is set
+      -- the assigned column
       abbrev written : ColRef
       written = unqualified set.column
 
-      -- a set puts a value of the kind that was there
+      -- an assignment keeps the kind of the value
       set_typed : (new : List Value) → HasKinds (kinds_in scope) new
           → HasKinds (kinds_in scope) (slice_set new (as_position (column_index_of scope written)) (set_value [] row (bound_set scope [] set)))
       set_typed new same =
@@ -160,7 +160,7 @@ module _ (scope : List ScopeColumn) (few : length scope ≤ 16) where
           ∙ map-set_same kind_of new (column_index_of scope written) value (values.Int (pos 0)) (new_kind ∙ sym old_kind)
           ∙ same
 
-    -- sets leave each value of the kind that was there
+    -- assignments keep the kind of each value
     sets_typed : (sets before : List Set) (new : List Value) → first_denial (sets_tests scope [] before sets) ≡ None → HasKinds (kinds_in scope) new
         → HasKinds (kinds_in scope) (fold (λ (items : List Value) (set : BoundSet). slice_set items set.column (set_value [] row set)) new (map (bound_set scope []) sets))
     sets_typed [] before new passes same = same
@@ -169,7 +169,7 @@ module _ (scope : List ScopeColumn) (few : length scope ≤ 16) where
         sets_typed sets (before ++ set ∷ []) (slice_set new (as_position (column_index_of scope (unqualified set.column))) (set_value [] row (bound_set scope [] set))) parts.1
         (set_typed set before parts.0 new same)
 
-  -- a row that was updated has values of the kinds that it had
+  -- an updated row has values of the kinds that it had
   pub row_typed : (sets : List Set) (clauses : List (List BoundCmp)) (row new : List Value) → first_denial (sets_tests scope [] [] sets) ≡ None
       → HasKinds (kinds_in scope) row → updated_row (map (bound_set scope []) sets) clauses row ≡ Ok new → HasKinds (kinds_in scope) new
   unfolding row_set
@@ -197,7 +197,7 @@ module _ (P : List Value → Type 0) where
   first_so item (Ok more) new p rest e = let is : item ∷ more ≡ new = cc in subst (All P) is (All-cons P item more p (rest more refl))
   first_so item (Err cause) new p rest e = absurd cc
 
-  -- the first row is so where it was made, and the others are
+  -- the first row is so if it was made, and the others are
   both_so : (first : Result (List Value) Denial) (others : Result (List (List Value)) Denial) (new : List (List Value)) → ((item : List Value) → first ≡ Ok item → P item)
       → ((more : List (List Value)) → others ≡ Ok more → All P more) → and_others first others ≡ Ok new → All P new
   both_so (Ok item) others new p rest e = first_so item others new (p item refl) rest e

@@ -44,7 +44,7 @@ module _ (sets : List BoundSet) (clauses : List (List BoundCmp)) where
   as_many_updated [] new e = let is : [] ≡ new = cc in omega (arith, ap length is)
   as_many_updated (row ∷ rows) new e = both_put row rows (updated_row sets clauses row) new (as_many_updated rows) e
 
--- ---- which rows meet clauses
+---- which rows match
 
 pub met_at_most : (clauses : List (List BoundCmp)) (rows : List (List Value)) → met clauses rows ≤ length rows
 met_at_most clauses rows = omega (arith, length-filter (holds clauses) rows, count_by-le-length (holds clauses) rows)

@@ -1,4 +1,4 @@
--- The kinds of what a query answers.
+-- The kinds of a query's answer.
 use Rattle.std.proofs.Common.{◌≡◌, ℕ, ◌+◌, ◌*◌, ◌≤◌, suc, Bool, true, false, cond, not, ◌==◌, List, [], ◌∷◌, ◌++◌, map, length, All, Option, Some, None, IfSome, Result, Ok, Err, flat_map, slice_get, nat_lt, refl, sym, ap, ap₂, ◌∙◌, subst, arith, length-append}
 use Rattle.std.specs.List.{range_with_len}
 use Rattle.std.proofs.lemmas.List.{length-map, map-append}
@@ -46,7 +46,7 @@ use Rattle.rs_mean.proofs.LawTests.{passed}
 abbrev kinds_of : List ColDef → List Kind
 kinds_of columns = map (λ (column : ColDef). column.kind) columns
 
--- ---- the choices of rows
+---- the cross product
 
 module _ (prefix back : List Kind) where
   -- a row of these kinds before rows of those
@@ -106,11 +106,11 @@ module _ (db : Database) (each : EachTable IsTyped db) (name : TableRef → Swn)
 -- ---- the kinds of items
 
 module _ (columns : List Kind) where
-  -- an item that is the column at a place
+  -- an item that is the column of an index
   abbrev column_at : ℕ → ShapeItem
   column_at at_index = shape_items.Col (as_u16 at_index)
 
-  -- columns from a place on are shown with their kinds
+  -- columns from an index on are shown with their kinds
   range_kinds : (a : ℕ) (known : List Kind) → a + length known ≤ 96 → ((i : ℕ) → slice_get columns (a + i) ≡ slice_get known i)
       → AreKindsOf (map (item_kind columns) (map column_at (range_with_len a (length known)))) known
   range_kinds a [] few at = refl
@@ -195,7 +195,7 @@ within_so : (P : List Value → Type 0) (found all : List (List Value)) (many : 
 within_so P found all true each e = absurd cc
 within_so P found all false each e = let is : found ≡ all = cc in subst (All P) is each
 
--- joined rows are as each choice is
+-- joined rows are as each row of the cross product is
 joined_so : (P : List Value → Type 0) (clauses : List (List BoundCmp)) (tables : List (List (List Value))) (all : List (List Value)) → All P (cross_product tables)
     → joined_within clauses tables ≡ Ok all → All P all
 unfolding joined joined_within
@@ -206,7 +206,7 @@ module _ (db : Database) (each : EachTable IsTyped db) (name : TableRef → Swn)
   abbrev columns : List ScopeColumn
   columns = scope_of db each name query.from
 
-  -- a query that is answered answers rows with a value for each item, of its kind
+  -- an answered query has rows with a value for each item, of its kind
   pub rows_shown : (rows : List (List Value)) → first_denial (select_tests query (map (heading_in db) (map name query.from)) []) ≡ None
       → selected (bound_clauses columns [] query.clauses) (shape_of columns query) (map (rows_in db) (map name query.from)) ≡ Ok rows
       → (known : List Kind) × AreKindsOf (kinds_shown columns query.items) known × All (HasKinds known) rows

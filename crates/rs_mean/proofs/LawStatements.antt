@@ -1,4 +1,4 @@
--- What each statement that is done changes and answers.
+-- What each done statement changes and answers.
 use Rattle.std.proofs.Common.{◌≡◌, ℕ, Bool, true, false, not, cond, ◌||◌, List, [], ◌∷◌, ◌++◌, map, flat_map, length, Option, Some, None, is_some, is_none, Result, Ok, Err, refl, subst}
 use Rattle.rs_base.specs.declared.name.Swn.{Swn}
 use Rattle.rs_base.specs.declared.reply.Answer.{Answer}
@@ -64,7 +64,7 @@ create_so db txn name columns =
 abbrev pub IsThere : Database → Swn → Type 0
 IsThere db name = is_none (table_named name db) ≡ false
 
--- the tests of a table, and others behind them
+-- the tests of a table, and others after them
 there : (db : Database) (name : Swn) (tests : List Test) → first_denial (table_tests db name ++ tests) ≡ None → IsThere db name × (first_denial tests ≡ None)
 there db name tests e = passed (test (is_none (table_named name db)) denials.NoTable) tests (passed (site_test db name) (test (is_none (table_named name db)) denials.NoTable ∷ tests) e).1
 
@@ -241,11 +241,11 @@ insert_so db name rows =
 
 -- ---- UPDATE
 
--- no test of names and kinds denies the sets
+-- no test of names and kinds denies the assignments
 abbrev pub SetsFit : Database → Swn → List Set → Type 0
 SetsFit db name sets = first_denial (sets_tests (scope_in db name) [] [] sets) ≡ None
 
--- the sets of an UPDATE
+-- the assignments of an UPDATE
 abbrev pub sets_in : Database → Swn → List Set → List BoundSet
 sets_in db name sets = map (bound_set (scope_in db name) []) sets
 
@@ -327,7 +327,7 @@ DoesOfDml db execution (dmls.Insert written rows) = Inserts db (name_of db execu
 DoesOfDml db execution (dmls.Update written sets clauses) = Updates db (name_of db execution written) sets
 DoesOfDml db execution (dmls.Delete written clauses) = Deletes db (name_of db execution written)
 
--- what the statement changes and answers where it is done
+-- what the statement changes and answers if it is done
 abbrev pub Does : Database → Execution → Stmt → Change → List Answer → Type 0
 Does db execution (stmts.CreateTable written columns) = Creates db execution.txn (name_of db execution written) columns
 Does db execution (stmts.DropTable written) = Drops db (name_of db execution written)
@@ -358,7 +358,7 @@ pub effect_so : (db : Database) (execution : Execution) → IsSo (Does db execut
 unfolding effect_of
 effect_so db execution = stmt_so db execution execution.stmt
 
--- what an execution of this statement changes and answers where it is done
+-- what an execution of this statement changes and answers if it is done
 pub does : (db : Database) (execution : Execution) (stmt : Stmt) (given : List Answer) → execution.stmt ≡ stmt → (meaning db execution).1 ≡ Ok given
     → Does db execution stmt (effect_of db execution).change given
 unfolding meaning

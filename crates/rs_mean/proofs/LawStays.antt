@@ -1,4 +1,4 @@
--- What each table keeps, whatever statement is done.
+-- Invariants of each table, whatever statement is done.
 use Rattle.std.proofs.Common.{List, sym, subst, arith}
 use Rattle.rs_base.specs.declared.name.Swn.{Swn}
 use Rattle.rs_base.specs.declared.reply.Answer.{Answer}

@@ -36,7 +36,7 @@ kinds_of columns = map (λ (column : ColDef). column.kind) columns
 pub empty_typed : (txn : Txn) (name : Swn) (columns : List ColDef) → length columns ≤ 16 → IsTyped (new_table txn name columns)
 empty_typed txn name columns few = record { few = few; kinds = All-nil (HasKinds (kinds_of columns)) }
 
--- a table stays typed whatever its indexes are
+-- a table stays typed whatever its indexes
 pub indexed_typed : (found : Option Table) (indexes : List IndexOf) → IfSome found IsTyped → KeepsIn IsTyped found (λ table. record table { indexes = indexes })
 indexed_typed found indexes typed = IfSome_then found typed (λ table each. record { few = each.few; kinds = each.kinds })
 

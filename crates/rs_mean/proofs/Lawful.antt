@@ -93,7 +93,7 @@ other_synonyms_stay db execution synonym other =
     (λ given so. touches_synonym db execution (effect_of db execution).change given execution.stmt so) in
     other_synonyms_at db target synonym (effect_of db execution).change other only
 
--- ---- what is there after a statement that was done
+---- what is there after a done statement
 
 is_some_if : (found : Option Table) → is_none found ≡ false → IsSome found
 is_some_if None e = absurd cc
@@ -235,7 +235,7 @@ synonym_is_dropped db execution synonym given up is e =
 
 -- ---- what every table keeps
 
--- each table stays so after an execution where each statement keeps it so
+-- each table stays so after an execution if each statement keeps it so
 each_after : (P : Table → Type 0) (db : Database) (execution : Execution) → EachTable P db
     → ((given : List Answer) → Does db execution execution.stmt (effect_of db execution).change given → Keeps P db (effect_of db execution).change)
     → EachTable P (changed (effect_of db execution).change db)

@@ -11,12 +11,12 @@ suffix prefix (Ok rest) = Ok (prefix ++ rest)
 suffix prefix (Err cause) = Err cause
 
 module _ (T : Type 0) (old new : List (List Value)) where
-  -- where no row comes, that is what is told
+  -- if no row comes, the reason is returned
   pub answered : (cause : Denial) (row : Result (List Value) Denial) → Puts {T = T} (Err cause) old new row → row ≡ Err cause
   answered cause (Ok row) puts = absurd puts
   answered cause (Err why) puts = ap Err (sym puts)
 
-  -- a row that was put stands before those that are made of the rest
+  -- an appended row comes before those that are made of the rest
   pub put : (done : T) (row : Result (List Value) Denial) (others : Result (List (List Value)) Denial) → Puts (Ok done) old new row → suffix old (and_others row others) ≡ suffix new others
   put done (Ok row) (Ok rest) puts = ap Ok (sym (append_assoc old (row ∷ []) rest) ∙ ap (λ rows. rows ++ rest) (sym puts))
   put done (Ok row) (Err cause) puts = refl

@@ -12,5 +12,5 @@ pub struct Execution {
     pub stmt: Stmt,
 }
 
-/// An answer for each statement, or why the execution was denied.
+/// An answer for each statement, or the cause of the denial.
 pub type Outcome = Result<Answers, Denial>;

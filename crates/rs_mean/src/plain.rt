@@ -1,4 +1,4 @@
-//! The plain evaluator: what a statement on rows answers over given tables.
+//! The plain evaluator: the answer of a statement on rows over given tables.
 
 ghost use Rattle.std.specs.Prelude.{◌≡◌, [], ◌∷◌, map, flat_map, find, IfOk};
 ghost use Rattle.std.specs.Option.{option_copied};
@@ -30,7 +30,7 @@ pub struct PlainTable {
 
 pub type PlainTables = Items<PlainTable>;
 
-/// An answer, or why there is none.
+/// An answer, or the cause of the denial.
 type Answered = Result<Answer, Denial>;
 
 fn has_name(name: &Swn, table: &PlainTable) -> bool
@@ -165,7 +165,7 @@ fn inserted_count(rows: Result<StoredRows, Denial>) -> Answered
     }
 }
 
-/// What a bound statement answers over the rows of one table.
+/// Returns the answer of a bound statement over the rows of one table.
 fn answer_over(alloc: Global, bound: &Bound, rows: &StoredRows) -> Result<Answered, NoMemory>
     ensures { IfOk result (λ answered. spec.outcome_of answered ≡ (statements.effect_of_bound (rows.now ∷ []) bound.now).outcome) }
 {
@@ -191,7 +191,7 @@ fn answer_over(alloc: Global, bound: &Bound, rows: &StoredRows) -> Result<Answer
     }
 }
 
-/// What a change of this table answers, once it is bound.
+/// Returns the answer of a change of this table, once it is bound.
 fn answer_once_bound(
     alloc: Global,
     outcome: Result<Bound, Denial>,
@@ -206,7 +206,7 @@ fn answer_once_bound(
     }
 }
 
-/// What a bound query answers over its tables in order.
+/// Returns the answer of a bound query over its tables in order.
 fn answer_query(
     alloc: Global,
     bound: &Bound,
@@ -301,8 +301,8 @@ fn delete(
     answer_once_bound(alloc, outcome, tables, name)
 }
 
-/// The slow evaluator, over whole tables: what `user` who asks at `site` is answered, or the first denial but `NoSite`.
-/// Names have no synonyms, and no table is changed. Fails where memory is wanting.
+/// Returns what `user` who asks at `site` is answered over whole tables, or the first denial but `NoSite`. Names have no
+/// synonyms, and no table is changed. It is slow. Fails on out of memory.
 pub fn answer_plain(
     alloc: Global,
     tables: &[PlainTable],
