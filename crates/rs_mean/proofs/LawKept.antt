@@ -31,11 +31,11 @@ use Rattle.rs_mean.specs.Database.{Database, table_named, with_changed}
 use Rattle.rs_mean.specs.Laws.{EachTable, IsWithin, HasDistinctIndexes}
 use Rattle.rs_rows.specs.Sizes.{rows_size}
 use Rattle.rs_mean.specs.Limits.{max_row_bytes, max_rows, max_table_bytes, fits_row, fits_rows}
-use Rattle.rs_mean.specs.RowChanges.{has_room, may_be_rows, kept}
+use Rattle.rs_mean.specs.RowChanges.{has_room, may_be_rows, other_rows}
 use Rattle.rs_mean.specs.RowStatements.{rows_of}
 use Rattle.rs_mean.specs.TableStatements.{indexes_of, has_index, is_indexed, without_index, is_other_index, new_table}
 use Rattle.rs_mean.proofs.LawTests.{not_false, neither, both}
-use Rattle.rs_mean.proofs.LawRows.{kept_and_met}
+use Rattle.rs_mean.proofs.LawRows.{others_and_matching}
 
 -- ---- each table of the database
 
@@ -106,15 +106,15 @@ set_within (Some table) rows may =
     let limits = both (nat_le (length rows) max_rows) (nat_le (rows_size rows) max_table_bytes) apart.1 in
     record { rows = leb-true (length rows) max_rows limits.0; bytes = leb-true (rows_size rows) max_table_bytes limits.1; row_bytes = rows_fit rows apart.0 }
 
-kept_size : (clauses : List (List BoundCmp)) (rows : List (List Value)) → rows_size (kept clauses rows) ≤ rows_size rows
-kept_size clauses rows = omega (arith, sum_by-filter_both (holds clauses) (λ row. not (holds clauses row)) (λ row. refl) row_size rows)
+others_size : (clauses : List (List BoundCmp)) (rows : List (List Value)) → rows_size (other_rows clauses rows) ≤ rows_size rows
+others_size clauses rows = omega (arith, sum_by-filter_both (holds clauses) (λ row. not (holds clauses row)) (λ row. refl) row_size rows)
 
 -- a table stays within its limits without some of its rows
-pub kept_within : (found : Option Table) (clauses : List (List BoundCmp)) → IfSome found IsWithin → KeepsIn IsWithin found (λ table. record table { rows = kept clauses (rows_of found) })
-kept_within None clauses within = tt
-kept_within (Some table) clauses within = record {
-  rows = omega (arith, kept_and_met clauses table.rows, within.rows);
-  bytes = omega (arith, kept_size clauses table.rows, within.bytes);
+pub others_within : (found : Option Table) (clauses : List (List BoundCmp)) → IfSome found IsWithin → KeepsIn IsWithin found (λ table. record table { rows = other_rows clauses (rows_of found) })
+others_within None clauses within = tt
+others_within (Some table) clauses within = record {
+  rows = omega (arith, others_and_matching clauses table.rows, within.rows);
+  bytes = omega (arith, others_size clauses table.rows, within.bytes);
   row_bytes = All-filter (λ row. not (holds clauses row)) (λ row. row_size row ≤ max_row_bytes) table.rows within.row_bytes;
 }
 

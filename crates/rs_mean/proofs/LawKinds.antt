@@ -181,12 +181,12 @@ module _ (scope : List ScopeColumn) (few : length scope ≤ 16) where
         | true ↦ λ e. (let is : last ≡ new = cc in subst (HasKinds (kinds_in scope)) is (sets_typed row typed sets [] row passes typed))
         | false ↦ λ e. absurd cc
       ] in
-      let Met : Bool → Type 0 = λ met. cond {A = Result (List Value) Denial} met (row_set bound [] row) (Ok row) ≡ Ok new → HasKinds (kinds_in scope) new in
-      let met : (b : Bool) → Met b = λ b. elim b as Met [
+      let Met : Bool → Type 0 = λ matching_count. cond {A = Result (List Value) Denial} matching_count (row_set bound [] row) (Ok row) ≡ Ok new → HasKinds (kinds_in scope) new in
+      let matching_count : (b : Bool) → Met b = λ b. elim b as Met [
         | true ↦ stored (list_all (λ (set : BoundSet). is_stored (set_value [] row set)) bound)
         | false ↦ λ e. (let is : row ≡ new = cc in subst (HasKinds (kinds_in scope)) is typed)
       ] in
-      met (holds clauses row) made
+      matching_count (holds clauses row) made
 
 -- ---- the rows of an UPDATE
 

@@ -23,14 +23,14 @@ use Rattle.rs_mean.specs.Database.{Database, table_named, target_of}
 use Rattle.rs_mean.specs.Laws.{AnswersAreTyped, DeniedChangesNothing, SelectChangesNothing, SitesStay, NamesStayInOrder, SynonymsStayInOrder, OthersStay, SynonymsStay, OtherSynonymsStay, IndexIsMade, IndexIsDropped, SynonymIsMade, SynonymIsDropped, TableIsMade, TableIsDropped, RowsAreAppended, RowsAreTakenOut, RowsAreChanged, EachTable, IsWithin, TablesStayWithin, HasDistinctColumns, ColumnsStayDistinct, HasDistinctIndexes, IndexesStayDistinct, IsTyped, RowsStayTyped, written_of, synonym_of}
 use Rattle.rs_mean.specs.Meaning.{effect_of, meaning}
 use Rattle.rs_mean.specs.Names.{name_of, own_synonym}
-use Rattle.rs_mean.specs.RowChanges.{kept, met}
+use Rattle.rs_mean.specs.RowChanges.{other_rows, matching_count}
 use Rattle.rs_mean.specs.RowStatements.{rows_of}
 use Rattle.rs_mean.specs.TableStatements.{new_table, columns_of, indexes_of, column_index, has_index, is_indexed, new_index, without_index}
 use Rattle.rs_mean.proofs.Entries.{lookup_put, lookup_gone}
 use Rattle.rs_mean.proofs.LawEffects.{holds_of_change}
 use Rattle.rs_mean.proofs.LawIndexes.{name_at, none_of_name}
 use Rattle.rs_mean.proofs.LawKept.{Keeps, each_changed, all_differ}
-use Rattle.rs_mean.proofs.LawRows.{given_as_written, as_many_updated, met_at_most, kept_and_met}
+use Rattle.rs_mean.proofs.LawRows.{given_as_written, as_many_updated, matching_at_most, others_and_matching}
 use Rattle.rs_mean.proofs.LawShown.{rows_shown}
 use Rattle.rs_mean.proofs.LawSynonyms.{TouchesSynonym, other_synonyms_at, synonyms_in_order}
 use Rattle.rs_mean.proofs.LawTouches.{touches, of_tables, touches_synonym}
@@ -145,12 +145,12 @@ rows_are_taken_out db execution written clauses given is e =
     let found = found_if (table_named name db) so.there in
     let old : Table = found.0 in
     let rows : rows_of (table_named name db) ≡ old.rows = ap rows_of found.1 in
-    let new : Table = record old { rows = kept so.clauses old.rows } in
+    let new : Table = record old { rows = other_rows so.clauses old.rows } in
     let put : table_named name (changed (effect_of db execution).change db) ≡ Some new
-    = ap (λ change. table_named name (changed change db)) (so.is ∙ ap (λ (all : List (List Value)). changes.SetRows name (kept so.clauses all)) rows)
-    ∙ set_table name (kept so.clauses old.rows) db old found.1 in
-    let reports : given ≡ answers.Changed (met so.clauses old.rows) ∷ [] = so.answers ∙ ap (λ (all : List (List Value)). answers.Changed (met so.clauses all) ∷ []) rows in
-    (met so.clauses old.rows, old, new, reports, found.1, put, record { made = refl; columns = refl; indexes = refl; rows = kept_and_met so.clauses old.rows })
+    = ap (λ change. table_named name (changed change db)) (so.is ∙ ap (λ (all : List (List Value)). changes.SetRows name (other_rows so.clauses all)) rows)
+    ∙ set_table name (other_rows so.clauses old.rows) db old found.1 in
+    let reports : given ≡ answers.Changed (matching_count so.clauses old.rows) ∷ [] = so.answers ∙ ap (λ (all : List (List Value)). answers.Changed (matching_count so.clauses all) ∷ []) rows in
+    (matching_count so.clauses old.rows, old, new, reports, found.1, put, record { made = refl; columns = refl; indexes = refl; rows = others_and_matching so.clauses old.rows })
 
 pub rows_are_changed : RowsAreChanged
 unfolding meaning
@@ -163,9 +163,9 @@ rows_are_changed db execution written sets clauses given is e =
     let new : Table = record old { rows = so.new } in
     let put : table_named name (changed (effect_of db execution).change db) ≡ Some new
     = ap (λ change. table_named name (changed change db)) so.is ∙ set_table name so.new db old found.1 in
-    let reports : given ≡ answers.Changed (met so.clauses old.rows) ∷ [] = so.answers ∙ ap (λ (all : List (List Value)). answers.Changed (met so.clauses all) ∷ []) rows in
+    let reports : given ≡ answers.Changed (matching_count so.clauses old.rows) ∷ [] = so.answers ∙ ap (λ (all : List (List Value)). answers.Changed (matching_count so.clauses all) ∷ []) rows in
     let as_many : length so.new ≡ length old.rows = as_many_updated (sets_in db name sets) so.clauses (rows_of (table_named name db)) so.new so.made ∙ ap (λ (all : List (List Value)). length all) rows in
-    (met so.clauses old.rows, old, new, reports, met_at_most so.clauses old.rows, found.1, put, record { made = refl; columns = refl; indexes = refl; rows = omega arith })
+    (matching_count so.clauses old.rows, old, new, reports, matching_at_most so.clauses old.rows, found.1, put, record { made = refl; columns = refl; indexes = refl; rows = omega arith })
 
 -- the table that was there, and the one with these indexes
 set_indexes : (name : Swn) (indexes : List IndexOf) (db : Database) (old : Table) → table_named name db ≡ Some old

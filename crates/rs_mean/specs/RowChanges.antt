@@ -60,9 +60,9 @@ updated sets clauses rows = within_limits (updated_rows sets clauses rows)
 -- ---- DELETE
 
 -- the other rows: those that don't match
-abbrev pub kept : List (List BoundCmp) → List (List Value) → List (List Value)
-kept clauses rows = filter (λ row. not (holds clauses row)) rows
+abbrev pub other_rows : List (List BoundCmp) → List (List Value) → List (List Value)
+other_rows clauses rows = filter (λ row. not (holds clauses row)) rows
 
 -- the number of matching rows
-abbrev pub met : List (List BoundCmp) → List (List Value) → ℕ
-met clauses rows = length (filter (holds clauses) rows)
+abbrev pub matching_count : List (List BoundCmp) → List (List Value) → ℕ
+matching_count clauses rows = length (filter (holds clauses) rows)

@@ -27,7 +27,7 @@ use Rattle.rs_mean.specs.declared.table.Table.{Table}
 use Rattle.rs_mean.specs.Database.{Database, table_named}
 use Rattle.rs_mean.specs.Effects.{done, denied, unless_denied}
 use Rattle.rs_mean.specs.Names.{name_of, table_tests}
-use Rattle.rs_mean.specs.RowChanges.{inserted, updated, kept, met}
+use Rattle.rs_mean.specs.RowChanges.{inserted, updated, other_rows, matching_count}
 use Rattle.rs_mean.specs.TableStatements.{columns_of}
 
 -- ---- tables of a database
@@ -66,7 +66,7 @@ updating name count (Ok rows) = done (changes.SetRows name rows) (answers.Change
 updating name count (Err cause) = denied cause
 
 abbrev pub deleting : Swn → List (List BoundCmp) → List (List Value) → Effect
-deleting name clauses rows = done (changes.SetRows name (kept clauses rows)) (answers.Changed (met clauses rows))
+deleting name clauses rows = done (changes.SetRows name (other_rows clauses rows)) (answers.Changed (matching_count clauses rows))
 
 -- the rows of the one table of a change
 abbrev pub only : List (List (List Value)) → List (List Value)
@@ -77,7 +77,7 @@ only (rows ∷ tables) = rows
 abbrev pub effect_of_bound : List (List (List Value)) → Bound → Effect
 effect_of_bound tables (bounds.Select names aliases widths clauses shape) = answering (selected clauses shape tables)
 effect_of_bound tables (bounds.Insert name rows) = inserting name (inserted rows (only tables))
-effect_of_bound tables (bounds.Update name sets clauses) = updating name (met clauses (only tables)) (updated sets clauses (only tables))
+effect_of_bound tables (bounds.Update name sets clauses) = updating name (matching_count clauses (only tables)) (updated sets clauses (only tables))
 effect_of_bound tables (bounds.Delete name clauses) = deleting name clauses (only tables)
 
 abbrev pub once_bound : List (List (List Value)) → Result Bound Denial → Effect

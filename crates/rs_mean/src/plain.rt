@@ -10,7 +10,7 @@ ghost use Rattle.rs_mean.specs.Queries.{IsSelect};
 ghost use Rattle.rs_mean.specs.RowStatements as statements;
 
 use crate::bound_effect::rows_of_query;
-use crate::row_changes::{inserted, met, updated};
+use crate::row_changes::{inserted, matching_count, updated};
 use crate::selecting::selected;
 use rs_ast::{Clause, ColDefs, Columns, Dml, Select, Set, TableRef, TermRow};
 use rs_base::{Answer, Denial, Ident, NoMemory, Rows, SiteNo, Swn, with_room};
@@ -180,12 +180,12 @@ fn answer_over(alloc: Global, bound: &Bound, rows: &StoredRows) -> Result<Answer
             Ok(inserted_count(inserted(alloc, given.as_slice(), rows)?))
         }
         Bound::Update { sets, clauses, .. } => {
-            let count = met(clauses.as_slice(), &rows.as_run());
+            let count = matching_count(clauses.as_slice(), &rows.as_run());
             let new = updated(alloc, sets.as_slice(), clauses.as_slice(), &rows.as_run())?;
             Ok(changed_count(new, count))
         }
         Bound::Delete { clauses, .. } => {
-            let count = met(clauses.as_slice(), &rows.as_run());
+            let count = matching_count(clauses.as_slice(), &rows.as_run());
             Ok(Ok(Answer::Changed(count as u64)))
         }
     }

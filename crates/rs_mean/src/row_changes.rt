@@ -144,27 +144,27 @@ fn may_be_rows(rows: &StoredRows) -> bool
 // ---- DELETE
 
 /// Returns the other rows: those that don't match.
-pub(crate) fn kept(
+pub(crate) fn other_rows(
     alloc: Global,
     clauses: &[BoundClause],
     rows: &RowRun<'_>,
 ) -> Result<StoredRows, NoMemory>
-    ensures { IfOk result (λ kept. kept ≡ spec.kept clauses.now rows.now) }
+    ensures { IfOk result (λ other_rows. other_rows ≡ spec.other_rows clauses.now rows.now) }
 {
-    let mut kept = StoredRows::new(alloc);
+    let mut other_rows = StoredRows::new(alloc);
     let mut rest = rows.view();
     while let Some((row, others)) = rest.split_first() {
         if !holds(clauses, row) {
-            kept.push(alloc, row)?;
+            other_rows.push(alloc, row)?;
         }
         rest = others;
     }
-    Ok(kept)
+    Ok(other_rows)
 }
 
 /// Counts the matching rows.
-pub(crate) fn met(clauses: &[BoundClause], rows: &RowRun<'_>) -> usize
-    ensures { result ≡ spec.met clauses.now rows.now }
+pub(crate) fn matching_count(clauses: &[BoundClause], rows: &RowRun<'_>) -> usize
+    ensures { result ≡ spec.matching_count clauses.now rows.now }
 {
     let mut count = 0;
     let mut rest = rows.view();

@@ -4,16 +4,16 @@ use Rattle.std.proofs.lemmas.List.Filters.{length-filter_both}
 use Rattle.rs_base.specs.declared.value.Value.{Value}
 use Rattle.rs_ast.specs.declared.bound.BoundCmp.{BoundCmp}
 use Rattle.rs_eval.specs.Clauses.{holds}
-use Rattle.rs_mean.specs.RowChanges.{met}
+use Rattle.rs_mean.specs.RowChanges.{matching_count}
 
 module _ (clauses : List (List BoundCmp)) where
   -- a matching row is one more
-  pub met_more : (row : List Value) (others : List (List Value)) → holds clauses row ≡ true → met clauses (row ∷ others) ≡ met clauses others + 1
-  met_more row others e =
-      let one : met clauses (row ∷ others) ≡ length (row ∷ filter (holds clauses) others)
+  pub matching_more : (row : List Value) (others : List (List Value)) → holds clauses row ≡ true → matching_count clauses (row ∷ others) ≡ matching_count clauses others + 1
+  matching_more row others e =
+      let one : matching_count clauses (row ∷ others) ≡ length (row ∷ filter (holds clauses) others)
       = ap (λ b. length (cond b (row ∷ filter (holds clauses) others) (filter (holds clauses) others))) e in
       omega (arith, one)
 
   -- no more rows match than there are
-  pub met_within : (rows : List (List Value)) → met clauses rows ≤ length rows
-  met_within rows = omega (arith, length-filter_both (holds clauses) (λ row. not (holds clauses row)) (λ row. refl) rows)
+  pub matching_within : (rows : List (List Value)) → matching_count clauses rows ≤ length rows
+  matching_within rows = omega (arith, length-filter_both (holds clauses) (λ row. not (holds clauses row)) (λ row. refl) rows)
