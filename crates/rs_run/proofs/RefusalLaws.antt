@@ -39,7 +39,7 @@ and_false false = refl
 
 -- ---- lines that are read by the grammar alone
 
--- what is read of a line that gives an event, and of those behind it
+-- what is read of a line that gives an event, and of those after it
 event_lines_at : (line : List ℕ) (lines : List (List ℕ)) (sites : Option ℕ) (before : ℕ) (event : Event) → is_comment (without_returns line) ≡ false → line_at sites (without_returns line) ≡ Ok event
     → lines_at sites before (line ∷ lines) ≡ sched.with_events (event ∷ []) (lines_at (sites_after sites event) (before + 1) lines)
 event_lines_at line lines sites before event comment read = rw (comment, read) refl
@@ -72,7 +72,7 @@ record LaterAmong (unsettled : Bool) (sites : Option ℕ) (before : ℕ) (lines 
   right : Completes sites (given ++ event ∷ [])
   may : may_all_come unsettled given ≡ true
   may_not : may_come (is_open_after_all unsettled given) event ≡ false
-  -- where all lines are right, not all events may come
+  -- if all lines are right, not all events may come
   not_all : (all : List Event) → lines_at sites before lines ≡ Ok all → may_all_come unsettled all ≡ false
 
 -- the last ask has no settle
@@ -191,7 +191,7 @@ found_later unsettled sites before line lines event here none may =
     not_all_of : (given : List Event) → After event (lines_at (sites_after sites event) (before + 1) lines) given → may_all_come unsettled given ≡ false
     not_all_of given b = ap (may_all_come unsettled) b.given_is ∙ rw may refl
 
--- behind an event that was read, some number of sites is known, and no more has to come
+-- after an event that was read, some number of sites is known, and no more has to come
 none_follows : (sites : Option ℕ) (line : List ℕ) (event : Event) → Follows sites line event → line_at sites line ≡ Ok event → Completes (sites_after sites event) []
 none_follows (Some sites) line event follows read = tt
 none_follows None line event follows read = let first = first_is line event read in subst (λ (e : Event). Completes (sites_after None e) []) (sym first.is) tt

@@ -1,4 +1,4 @@
--- What a run finds before it writes, and what it owes.
+-- What a run finds before it writes, and what it has to write.
 use Rattle.std.proofs.Common.{◌≡◌, ℕ, ◌<◌, ◌≤◌, ◌⊎◌, inl, inr, List, [], ◌++◌, length, take, Option, Some, None, refl, sym, ap, subst, ◌∙◌, arith}
 use Rattle.std.specs.Prelude.{String, IfSome}
 use Rattle.std.specs.Io.KnownBytes.{Appends, Consumes, IsAtEnd}
@@ -65,7 +65,7 @@ finds_read words (Some all) (Some rest) bytes findings.Refused text replay consu
     let prefix : take most_read all ≡ bytes = ap (take most_read) consumed ∙ read_prefix bytes rest within at_end in
     (replay, subst (λ (bs : List ℕ). Refuses bs text) (sym prefix) found)
 
--- ---- what is owed
+---- what has to be written
 
 whole_reported : (left : Option (List ℕ)) (text : List ℕ) → IfSome left (λ bytes. Reports bytes text) → IfSome left (λ bytes. OwesReplay (take most_read bytes) text)
 whole_reported None text h = tt
@@ -80,7 +80,7 @@ owes words left after findings.Reported text found = inl (found.0, whole_reporte
 owes words left after findings.Usage text found = inr found
 owes words left after findings.Refused text found = inl (found.0, none_owed left text found.1)
 
--- a front of what is owed was written
+-- a prefix of what has to be written was written
 pub writes_prefix : (words : List (String Global)) (left after old new : Option (List ℕ)) (finding : Finding) (text : List ℕ) → Finds words left after finding text → AppendsPrefix old new text → WritesPrefix words left old new
 writes_prefix words left after old new finding text found prefix = inl (text, owes words left after finding text found, prefix)
 
@@ -104,7 +104,7 @@ refused_status words left after findings.Reported text found replay holds = absu
 refused_status words left after findings.Usage text found replay holds = absurd (found.0 replay)
 refused_status words left after findings.Refused text found replay holds = inl refl
 
--- ---- what status 2 says
+---- what status 2 means
 
 pub writes_refusal : (words : List (String Global)) (left after old new : Option (List ℕ)) (finding : Finding) (text : List ℕ) → Finds words left after finding text → status_of finding ≡ 2 → Appends old new text → IsReplay words × WritesRefusal left old new
 writes_refusal words left after old new findings.Reported text found is appends = absurd cc

@@ -22,12 +22,12 @@ abbrev pub may_all_come : Bool → List Event → Bool
 may_all_come unsettled [] = true
 may_all_come unsettled (event ∷ others) = may_come unsettled event && may_all_come (is_open_after unsettled event) others
 
--- whether an ask has no settle behind it, after these events
+-- whether an ask has no settle after it, after these events
 abbrev pub is_open_after_all : Bool → List Event → Bool
 is_open_after_all unsettled [] = unsettled
 is_open_after_all unsettled (event ∷ others) = is_open_after_all (is_open_after unsettled event) others
 
--- The line gives an event that may not come: the lines before it give events that may, and it is right behind them.
+-- The line gives an event that may not come: the lines before it give events that may, and it is right after them.
 pub record IsLaterLine (bytes : List ℕ) (at : ℕ) : Type 0 where
   pub short : length bytes ≤ 16777216
   pub before : List (List ℕ)
@@ -43,7 +43,7 @@ pub record IsLaterLine (bytes : List ℕ) (at : ℕ) : Type 0 where
   pub all_may : IsTrue (may_all_come false given)
   pub may_not : may_come (is_open_after_all false given) event ≡ false
 
--- All lines give events that may come, and behind the last ask there is no settle: it is wanted behind the last line.
+-- All lines give events that may come, and no settle follows the last ask: the line after the last is refused.
 pub record LacksSettle (bytes : List ℕ) (at : ℕ) : Type 0 where
   pub given : List Event
   pub schedule : IsSchedule bytes given
@@ -53,7 +53,7 @@ pub record LacksSettle (bytes : List ℕ) (at : ℕ) : Type 0 where
 
 -- ---- refusals
 
--- What a refusal says: the fault of bytes that are no schedule; of a schedule, the first line that isn't played yet.
+-- The cause of a refusal: the fault of bytes that are no schedule; of a schedule, the first line that isn't played yet.
 abbrev pub IsRefusal : List ℕ → ℕ → Cause → Type 0
 IsRefusal bytes line (causes.Bad why) = IsFault bytes line why
 IsRefusal bytes line causes.Later = ((given : List Event) × IsSchedule bytes given) × (IsLaterLine bytes line ⊎ LacksSettle bytes line)

@@ -1,4 +1,4 @@
--- The next ask of a user is taken, and the last one told its reply again.
+-- The next ask of a user is accepted, and the last one gets its reply repeated.
 use Rattle.std.proofs.Common.{◌≡◌, ◌<◌, ℕ, ◌+◌, Bool, true, false, inl, inr, List, Option, Some, None, refl, sym, ap, ◌∙◌, subst, arith}
 use Rattle.rs_base.specs.declared.peer.Peer.{Peer}
 use Rattle.rs_base.specs.declared.txn.Origin.{Origin}
@@ -36,7 +36,7 @@ module _ (site : SiteState) (origin : Origin) (epoch : origin.epoch ≡ site.epo
         | inr stuck ↦ clash (last_is_answered (session_of origin.user site.sessions)) may stuck.1
       ]
 
--- A request is taken: its text is no request, or it is executed.
+-- A request is accepted: its text has no parse, or it is executed.
 pub data Acceptance (site : SiteState) (from : Peer) (origin : Origin) (text : List ℕ) (came : SiteState × Outs) : Type 0 where
   NotRead : statement_of text ≡ None → came ≡ no_request site from origin (offset_replied text) → Acceptance site from origin text came
   Read : (stmt : Stmt) → statement_of text ≡ Some stmt → came ≡ executed site from origin text stmt → Acceptance site from origin text came
@@ -69,7 +69,7 @@ next_is_accepted site from bytes ask is next room =
     subst (λ (p : SiteState × Outs). IsAcceptedAs site from ask (statement_of ask.text) p.0 p.1) (sym (step_of_first site from bytes ask is next.part))
     (accepted_as site from ask first (accepted site from origin ask.text next.epoch next.number next.may room first (asked site from origin ask.text)))
 
--- ---- kept replies
+---- stored replies
 
 kept_again : (site : SiteState) (from : Peer) (origin : Origin) (text : List ℕ) (reply : Reply) → origin.epoch ≡ site.epoch → origin.number ≡ (session_of origin.user site.sessions).last → (session_of origin.user site.sessions).reply ≡ Some reply
     → (came : SiteState × Outs) → Asked site from origin text came → came ≡ (site, reply_with from origin 0 reply)

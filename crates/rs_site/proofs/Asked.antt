@@ -1,4 +1,4 @@
--- What comes of an ask of a first part, case by case.
+-- The result of an ask of a first part, case by case.
 use Rattle.std.proofs.Common.{◌≡◌, ◌≢◌, ℕ, ◌+◌, inl, inr, Bool, true, false, cond, ◌&&◌, List, length, Option, Some, None, IsTrue, refl, ap, length-append, arith, nat_lt}
 use Rattle.std.specs.Prelude.{◌==◌, ◌++◌, codes}
 use Rattle.std.proofs.lemmas.Bool.Decides.{nat_tests}
@@ -27,7 +27,7 @@ IsRefusal (replies.OldEpoch epoch) = Unit {0}
 IsRefusal (replies.OldRequest last) = Unit {0}
 IsRefusal (replies.Gap last) = Unit {0}
 
--- the request is the last that was taken of its user
+-- the request is the last accepted one of its user
 pub record IsLast (site : SiteState) (origin : Origin) : Type 0 where
   pub epoch : origin.epoch ≡ site.epoch
   pub number : origin.number ≡ (session_of origin.user site.sessions).last

@@ -1,4 +1,4 @@
--- The parts of a text, and the messages that tell them.
+-- The parts of a text, and their messages.
 use Rattle.std.proofs.Common.{◌≡◌, ℕ, zero, suc, ◌+◌, ◌*◌, ◌<◌, ◌≤◌, true, ◌&&◌, nat_lt, List, ◌++◌, length, take, drop, sym, ap, subst, ◌∙◌, arith, ◌↔◌}
 use Rattle.std.proofs.lemmas.Bool.{ltb-true, ltb_from_iff, lt-ltb, and_parts}
 use Rattle.std.proofs.lemmas.Grind.{div_ceil_times}
@@ -35,7 +35,7 @@ module _ (size : ℕ) (text : List ℕ) where
   none : 0 ≡ 0 * size
   none = omega arith
 
-  -- pieces in a row are a front of what stands behind the pieces before
+  -- consecutive pieces are a prefix of what follows the pieces before
   in_row : (at n : ℕ) → flat_map piece (range_with_len at n) ≡ take (n * size) (drop (at * size) text)
   in_row at zero = ap (λ (m : ℕ). take m (drop (at * size) text)) none
   in_row at (suc n) =

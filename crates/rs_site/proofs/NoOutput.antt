@@ -21,7 +21,7 @@ use Rattle.rs_site.specs.Sessions.{session_of}
 use Rattle.rs_site.specs.State.{SiteState}
 use Rattle.rs_site.specs.Step.{most_bytes, on_message, on_read, on_datagram, site_step}
 
--- what is read is what is spelled
+-- what is read is what is encoded
 abbrev pub ReadIsSpelled : Type 0
 ReadIsSpelled = (bytes : List ℕ) (message : Message) → IsMessage bytes message ↔ (message_of bytes ≡ Some message)
 

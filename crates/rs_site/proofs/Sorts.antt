@@ -1,5 +1,5 @@
--- Each step is of one of three kinds: it leaves the site as it was, it remembers a request that was no request, or it
--- executes a statement.
+-- Each step is of one of three kinds: it leaves the site as it was, it stores the reply to a text without a supported
+-- statement, or it executes a statement.
 use Rattle.std.proofs.Common.{◌≡◌, ℕ, ◌+◌, Bool, true, false, cond, ◌&&◌, ◌==◌, List, [], Option, Some, None, refl, arith, nat_lt, inl, inr, ◌⊎◌, length}
 use Rattle.std.proofs.lemmas.Bool.Decides.{nat_tests}
 use Rattle.rs_mean.specs.declared.built.Stmt.{Stmt}
@@ -32,7 +32,7 @@ Stays site step = (step.0 ≡ site) × (step.1.decided ≡ [])
 abbrev pub IsNext : SiteState → Origin → Type 0
 IsNext site origin = origin.number ≡ (session_of origin.user site.sessions).last + 1
 
--- a text that is no request was taken
+-- a text without a supported statement was accepted
 pub record Remembers (site : SiteState) (step : Step) : Type 0 where
   pub from : Peer
   pub origin : Origin
@@ -40,7 +40,7 @@ pub record Remembers (site : SiteState) (step : Step) : Type 0 where
   pub offset : ℕ
   pub is : step ≡ no_request site from origin offset
 
--- a statement was taken and executed
+-- a statement was accepted and executed
 pub record Executes (site : SiteState) (step : Step) : Type 0 where
   pub from : Peer
   pub origin : Origin

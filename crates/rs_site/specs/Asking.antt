@@ -1,4 +1,4 @@
--- What a site does with an ask.
+-- A site's handling of an ask.
 use Rattle.std.specs.Prelude.{ℕ, ◌+◌, ◌*◌, Bool, ◌&&◌, ◌==◌, nat_lt, List, [], ◌∷◌, length, Option, Some, None, Ok, Err, if◌then◌else◌}
 use Rattle.rs_base.specs.declared.peer.Peer.{Peer}
 use Rattle.rs_base.specs.declared.txn.Txn.{Txn}
@@ -16,7 +16,7 @@ use Rattle.rs_site.specs.declared.outs.Outs.{Outs}
 use Rattle.rs_site.specs.Sessions.{session_of, with_session, last_is_answered}
 use Rattle.rs_site.specs.State.{SiteState, next_txn}
 
--- ---- what comes out of a step
+---- output of a step
 
 abbrev pub no_outs : Outs
 no_outs = record { sends = []; replies = []; decided = [] }
@@ -25,11 +25,11 @@ no_outs = record { sends = []; replies = []; decided = [] }
 abbrev pub no_output : SiteState → SiteState × Outs
 no_output site = (site, no_outs)
 
--- a part of a reply is told to a peer
+-- one part of a reply is sent to a peer
 abbrev pub reply_with : Peer → Origin → ℕ → Reply → Outs
 reply_with to origin part reply = record { sends = []; replies = (record { to = to; origin = origin; part = part; reply = reply }) ∷ []; decided = [] }
 
--- how many bytes a part of a reply has, but for the last
+-- the size of each part of a reply but the last, in bytes
 abbrev pub part_size : ℕ
 part_size = 30000
 
@@ -37,12 +37,12 @@ part_size = 30000
 abbrev pub has_part : Origin → Reply → ℕ → Bool
 has_part origin reply part = nat_lt (part * part_size) (length (printed_reply origin reply))
 
--- the kept reply is told again, if there is one, and it has this part
+-- the stored reply is sent again, if there is one, and it has this part
 abbrev pub repeated : SiteState → Peer → Origin → ℕ → Option Reply → SiteState × Outs
 repeated site from origin part None = no_output site
 repeated site from origin part (Some reply) = if has_part origin reply part then (site, reply_with from origin part reply) else no_output site
 
--- ---- an ask that is taken
+---- an accepted ask
 
 -- the execution of a statement by this transaction for the user of this request
 abbrev pub execution_of : Txn → Origin → Stmt → Execution
@@ -53,11 +53,11 @@ abbrev pub reply_of : Outcome → Reply
 reply_of (Ok answered) = replies.Done answered
 reply_of (Err cause) = replies.Denied cause
 
--- the site remembers that it took this request of its user, and what it answered
+-- the site stores that it accepted this request of its user, and the reply
 abbrev pub remembering : SiteState → Origin → Reply → SiteState
 remembering site origin reply = record site { sessions = with_session origin.user (record { last = origin.number; reply = Some reply }) site.sessions }
 
--- The statement is executed by the next transaction, and its outcome told.
+-- The statement is executed by the next transaction, and its outcome is the reply.
 abbrev pub executed : SiteState → Peer → Origin → List ℕ → Stmt → SiteState × Outs
 executed site from origin text stmt =
     let m = meaning site.database (execution_of (next_txn site) origin stmt) in (
@@ -69,11 +69,11 @@ executed site from origin text stmt =
 abbrev pub last_number : ℕ
 last_number = 18446744073709551615
 
--- the text says no statement that is executed, and this place is told
+-- the text has no supported statement, and the reply carries this byte offset
 abbrev pub no_request : SiteState → Peer → Origin → ℕ → SiteState × Outs
 no_request site from origin offset = (remembering site origin (replies.Syntax offset), reply_with from origin 0 (replies.Syntax offset))
 
--- A text that is no request is told so. A statement for which the epoch has no transaction left is dropped.
+-- A text without a supported statement is answered by its offset. A statement for which the epoch has no transaction left is dropped.
 abbrev pub accepted_as : SiteState → Peer → Origin → List ℕ → Option Stmt → SiteState × Outs
 accepted_as site from origin text None = no_request site from origin (offset_replied text)
 accepted_as site from origin text (Some stmt) = if site.begun == last_number then no_output site else executed site from origin text stmt
@@ -86,8 +86,8 @@ accepted site from origin text = accepted_as site from origin text (statement_of
 abbrev pub refused : SiteState → Peer → Origin → Reply → SiteState × Outs
 refused site from origin reply = (site, reply_with from origin 0 reply)
 
--- In the site's epoch: a number below the last is old. The last is given its reply again, whatever its text. The next
--- one is taken, once the last is answered. All else is a gap.
+-- In the site's epoch: a number below the last is old. The last gets its reply again, whatever its text. The next one is
+-- accepted, once the last is answered. All else is a gap.
 abbrev pub by_number : SiteState → Peer → Origin → List ℕ → Session → SiteState × Outs
 by_number site from origin text session =
     if nat_lt origin.number session.last then refused site from origin (replies.OldRequest session.last)

@@ -1,4 +1,4 @@
--- What holds of the parts of texts, and of the messages that tell them.
+-- Laws of the parts of texts, and of their messages.
 use Rattle.std.specs.Prelude.{◌≡◌, ℕ, ◌≤◌, nat_lt, List, length, flat_map, Some}
 use Rattle.std.specs.List.{range_with_len}
 use Rattle.rs_base.specs.declared.txn.Origin.{Origin}
@@ -19,10 +19,10 @@ PartsAreText = (text : List ℕ) → flat_map (part_bytes text) (range_with_len 
 abbrev pub HasEachPart : Type 0
 HasEachPart = (origin : Origin) (reply : Reply) (part : ℕ) → has_part origin reply part ≡ nat_lt part (parts_of (printed_reply origin reply))
 
--- a message that tells a part is within its limits
+-- the message of a part is within its limits
 abbrev pub PartIsWithin : Type 0
 PartIsWithin = (reported : Told) (message : Message) → IsOriginWithin reported.origin → message_of_part reported ≡ Some message → IsWithin message
 
--- a message that tells a part fits a datagram
+-- the message of a part fits a datagram
 abbrev pub PartFits : Type 0
 PartFits = (reported : Told) (message : Message) → IsOriginWithin reported.origin → message_of_part reported ≡ Some message → length (message_bytes message) ≤ 32768

@@ -1,4 +1,4 @@
--- One step of a site: its new state and what comes out, by its state and one input alone.
+-- One step of a site: its new state and its output, by its state and one input alone.
 use Rattle.std.specs.Prelude.{ℕ, nat_lt, List, length, Option, Some, None, if◌then◌else◌}
 use Rattle.rs_base.specs.declared.peer.Peer.{Peer}
 use Rattle.rs_msg.specs.declared.message.Message.{Message}
@@ -10,7 +10,7 @@ use Rattle.rs_site.specs.declared.outs.Outs.{Outs}
 use Rattle.rs_site.specs.Asking.{no_output, on_ask}
 use Rattle.rs_site.specs.State.{SiteState}
 
--- how many bytes a datagram has at most
+-- the largest datagram, in bytes
 abbrev pub most_bytes : ℕ
 most_bytes = 32768
 

@@ -1,4 +1,4 @@
--- When a site's reply is true, by its epoch and by the session that it keeps of the user at that moment.
+-- When a site's reply is true, by its epoch and by the session of the user in that state.
 use Rattle.std.specs.Prelude.{◌≡◌, ◌≢◌, ℕ, ◌+◌, ◌<◌, IsFalse, ◌⊎◌}
 use Rattle.rs_base.specs.declared.txn.Origin.{Origin}
 use Rattle.rs_base.specs.declared.reply.Reply.{Reply}
@@ -11,7 +11,7 @@ use Rattle.rs_site.specs.State.{SiteState}
 abbrev pub IsAhead : Session → ℕ → Type 0
 IsAhead session number = (session.last + 1 < number) ⊎ ((number ≡ session.last + 1) × IsFalse (last_is_answered session))
 
--- Nothing fails, and nothing is shown, in this stage. What is done, denied or no request is said by other laws.
+-- Nothing fails, and nothing is shown, in this stage. What is done, denied or has no parse is stated by other laws.
 abbrev pub IsTrueReply : SiteState → Origin → Reply → Type 0
 IsTrueReply site origin (replies.Done answered) = Unit {0}
 IsTrueReply site origin (replies.Denied cause) = Unit {0}

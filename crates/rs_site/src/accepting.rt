@@ -1,4 +1,4 @@
-//! An ask that is taken.
+//! Accepted asks.
 
 ghost use Rattle.std.specs.Prelude.{◌≡◌, ◌+◌, ◌<◌, IfOk, IfErr, OnOk, OnErr, Some, None, min};
 ghost use Rattle.rs_mean.specs.Changes.{changed};
@@ -14,7 +14,7 @@ use rs_mean::{Change, Effect, Execution, Outcome, Stmt};
 use rs_parse::{ParseFault, parse};
 use std::alloc::Global;
 
-/// The reply that reports an outcome.
+/// Returns the reply that reports an outcome.
 fn reply_of(outcome: Outcome) -> Reply
     ensures { result ≡ spec.reply_of outcome }
 {
@@ -24,14 +24,14 @@ fn reply_of(outcome: Outcome) -> Reply
     }
 }
 
-/// The offset of a fault as a reply tells it.
+/// Returns the byte offset of a fault as replied, at most 2 ^ 32 - 1.
 fn reported(offset: usize) -> u32
     ensures { result ≡ min offset 4294967295 }
 {
     u32::try_from(offset).unwrap_or(u32::MAX)
 }
 
-/// The statement of a text, where it is one that is executed so far, and else what is told of the text.
+/// Returns the supported statement of a text, or else the byte offset to reply.
 #[tactic(auto, unfolding(crate::specs::Statement::statement_of, crate::specs::Statement::offset_replied))]
 fn statement(alloc: Global, text: &[u8]) -> Result<Result<Stmt, u32>, NoMemory>
     ensures statement { IfOk result (λ said. IfOk said (λ stmt. statement_of text.now ≡ Some stmt)) }
@@ -49,7 +49,7 @@ fn statement(alloc: Global, text: &[u8]) -> Result<Result<Stmt, u32>, NoMemory>
 }
 
 impl Site {
-    /// The next transaction, while the epoch has one left.
+    /// Returns the next transaction, while the epoch has one left.
     fn next_txn(&self) -> Txn
         requires { self.now.begun < spec.last_number }
         ensures { result ≡ next_txn self.now }
@@ -61,7 +61,7 @@ impl Site {
         }
     }
 
-    /// Remembers that the request was taken, and its reply.
+    /// Stores that the request was accepted, and its reply.
     fn remember(&mut self, origin: &Origin, reply: Reply) -> Result<(), NoMemory>
         ensures ok { OnOk result (self.new ≡ spec.remembering self.old origin.now reply) }
         ensures err { OnErr result (self.new ≡ self.old) }
@@ -74,7 +74,7 @@ impl Site {
         Ok(())
     }
 
-    /// Makes the change as the next transaction, and remembers that the request was taken, and its reply.
+    /// Applies the change as the next transaction, and stores that the request was accepted, and its reply.
     fn commit(&mut self, change: Change, origin: &Origin, reply: Reply) -> Result<(), NoMemory>
         requires { self.old.begun < spec.last_number }
         ensures ok { OnOk result (self.new ≡ record (spec.remembering self.old origin.now reply) { begun = self.old.begun + 1; database = changed change self.old.database }) }
@@ -93,7 +93,7 @@ impl Site {
         Ok(())
     }
 
-    /// Executes the statement as the next transaction, and tells its outcome.
+    /// Executes the statement as the next transaction, and replies its outcome.
     fn execute(
         &mut self,
         alloc: Global,
@@ -125,7 +125,7 @@ impl Site {
         Ok(outs)
     }
 
-    /// Takes a statement. It is dropped where the epoch has no transaction left.
+    /// Accepts a statement. It is dropped if the epoch has no transaction left.
     fn take_statement(
         &mut self,
         alloc: Global,
@@ -143,7 +143,7 @@ impl Site {
         self.execute(alloc, from, origin, text, stmt)
     }
 
-    /// Takes a text that says no statement that is executed, and tells this offset.
+    /// Accepts a text without a supported statement, and replies this byte offset.
     fn take_no_request(
         &mut self,
         alloc: Global,
@@ -159,7 +159,7 @@ impl Site {
         Ok(outs)
     }
 
-    /// Takes the user's next request.
+    /// Accepts the user's next request.
     pub(crate) fn take(
         &mut self,
         alloc: Global,

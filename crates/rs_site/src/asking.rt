@@ -1,4 +1,4 @@
-//! What a site does with an ask.
+//! A site's handling of an ask.
 
 ghost use Rattle.std.specs.Prelude.{◌≡◌, ◌+◌, ◌<◌, ◌&&◌, ◌==◌, IfOk, OnErr};
 ghost use Rattle.rs_site.specs.Asking as spec;
@@ -11,7 +11,7 @@ use rs_msg::Ask;
 use std::alloc::Global;
 
 impl Site {
-    /// Whether the request is the user's next, and the last is answered.
+    /// Returns whether the request is the user's next, and the last is answered.
     fn is_next(&self, origin: &Origin) -> bool
         requires { (session_of origin.now.user self.now.sessions).last < origin.now.number }
         ensures { result ≡ (origin.now.number == (session_of origin.now.user self.now.sessions).last + 1 && last_is_answered (session_of origin.now.user self.now.sessions)) }
@@ -20,7 +20,7 @@ impl Site {
             && self.sessions.last_is_answered(&origin.user)
     }
 
-    /// The first part is asked for of a request in the site's epoch.
+    /// Handles the first part of a request in the site's epoch.
     fn by_number(
         &mut self,
         alloc: Global,
@@ -44,7 +44,7 @@ impl Site {
         reply_with(alloc, from, origin, 0, Reply::Gap(last))
     }
 
-    /// The first part is asked for.
+    /// Handles an ask of a first part.
     fn on_first(
         &mut self,
         alloc: Global,
@@ -62,7 +62,7 @@ impl Site {
         }
     }
 
-    /// A further part is asked for.
+    /// Handles an ask of a further part.
     fn on_further(
         &self,
         alloc: Global,
@@ -79,7 +79,7 @@ impl Site {
         }
     }
 
-    /// An ask comes from a peer.
+    /// Handles an ask from a peer.
     pub(crate) fn on_ask(&mut self, alloc: Global, from: &Peer, ask: Ask) -> Result<Outs, NoMemory>
         ensures ok { IfOk result (λ outs. spec.on_ask self.old from.now ask ≡ (self.new, outs)) }
         ensures err { OnErr result (self.new ≡ self.old) }

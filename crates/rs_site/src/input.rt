@@ -1,4 +1,4 @@
-//! What comes to a site.
+//! The inputs of a site.
 
 use rs_base::{Bytes, Peer};
 

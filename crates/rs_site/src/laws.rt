@@ -1,5 +1,5 @@
-//! What holds of every step of a site, whatever its state. Each function here is a law: its contract says it, and its
-//! body does nothing.
+//! Laws of every step of a site, whatever its state. Each function here is a law: its contract states it, and its body
+//! does nothing.
 
 ghost use Rattle.rs_site.specs.Laws.{CommitsAreMeaning, KeptReplyIsRepeated, NextIsAccepted, NumbersRise, RepeatsRunNothing};
 
@@ -13,7 +13,7 @@ pub fn repeats_run_nothing()
     ensures { RepeatsRunNothing }
 {}
 
-/// An ask of the user's last request, in the site's epoch, is told the reply that is kept, and changes nothing.
+/// An ask of the user's last request, in the site's epoch, gets the stored reply, and changes nothing.
 pub fn kept_reply_is_repeated()
     ensures { KeptReplyIsRepeated }
 {}
@@ -24,8 +24,8 @@ pub fn commits_are_meaning()
     ensures { CommitsAreMeaning }
 {}
 
-/// The next ask of a user, whose last one is answered, is told one reply, which is kept: that its text is no request, or
-/// the outcome of its statement, which is committed with its text. So it is while the epoch has a transaction left.
+/// The next ask of a user, whose last one is answered, gets one reply, which is stored: that its text has no supported
+/// statement, or the outcome of its statement, which is committed with its text. This holds while the epoch has a transaction left.
 pub fn next_is_accepted()
     ensures { NextIsAccepted }
 {}

@@ -1,4 +1,4 @@
-//! What comes out of a step of a site.
+//! The output of a step of a site.
 
 ghost use Rattle.std.specs.Prelude.{◌≡◌, [], ◌∷◌, IfOk};
 ghost use Rattle.rs_site.specs.Asking as spec;
@@ -7,8 +7,7 @@ use rs_base::{Bytes, Datagrams, NoMemory, Origin, Peer, Reply, Txn, one_item};
 use sqlite_items::Items;
 use std::alloc::Global;
 
-/// A part of a printed reply that goes to a peer: which request is answered, which part goes, counted from 0, and the
-/// reply.
+/// One part of a printed reply to a peer: the request, the part's number, counted from 0, and the reply.
 #[derive(Debug, Drop)]
 pub struct Told {
     pub to: Peer,
@@ -29,7 +28,7 @@ pub struct Decided {
 
 pub type Decideds = Items<Decided>;
 
-/// What a step gives out: datagrams to sites, replies, and the executions that it committed.
+/// The output of a step: datagrams to sites, replies, and committed executions.
 #[derive(Debug, Drop)]
 pub struct Outs {
     pub sends: Datagrams,
@@ -37,7 +36,7 @@ pub struct Outs {
     pub decided: Decideds,
 }
 
-/// Nothing comes out.
+/// Returns the empty output.
 pub(crate) fn no_outs(alloc: Global) -> Outs
     ensures { result ≡ spec.no_outs }
 {
@@ -48,7 +47,7 @@ pub(crate) fn no_outs(alloc: Global) -> Outs
     }
 }
 
-/// A part of a reply goes to a peer.
+/// Returns the output of one part of a reply.
 pub(crate) fn reply_with(
     alloc: Global,
     to: &Peer,
@@ -69,7 +68,7 @@ pub(crate) fn reply_with(
     Ok(outs)
 }
 
-/// The first part of a reply goes to a peer, and an execution is committed.
+/// Returns the output of a committed execution: the first part of its reply, and its entry.
 pub(crate) fn commits(
     alloc: Global,
     to: &Peer,

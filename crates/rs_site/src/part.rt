@@ -9,10 +9,10 @@ use crate::site::Site;
 use rs_base::{Bytes, NoMemory, Origin, Peer, Reply, print_reply};
 use std::alloc::Global;
 
-/// How many bytes a part of a reply has, but for the last.
+/// The size of each part of a reply but the last, in bytes.
 pub(crate) const PART_SIZE: u64 = 30_000;
 
-/// Whether the printed reply has this part, by printing it.
+/// Returns whether the printed reply has this part, by printing it.
 fn printed_has_part(
     alloc: Global,
     origin: &Origin,
@@ -26,7 +26,7 @@ fn printed_has_part(
     Ok(u64::from(part) * PART_SIZE < text.len() as u64)
 }
 
-/// Whether the printed reply has this part, counted from 0. The first is always there.
+/// Returns whether the printed reply has this part, counted from 0. The first is always there.
 fn has_part(alloc: Global, origin: &Origin, reply: &Reply, part: u32) -> Result<bool, NoMemory>
     ensures { IfOk result (λ has. has ≡ spec.has_part origin.now reply.now part) }
 {
@@ -37,7 +37,7 @@ fn has_part(alloc: Global, origin: &Origin, reply: &Reply, part: u32) -> Result<
 }
 
 impl Site {
-    /// Tells the reply that is kept for the user's last request again, if there is one, and it has this part.
+    /// Sends the stored reply to the user's last request again, if there is one, and it has this part.
     pub(crate) fn repeated(
         &self,
         alloc: Global,

@@ -1,4 +1,4 @@
-//! The message that takes a part of a printed reply to a peer.
+//! The message that carries one part of a printed reply to a peer.
 
 ghost use Rattle.std.specs.Prelude.{◌≡◌, ◌*◌, ◌<◌, IfOk, length, take};
 ghost use Rattle.rs_site.specs.Asking.{part_size};
@@ -10,14 +10,14 @@ use rs_base::{Bytes, NoMemory, Origin, print_reply};
 use rs_msg::{Message, ReplyPart};
 use std::alloc::Global;
 
-/// How many parts a text has.
+/// Counts the parts of a text.
 fn parts_of(text: &[u8]) -> u64
     ensures { result ≡ spec.parts_of text.now }
 {
     (text.len() as u64).div_ceil(PART_SIZE)
 }
 
-/// The first bytes of a text: so many, or all where it has fewer.
+/// Returns the first `size` bytes of a text, or all if it has fewer.
 fn first_bytes(text: &[u8], size: usize) -> &[u8]
     ensures { result.now ≡ take size text.now }
 {
@@ -27,7 +27,7 @@ fn first_bytes(text: &[u8], size: usize) -> &[u8]
     &text[..size]
 }
 
-/// What a part of a text says, where the text has this part.
+/// Returns the bytes of a part of a text, which has this part.
 fn part_bytes(text: &[u8], part: u32) -> &[u8]
     requires { part * part_size < length text.now }
     ensures { result.now ≡ spec.part_bytes text.now part }
@@ -37,7 +37,7 @@ fn part_bytes(text: &[u8], part: u32) -> &[u8]
     first_bytes(rest, PART_SIZE as usize)
 }
 
-/// A part of a reply's text, as a message, where the text has this part.
+/// Returns a part of a reply's text as a message. The text has this part.
 fn part_message(
     alloc: Global,
     origin: &Origin,
@@ -59,8 +59,8 @@ fn part_message(
 }
 
 impl Told {
-    /// The message that tells this part of the printed reply. There is none where the printed reply doesn't have this
-    /// part, or has 2^32 parts or more. Fails where memory is wanting.
+    /// Returns the message of this part of the printed reply. `None` exactly if the printed reply doesn't have this part, or
+    /// has 2 ^ 32 parts or more. Fails on out of memory.
     pub fn message(&self, alloc: Global) -> Result<Option<Message>, NoMemory>
         ensures { IfOk result (λ message. message ≡ spec.message_of_part self.now) }
     {

@@ -14,11 +14,11 @@ use rs_base::{NoMemory, Peer, ReadFault};
 use rs_msg::{Message, decode};
 use std::alloc::Global;
 
-/// How many bytes a datagram has at most.
+/// The largest datagram, in bytes.
 const MOST_BYTES: usize = 32_768;
 
 impl Site {
-    /// A message comes from a peer.
+    /// Handles a message from a peer.
     fn on_message(&mut self, alloc: Global, from: &Peer, message: Message) -> Result<Outs, NoMemory>
         ensures ok { IfOk result (λ outs. spec.on_message self.old from.now message ≡ (self.new, outs)) }
         ensures err { OnErr result (self.new ≡ self.old) }
@@ -29,7 +29,7 @@ impl Site {
         }
     }
 
-    /// A datagram comes from a peer.
+    /// Handles a datagram from a peer.
     fn on_datagram(&mut self, alloc: Global, from: &Peer, bytes: &[u8]) -> Result<Outs, NoMemory>
         ensures ok { IfOk result (λ outs. spec.on_datagram self.old from.now bytes.now ≡ (self.new, outs)) }
         ensures err { OnErr result (self.new ≡ self.old) }
@@ -44,7 +44,7 @@ impl Site {
         }
     }
 
-    /// The step by its definition.
+    /// Makes the step of its definition.
     #[tactic(auto, unfolding(crate::specs::Step::site_step))]
     fn on_input(&mut self, alloc: Global, input: &Input) -> Result<Outs, NoMemory>
         ensures ok { IfOk result (λ outs. spec.site_step self.old input.now ≡ (self.new, outs)) }
@@ -56,9 +56,9 @@ impl Site {
         }
     }
 
-    /// Takes one input. It gives what is sent, what is replied, and what was committed. A datagram of more than 32,768
-    /// bytes, one that is no message, and one that no rule is for change nothing, and nothing is sent. Where memory is
-    /// wanting, the site stays as it was.
+    /// Handles one input, and returns what is sent, replied and committed. A datagram of more than 32,768 bytes, one that is
+    /// no message, and one that no rule handles change nothing, and nothing is sent. On out of memory the site stays as it
+    /// was.
     pub fn step(&mut self, alloc: Global, input: &Input) -> Result<Outs, NoMemory>
         ensures ok { IfOk result (λ outs. spec.site_step self.old input.now ≡ (self.new, outs)) }
         ensures dropped { (from : Peer) (bytes : List ℕ) → input.now ≡ inputs.Datagram from bytes → IsDropped self.old bytes → IfOk result (λ outs. (self.new ≡ self.old) × (outs ≡ asking.no_outs)) }
