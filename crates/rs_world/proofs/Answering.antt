@@ -39,7 +39,7 @@ use Rattle.rs_world.proofs.Reports.{get_last}
 use Rattle.rs_world.proofs.Turns.{onward, turns_received}
 use Rattle.rs_world.proofs.Walk.{after, after_push}
 
--- ---- what is asked is asked within its limits
+---- what is asked is asked within its limits
 
 later_at : (n : ℕ) (given : List Event) (event : Event) → AreLater n given → Contains given event → IsLater n event
 later_at n [] event later (k, lt, is) = absurd (omega (arith, lt))
@@ -75,7 +75,7 @@ module _ (given : List Event) (valid : IsValid given) (are : IsTrue (are_accepte
       ∙ posts_are_asked given
 
   module _ (origin : Origin) (text : List ℕ) (is : IsPost origin text) where
-    -- what came of the delivery by which the ask is heard
+    -- the result of the delivery by which the ask is received
     pub record Comes (before : List Action) (site : SiteState) : Type 0 where
       pub came : SiteState × Outs
       pub cases : Asked site (peers.Client 0) origin text came
@@ -147,7 +147,7 @@ module _ (given : List Event) (valid : IsValid given) (are : IsTrue (are_accepte
     abbrev replied_as : Reply → Given
     replied_as reply = record { origin = origin; reply = reply }
 
-    -- the reply stands at its place
+    -- the reply is at its position
     replied_there : (before : List Action) (site : SiteState) (c : Comes before site) (reply : Reply) → map given_of c.came.1.replies ≡ replied_as reply ∷ [] → slice_get (course given).replies (length (world_after before).replies) ≡ Some (replied_as reply)
     replied_there before site c reply one =
         let prefix : List Given = (world_after before).replies in
@@ -203,7 +203,7 @@ answers given valid are few = record {
   no_request_replied = λ origin text at accepts none. no_request_replied given valid are few origin text (asked_is_post given valid are origin text at) accepts none;
 }
 
--- so does the report of a world that came to be by them
+-- so does the report of a world that they led to
 of_world : (world : World) (report : Report) → report ≡ report_of world → (given : List Event) → IsValid given → IsTrue (are_accepted false given) → HaveTransactions given → world ≡ course given → EachAskIsAnswered given report
 of_world world report is_report given valid are few came =
     subst (EachAskIsAnswered given) (sym (is_report ∙ ap report_of came)) (answers given valid are few)

@@ -1,5 +1,5 @@
--- What holds of the site, the replies and the history after the opening, and is kept by each ask that is heard, holds at
--- each moment.
+-- A fact of the site, the replies and the history that holds after the opening, and is kept by each received ask, holds in
+-- each state.
 use Rattle.std.proofs.Common.{◌≡◌, ℕ, ◌-◌, List, [], ◌∷◌, ◌++◌, map, sym, ap, subst, ◌∙◌}
 use Rattle.std.specs.List.{slice_get, Contains}
 use Rattle.rs_base.specs.declared.peer.Peer.TheVariants as peers
@@ -18,28 +18,28 @@ use Rattle.rs_world.proofs.Standing.{Stands, stands_first, stands_on, stands_pos
 use Rattle.rs_world.proofs.Turns.{Turns, Posted, Stayed, Received, onward, turns}
 use Rattle.rs_world.proofs.Walk.{after, after_push, walk}
 
--- The site hears this ask next, which was posted before.
+-- The site receives this ask next, which was posted before.
 pub record ReceivesNext (given : List Event) (before : List Action) (site : SiteState) (origin : Origin) (text : List ℕ) : Type 0 where
   pub receives : Receives given before site origin text
   pub post : IsPost origin text
   pub posted : Contains before (Post origin text)
   pub stands : Stands before (world_after before) site
 
--- the delivery that comes next leaves the site as this, and gives what came out of it
+-- the next delivery leaves the site as this, and has this output
 abbrev pub DeliversNext : List Action → SiteState × Outs → Type 0
 DeliversNext before came = world_after (before ++ Deliver ∷ []) ≡ onward (world_after before) came.0 (map given_of came.1.replies) came.1.decided
 
--- what holds of a front of the happenings, the site, the replies and the history behind it
+-- a fact of a prefix of the actions, and of the site, the replies and the history after it
 abbrev pub Fact : Type 1
 Fact = List Action → SiteState → List Given → List Decided → Type 0
 
--- the fact at this moment
+-- the fact in this state
 pub record StateAt (P : Fact) (before : List Action) (world : World) : Type 0 where
   pub site : SiteState
   pub stands : Stands before world site
   pub holds : P before site world.replies world.history
 
--- the fact is there after the opening, and stays by each happening
+-- the fact holds after the opening, and is kept by each action
 pub record IsLaw (given : List Event) (P : Fact) : Type 0 where
   pub first : P (Open 1 ∷ []) (opened 1 1) [] []
   pub later : (before : List Action) (action : Action) (site : SiteState) (givens : List Given) (entries : List Decided) → P before site givens entries → P (before ++ action ∷ []) site givens entries
@@ -89,6 +89,6 @@ module _ (given : List Event) (playable : Playable given) (P : Fact) (law : IsLa
       subst (StateAt P (Open 1 ∷ (done ++ action ∷ []))) (sym (after_push done action))
       (at_turn done action suffix separated now (act (after done) action) (after_push done action) (turns (Open 1 ∷ done) (after done) now.site now.stands.one now.stands.sent action is))
 
-  -- at each moment behind the opening
+  -- in each state after the opening
   pub at_each : (done suffix : List Action) → playable.others ≡ done ++ suffix → StateAt P (Open 1 ∷ done) (after done)
   at_each done suffix separated = walk At playable.others playable.are at_step at_first done suffix separated

@@ -1,5 +1,5 @@
--- What holds of the history so far: its entries were taken, one after the other, the site's database is what it builds, and
--- the replies that tell of its entries are their meanings.
+-- Facts of the history so far: its entries were accepted, one after the other, the site's database is what it builds, and
+-- the replies that report its entries are their meanings.
 use Rattle.std.proofs.Common.{◌≡◌, ◌≢◌, ℕ, ◌+◌, ◌<◌, ◌≤◌, inl, inr, List, [], ◌∷◌, ◌++◌, length, take, Option, Some, None, refl, sym, ap, subst, ◌∙◌, length-append, arith}
 use Rattle.std.specs.List.{slice_get}
 use Rattle.std.proofs.lemmas.List.{append-nil, take-append-le, take_all}
@@ -47,9 +47,9 @@ meaning_more history more i reported is =
       reply = is.reply;
     }
 
--- ---- what holds
+---- the facts
 
--- the transaction of the entry at this place
+-- the transaction of the entry at this position
 abbrev pub txn_at : ℕ → Txn
 txn_at i = record { site = 1; epoch = 1; number = i + 1 }
 
@@ -109,7 +109,7 @@ entered_said given state givens history reported meant holds = record {
           | inr p ↦ subst (λ (x : Given). IsCommitted x.reply → (i : ℕ) × IsMeaningAt history i x) p.1 meant
         ]
 
--- ---- a request is taken
+---- a request is accepted
 
 module _ (given : List Event) (state : SiteState) (origin : Origin) (reply : Reply) (number : origin.number ≡ (session_of origin.user state.sessions).last + 1) where
   abbrev session : Session
@@ -160,7 +160,7 @@ module _ (given : List Event) (state : SiteState) (origin : Origin) (reply : Rep
             (there.0, subst (λ (o : Origin). IsMeaningAt (history ++ more) there.0 (record { origin = o; reply = kept })) asked (meaning_more history more there.0 (record { origin = last_origin state user; reply = kept }) there.1))
       ]
 
--- a text that is no request is taken
+-- a text without a supported statement is accepted
 pub entered_remembered : (given : List Event) (state : SiteState) (givens : List Given) (history : List Decided) (origin : Origin) (reply : Reply)
     → origin.number ≡ (session_of origin.user state.sessions).last + 1 → origin.site ≡ state.me → origin.epoch ≡ state.epoch → (IsCommitted reply → ⊥)
     → Entered given state givens history → Entered given (remembering state origin reply) givens history

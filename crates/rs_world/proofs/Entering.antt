@@ -1,4 +1,4 @@
--- What holds of the history holds at each moment.
+-- The facts of the history hold in each state.
 use Rattle.std.proofs.Common.{◌≡◌, ℕ, List, [], ◌∷◌, ◌++◌, map, Some, sym, subst, ◌∙◌}
 use Rattle.std.proofs.lemmas.List.{append-nil}
 use Rattle.rs_base.specs.declared.peer.Peer.TheVariants as peers

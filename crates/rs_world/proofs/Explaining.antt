@@ -37,7 +37,7 @@ explains given valid are =
       tables_in_order = history.tables_in_order given can;
     }
 
--- so does the report of a world that came to be by them
+-- so does the report of a world that they led to
 pub of_world : (world : World) (report : Report) → report ≡ report_of world → (given : List Event) → IsValid given → IsTrue (are_accepted false given) → world ≡ course given → Explains given report
 of_world world report is_report given valid are came =
     subst (Explains given) (sym (is_report ∙ ap report_of came)) (explains given valid are)

@@ -1,4 +1,4 @@
--- The history at each moment is a front of each later one, and so are the replies.
+-- The history in each state is a prefix of that in each later one, and so are the replies.
 use Rattle.std.proofs.Common.{◌≡◌, List, [], ◌∷◌, ◌++◌, refl, sym, ap, subst, ◌∙◌, append_assoc}
 use Rattle.std.specs.Prelude.{fold}
 use Rattle.std.proofs.lemmas.List.{append-nil}
@@ -59,6 +59,6 @@ grows_by : (world : World) (more : List Action) → Grows world (fold act world 
 grows_by world [] = grows_not world world refl refl
 grows_by world (action ∷ more) = grows_twice world (act world action) (fold act (act world action) more) (grows_once world action) (grows_by (act world action) more)
 
--- from each moment to each later one
+-- from each state to each later one
 pub grows : (before suffix : List Action) → Grows (world_after before) (world_after (before ++ suffix))
 grows before suffix = subst (Grows (world_after before)) (sym (fold-append act start before suffix)) (grows_by (world_after before) suffix)

@@ -27,11 +27,11 @@ use Rattle.rs_world.proofs.Gets.{take-get}
 use Rattle.rs_world.proofs.Played.{Playable, course_is}
 use Rattle.rs_world.proofs.Walk.{after}
 
--- the last world is the one after all that happens
+-- the last world is the one after all actions
 pub last_is : (given : List Event) (can : Playable given) → course given ≡ after can.others
 last_is given can = course_is given ∙ ap world_after can.separated
 
--- what holds of the history in the end
+-- the facts of the history in the end
 pub in_the_end : (given : List Event) → Playable given → StateAt (λ before state givens history. Entered given state givens history) (actions given) (course given)
 in_the_end given can =
     let whole = at_each given can (λ before state givens history. Entered given state givens history) (entered_law given) can.others [] (sym (append-nil can.others)) in
@@ -50,22 +50,22 @@ pub denied_changes_nothing : (history : List Decided) (i : ℕ) (entry : Decided
 denied_changes_nothing history i entry cause at denied =
     ap database_of (take-get history i entry at) ∙ database_of-push (take i history) entry ∙ denied_at (database_of (take i history)) entry (statement_of entry.text) cause denied
 
--- the history at each moment is a front of that at each later one
+-- the history in each state is a prefix of that in each later one
 pub history_grows : (given : List Event) (before between suffix : List Action) → actions given ≡ before ++ between ++ suffix
     → (more : List Decided) × ((world_after (before ++ between)).history ≡ (world_after before).history ++ more)
 history_grows given before between suffix separated = let on = grows before between in (on.entries, on.history)
 
--- the history in the end is that of the last moment
+-- the history in the end is that of the last state
 pub history_is_last : (given : List Event) → (course given).history ≡ (world_after (actions given)).history
 history_is_last given = ap (λ (w : World). w.history) (course_is given)
 
--- the history at each moment is a front of the last
+-- the history in each state is a prefix of the last
 pub grows_to_last : (given : List Event) (before suffix : List Action) → actions given ≡ before ++ suffix → (more : List Decided) × ((course given).history ≡ (world_after before).history ++ more)
 grows_to_last given before suffix separated =
     let on = grows before suffix in
     (on.entries, ap (λ (w : World). w.history) (course_is given ∙ ap world_after separated) ∙ on.history)
 
--- a site that stands among the one is that one
+-- each site of the world is the one site
 the_one : (sites : List SiteState) (state site : SiteState) (number : ℕ) → sites ≡ state ∷ [] → slice_get sites number ≡ Some site → site ≡ state
 the_one [] state site number e at = absurd cc
 the_one (first ∷ []) state site zero e at = cc
@@ -90,7 +90,7 @@ module _ (given : List Event) (can : Playable given) where
   pub answers_are_meaning : (k : ℕ) (reported : Given) → slice_get (course given).replies k ≡ Some reported → IsCommitted reported.reply → (i : ℕ) × IsMeaningAt (course given).history i reported
   answers_are_meaning k reported at committed = end.holds.answers k reported at committed
 
-  -- at each moment a site's database is that of the history so far
+  -- in each state a site's database is that of the history so far
   pub stores_follow : (before suffix : List Action) (number : ℕ) (site : SiteState) → actions given ≡ before ++ suffix
       → slice_get (world_after before).sites number ≡ Some site → site.database ≡ database_of (world_after before).history
   stores_follow [] suffix number site separated at = absurd cc

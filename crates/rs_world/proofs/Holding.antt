@@ -1,4 +1,4 @@
--- At each moment what was told is true, kept and entered, and each entry was asked before.
+-- In each state the replies are true, stored and entered, and each entry was asked before.
 use Rattle.std.proofs.Common.{◌≡◌, ℕ, ◌⊎◌, inl, inr, List, [], ◌∷◌, ◌++◌, Some, None, false, IsTrue, refl, sym, ap, subst, ◌∙◌}
 use Rattle.std.specs.List.{slice_get, Contains}
 use Rattle.std.proofs.lemmas.List.{append-nil}
@@ -24,7 +24,7 @@ use Rattle.rs_world.proofs.Gets.{get_push}
 use Rattle.rs_world.proofs.Played.{Playable, playable, course_is}
 use Rattle.rs_world.proofs.Reports.{reported_keeps}
 
--- each entry of the history was asked among these happenings
+-- each entry of the history was asked among these actions
 abbrev pub ArePosted : List Action → List Decided → Type 0
 ArePosted before history = (i : ℕ) (entry : Decided) → slice_get history i ≡ Some entry → Contains before (Post entry.origin entry.text)
 
@@ -52,7 +52,7 @@ kept_first all = record {
   entered_kept = λ user reply at. absurd (no_reply reply at);
 }
 
--- ---- by what is heard
+---- by a received ask
 
 -- what was committed is what was asked
 pub record IsEntryOf (origin : Origin) (text : List ℕ) (entry : Decided) : Type 0 where
@@ -99,7 +99,7 @@ is_law all = record {
   };
 }
 
--- ---- each moment
+---- each state
 
 module _ (all : List Event) (play : Playable all) where
   abbrev At : List Action → World → Type 0
@@ -123,6 +123,6 @@ module _ (all : List Event) (play : Playable all) where
 pub holds_last : (all : List Event) → IsValid all → IsTrue (are_accepted false all) → StateAt (Holds all) (actions all) (course all)
 holds_last all valid are = at_last all (playable all valid are)
 
--- at each moment, but for the one before the opening
+-- in each state, but for the one before the opening
 pub holds_at : (all : List Event) → IsValid all → IsTrue (are_accepted false all) → (before suffix : List Action) → actions all ≡ before ++ suffix → (before ≡ []) ⊎ StateAt (Holds all) before (world_after before)
 holds_at all valid are = at_prefix all (playable all valid are)

@@ -1,5 +1,4 @@
--- What holds of the replies and the entries so far and of what the site keeps of its users, and what an ask that is heard
--- does to it.
+-- Facts of the replies and the entries so far and of the stored sessions, and what a received ask does to them.
 use Rattle.std.proofs.Common.{◌≡◌, ◌≢◌, ℕ, zero, suc, ◌<◌, ◌⊎◌, inl, inr, List, [], ◌∷◌, ◌++◌, length, Some, refl, sym, ap, subst, ◌∙◌, arith}
 use Rattle.std.specs.Prelude.{slice_get}
 use Rattle.rs_base.specs.declared.txn.Origin.{Origin}
@@ -16,7 +15,7 @@ use Rattle.rs_world.specs.declared.report.Given.{Given}
 use Rattle.rs_world.specs.Explains.{IsFinal, IsCommitted, IsGivenTruly, IsNoRequest}
 use Rattle.rs_world.proofs.Gets.{get_push}
 
--- the request that was taken last of a user
+-- the user's last accepted request
 abbrev pub last_origin : SiteState → List ℕ → Origin
 last_origin site user = record { site = site.me; user = user; epoch = site.epoch; number = (session_of user site.sessions).last }
 
@@ -27,7 +26,7 @@ pub record IsEntered (history : List Decided) (request : Origin) : Type 0 where
   pub there : slice_get history position ≡ Some entry
   pub origin : entry.origin ≡ request
 
--- the reply is the one that is kept for its user's last request
+-- the reply is the one stored for its user's last request
 pub record IsKept (site : SiteState) (reported : Given) : Type 0 where
   pub number : reported.origin.number ≡ (session_of reported.origin.user site.sessions).last
   pub reply : (session_of reported.origin.user site.sessions).reply ≡ Some reported.reply
@@ -36,7 +35,7 @@ pub record IsKept (site : SiteState) (reported : Given) : Type 0 where
 abbrev pub IsSettled : SiteState → Given → Type 0
 IsSettled site reported = (reported.origin.number < (session_of reported.origin.user site.sessions).last) ⊎ IsKept site reported
 
--- the replies that are kept
+-- the stored replies
 abbrev pub IsKeepable : Reply → Type 0
 IsKeepable (replies.Done answered) = Unit {0}
 IsKeepable (replies.Denied cause) = Unit {0}
@@ -60,7 +59,7 @@ pub record Kept (all : List Event) (site : SiteState) (reports : List Given) (hi
 pub same_origin : (a b : Origin) → a.site ≡ b.site → a.user ≡ b.user → a.epoch ≡ b.epoch → a.number ≡ b.number → a ≡ b
 same_origin a b site user epoch number = λ i. record { site = site i; user = user i; epoch = epoch i; number = number i }
 
--- what stands at a place stands there still when the list grows
+-- an element keeps its position when the list grows
 pub get_prefix : {X : Type 0} (xs ys : List X) (x : X) (i : ℕ) → slice_get xs i ≡ Some x → slice_get (xs ++ ys) i ≡ Some x
 get_prefix [] ys x i e = absurd cc
 get_prefix (z ∷ zs) ys x zero e = e
@@ -138,7 +137,7 @@ module _ (all : List Event) (site : SiteState) (reports : List Given) (history :
     entered_kept = holds.entered_kept;
   }
 
--- ---- a request is taken, and its reply kept
+---- a request is accepted, and its reply stored
 
 module _ (all : List Event) (site : SiteState) (reports : List Given) (history : List Decided) (holds : Kept all site reports history)
     (origin : Origin) (home : origin.site ≡ site.me) (next : IsNext site origin) (reply : Reply) (after : SiteState) (me : after.me ≡ site.me) (epoch : after.epoch ≡ site.epoch)
@@ -191,7 +190,7 @@ module _ (all : List Event) (site : SiteState) (reports : List Given) (history :
             subst (λ (o : Origin). IsEntered (history ++ more) o) (as_before user differ) (entered_more history more (last_origin site user) old)
       ]
 
-  -- the numbers of what was told before are below
+  -- the numbers of earlier replies are below
   settled_after : (k : ℕ) (reported : Given) → slice_get reports k ≡ Some reported → IsFinal reported.reply → IsSettled after reported
   settled_after k reported at final =
       let old = holds.settled k reported at final in
@@ -223,6 +222,6 @@ module _ (all : List Event) (site : SiteState) (reports : List Given) (history :
     entered_kept = entered_after;
   }
 
-  -- the reply that is kept then
+  -- the reply that is stored then
   pub kept_then : IsKept after (record { origin = origin; reply = reply })
   kept_then = record { number = sym (ap (λ (s : Session). s.last) (of_user origin.user refl)); reply = ap (λ (s : Session). s.reply) (of_user origin.user refl) }

@@ -1,5 +1,5 @@
--- What may happen by valid events that are accepted: site 1 is opened, and then asks of it are posted within their
--- limits, datagrams delivered, and noise given to it.
+-- The actions of valid events that are accepted: site 1 is opened, and then asks of it are posted within their limits,
+-- datagrams delivered, and noise given to it.
 use Rattle.std.proofs.Common.{◌≡◌, ◌≤◌, ℕ, zero, suc, Bool, true, false, ◌&&◌, List, [], ◌∷◌, ◌++◌, Some, None, IsTrue, refl, sym, ap, subst, ◌∙◌, arith}
 use Rattle.std.specs.Prelude.{fold, replicate, ◌==◌}
 use Rattle.std.proofs.lemmas.Bool.Decides.{nat_tests}
@@ -15,7 +15,7 @@ use Rattle.rs_world.specs.declared.world.World.{World}
 use Rattle.rs_world.specs.Course.{Action, Open, Post, Deliver, Noise, deliveries, actions_of, act, world_step, start, course}
 use Rattle.rs_world.specs.States.{actions, world_after}
 
--- the message by which a first part is asked for
+-- the message that asks for a first part
 abbrev pub ask_of : Origin → List ℕ → Ask
 ask_of origin text = record { user = origin.user; epoch = origin.epoch; number = origin.number; part = 0; text = text }
 
@@ -68,14 +68,14 @@ pub both_true : (a b : Bool) → (a && b) ≡ true → (a ≡ true) × (b ≡ tr
 both_true true b e = (refl, e)
 both_true false b e = absurd cc
 
--- an ask behind the opening is one of site 1
+-- an ask after the opening is one of site 1
 pub is_post : (origin : Origin) (text : List ℕ) → IsLater 1 (events.Ask origin text) → IsPost origin text
 is_post origin text later = record {
   site = omega (arith, later.fits.fields.site.0, later.fits.site_right);
   within = record { user = later.fits.fields.user; epoch = later.fits.fields.epoch; number = later.fits.fields.number; part = omega arith; text = later.text.short };
 }
 
--- what happens by one event
+-- the actions of one event
 played_event : (is_open : Bool) (event : Event) → IsLater 1 event → may_come is_open event ≡ true → ArePlayed (actions_of event)
 played_event is_open (events.Sites last) later may = absurd (later.fits.sites_once tt)
 played_event is_open (events.Ask origin text) later may = played_more (Post origin text) [] (is_post origin text later) played_none
@@ -95,7 +95,7 @@ played_events is_open (event ∷ others) later are =
     let parts = both_true (may_come is_open event) (are_accepted (is_open_after is_open event) others) are in
     played_both (actions_of event) (actions others) (played_event is_open event later.0 parts.0) (played_events (is_open_after is_open event) others later.1 parts.1)
 
--- Site 1 is opened, and what happens then may.
+-- Site 1 is opened, and the later actions are allowed.
 pub record Playable (given : List Event) : Type 0 where
   pub others : List Action
   pub separated : actions given ≡ Open 1 ∷ others
@@ -124,7 +124,7 @@ playable (events.Restart site ∷ others) valid are = absurd valid
 playable (events.Settle count ∷ others) valid are = absurd valid
 playable (events.Noise site bytes ∷ others) valid are = absurd valid
 
--- ---- the course as a fold of happenings
+---- the course as a fold of actions
 
 course_from : (given : List Event) (world : World) → fold world_step world given ≡ fold act world (actions given)
 course_from [] world = refl

@@ -1,4 +1,4 @@
--- What is posted and what waits, by the happenings alone.
+-- What is posted and what waits, by the actions alone.
 use Rattle.std.proofs.Common.{◌≡◌, ◌≤◌, ℕ, zero, suc, ◌+◌, ◌-◌, Bool, true, false, not, List, [], ◌∷◌, ◌++◌, length, Some, None, IsTrue, refl, ap, ◌∙◌, arith, length-append}
 use Rattle.std.specs.Prelude.{fold, flat_map, replicate}
 use Rattle.std.proofs.lemmas.List.{append-nil}
@@ -85,18 +85,18 @@ few_posts (event ∷ others) = omega (
 
 -- ---- what waits
 
--- how many asks wait after a happening
+-- the number of asks that wait after an action
 abbrev pub waits : ℕ → Action → ℕ
 waits n (Open last) = n
 waits n (Post origin text) = n + 1
 waits n Deliver = n - 1
 waits n (Noise site bytes) = n
 
--- how many wait after these happenings
+-- the number that wait after these actions
 abbrev pub waiting : List Action → ℕ
 waiting hs = fold waits 0 hs
 
--- at most one waits where an ask is unsettled, and none where none is
+-- at most one waits if an ask is unsettled, and none if none is
 abbrev pub IsCalm : Bool → ℕ → Type 0
 IsCalm true n = n ≤ 1
 IsCalm false n = n ≡ 0

@@ -1,4 +1,4 @@
--- At each moment the replies answer the asks that were delivered, and the rest of what was posted waits.
+-- In each state the replies answer the asks that were delivered, and the rest of what was posted waits.
 use Rattle.std.proofs.Common.{◌≡◌, ◌<◌, ◌≤◌, ℕ, zero, suc, ◌+◌, Bool, true, false, cond, ◌||◌, inl, inr, List, [], ◌∷◌, ◌++◌, map, length, take, Some, None, refl, sym, ap, subst, ◌∙◌, arith, length-append}
 use Rattle.std.specs.Prelude.{◌==◌}
 use Rattle.std.specs.List.{slice_get}
@@ -76,9 +76,9 @@ works_law given = record {
   received = λ before site origin text came receiving delivers cases holds. (go_on_received site origin text came cases holds.0, (entered_law given).received before site origin text came receiving delivers cases holds.1);
 }
 
--- ---- what an ask gives that is heard
+---- the output of a received ask
 
--- where no reply is kept, no request was taken
+-- if no reply is stored, no request was accepted
 pub none_kept : (session : Session) → session.reply ≡ None → last_is_answered session ≡ true → session.last ≡ 0
 none_kept session kept go =
     let none : is_there session.reply ≡ false = ap is_there kept in
@@ -104,7 +104,7 @@ module _ (site : SiteState) (origin : Origin) (text : List ℕ) (go : GoOn site)
   reported_once came (Spent next stmt reads spent e) = absurd (omega (arith, spent, room))
   reported_once came (Executed next stmt reads is e) = subst IsReplied (sym e) (append-nil (numbered origin), omega arith)
 
--- ---- what holds at each moment
+---- the facts of each state
 
 abbrev pub Posting : Type 0
 Posting = Origin × List ℕ
@@ -137,7 +137,7 @@ module _ (done : List Action) (world : World) (now : Progress done world) where
   as_many : length (posts_of done) ≡ length world.sent
   as_many = sym (ap (λ (ds : List Datagram). length ds) now.sent ∙ length-map (posts_of done) datagram_of)
 
-  -- nothing is posted, and nothing comes of it
+  -- nothing is posted, and there is no output
   on_nothing : (action : Action) → posts_in action ≡ [] → waits (waiting done) action ≡ waiting done → Progress (done ++ action ∷ []) world
   on_nothing action none same = record {
     sent = now.sent ∙ ap (λ (ps : List Posting). map datagram_of ps) (sym posts_same);
@@ -170,7 +170,7 @@ module _ (done : List Action) (world : World) (now : Progress done world) where
             | inr p ↦ subst (λ (p : Posting). IsPost p.0 p.1) p.1 is
           ]
 
-  -- an ask that waited is heard
+  -- an ask that waited is received
   on_received : (site : SiteState) (post : Posting) → slice_get (posts_of done) world.delivered ≡ Some post → (came : SiteState × Outs)
       → requests_answered (map given_of came.1.replies) ≡ numbered post.0 → length came.1.decided ≤ 1 → (w : ℕ) → waiting done ≡ suc w
       → Progress (done ++ Deliver ∷ []) (onward world came.0 (map given_of came.1.replies) came.1.decided)
@@ -191,7 +191,7 @@ module _ (done : List Action) (world : World) (now : Progress done world) where
       posts_same : posts_of (done ++ Deliver ∷ []) ≡ posts_of done
       posts_same = posts_push done Deliver ∙ append-nil (posts_of done)
 
--- ---- each moment
+---- each state
 
 module _ (given : List Event) (can : Playable given) (few : length (posts_of can.others) < last_number) where
   state_at : (done suffix : List Action) → can.others ≡ done ++ suffix → StateAt (Works given) (Open 1 ∷ done) (after done)

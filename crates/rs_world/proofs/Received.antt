@@ -1,4 +1,4 @@
--- What a happening does to a world of one site that was only asked.
+-- What an action does to a world of one site that was only asked.
 use Rattle.std.proofs.Common.{◌≡◌, ℕ, ◌+◌, ◌≤◌, Bool, true, false, cond, List, [], ◌∷◌, ◌++◌, length, Option, Some, None, refl, sym, ap, ◌∙◌, arith, nat_lt}
 use Rattle.std.specs.List.{slice_get, Contains}
 use Rattle.std.proofs.lemmas.Bool.Decides.{nat_tests}
@@ -30,7 +30,7 @@ asked_by origin text = message_bytes (messages.Ask (ask_of origin text))
 short : (bytes : List ℕ) → length bytes ≤ 32768 → nat_lt most_bytes (length bytes) ≡ false
 short bytes le = grind (arith, nat_tests, le)
 
--- a site is given what was asked of it
+-- a site receives what was asked of it
 pub step_of_ask : (site : SiteState) (origin : Origin) (text : List ℕ) → site.me ≡ 1 → IsPost origin text
     → site_step site (inputs.Datagram (peers.Client 0) (asked_by origin text)) ≡ on_first site (peers.Client 0) origin text
 unfolding site_step
@@ -39,7 +39,7 @@ step_of_ask site origin text me is =
     ∙ ap (λ (m : Option Message). on_read site (peers.Client 0) m) (ask_is_read (ask_of origin text) is.within)
     ∙ ap (λ (s : ℕ). on_first site (peers.Client 0) (record { site = s; user = origin.user; epoch = origin.epoch; number = origin.number }) text) (me ∙ sym is.site)
 
--- a site is given what is no message
+-- a site receives what is no message
 pub step_of_noise : (site : SiteState) (bytes : List ℕ) → message_of bytes ≡ None → site_step site (inputs.Datagram (peers.Client 0) bytes) ≡ no_output site
 unfolding site_step
 step_of_noise site bytes none =
@@ -58,22 +58,22 @@ pub record IsOf (world : World) (site : SiteState) : Type 0 where
   pub many : site.sites ≡ 1
   pub epoch : site.epoch ≡ 1
 
--- the world after its one site took an input, and gave this
+-- the world after its one site handled an input, with this output
 abbrev pub became : World → SiteState × Outs → World
 became world came = after_outs (record world { sites = came.0 ∷ [] }) 1 came.1
 
--- an ask that waits is heard
+-- an ask that waits is received
 abbrev pub receiving : World → SiteState × Outs → World
 receiving world came = became (record world { delivered = world.delivered + 1 }) came
 
--- the one site takes an input
+-- the one site handles an input
 accepted_alone : (world : World) (site : SiteState) (input : Input) (to : ℕ) (came : SiteState × Outs) → world.sites ≡ site ∷ [] → to ≡ 1 → site_step site input ≡ came → stepped_by world to input ≡ became world came
 accepted_alone world site input to came sites one step =
     ap (λ (n : ℕ). stepped_by world n input) one
     ∙ ap (λ (all : List SiteState). stepped (record world { sites = all }) 1 input (slice_get all 0)) sites
     ∙ ap (λ (p : SiteState × Outs). became world p) step
 
--- nothing comes of an input that is dropped
+-- a dropped input has no output
 became_no_output : (world : World) (site : SiteState) → world.sites ≡ site ∷ [] → became world (no_output site) ≡ world
 became_no_output world site sites =
     ap (λ (all : List SiteState). record world { sites = all; sent = world.sent ++ []; replies = world.replies ++ []; history = world.history ++ [] }) (sym sites)
@@ -81,7 +81,7 @@ became_no_output world site sites =
     ∙ ap (λ (xs : List _). record world { replies = xs; history = world.history ++ [] }) (append-nil world.replies)
     ∙ ap (λ (xs : List _). record world { history = xs }) (append-nil world.history)
 
--- What a happening does behind those before.
+-- What an action does after those before.
 pub data Does (before : List Action) (world : World) (site : SiteState) (action : Action) : Type 0 where
   Posts : (origin : Origin) → (text : List ℕ) → IsPost origin text → action ≡ Post origin text → Does before world site action
   Receives : (origin : Origin) → (text : List ℕ) → IsPost origin text → Contains before (Post origin text) → action ≡ Deliver → slice_get world.sent world.delivered ≡ Some (ask_datagram origin text)
@@ -97,7 +97,7 @@ pub record IsAsked (before : List Action) (datagram : Datagram) : Type 0 where
   pub posted : Contains before (Post origin text)
 
 module _ (before : List Action) (world : World) (site : SiteState) (one : IsOf world site) where
-  -- the ask that waits longest is heard by a delivery
+  -- the ask that waits longest is received by a delivery
   pub receives_next : (origin : Origin) (text : List ℕ) → IsPost origin text → slice_get world.sent world.delivered ≡ Some (ask_datagram origin text)
       → act world Deliver ≡ receiving world (on_first site (peers.Client 0) origin text)
   receives_next origin text post there =

@@ -1,4 +1,4 @@
--- Each reply of a report was true when it was given, and a text that was told to be no request is none.
+-- Each reply of a report was true when it was given, and a text that was refused has no supported statement.
 use Rattle.std.proofs.Common.{◌≡◌, ℕ, List, Some, false, IsTrue}
 use Rattle.std.specs.List.{slice_get}
 use Rattle.rs_base.specs.declared.reply.Reply.TheVariants as replies

@@ -1,4 +1,4 @@
--- What a request is told again is what it was told first.
+-- A repeated reply is the first one.
 use Rattle.std.proofs.Common.{◌≡◌, ℕ, List, Some, false, IsTrue}
 use Rattle.std.specs.List.{slice_get}
 use Rattle.rs_sched.specs.declared.event.Event.{Event}

@@ -1,4 +1,4 @@
--- An entry whose reply was given before the request of another was asked stands before that.
+-- An entry whose reply was given before the request of another was asked comes before that.
 use Rattle.std.proofs.Common.{◌≡◌, ◌≢◌, ℕ, ◌<◌, inl, inr, List, [], ◌++◌, length, Some, false, IsTrue, sym, subst, ◌∙◌, arith}
 use Rattle.std.specs.List.{slice_get, Contains}
 use Rattle.std.proofs.lemmas.Bool.{cases_lt, cases_order}
@@ -27,7 +27,7 @@ one_place history distinct i j a b at_a at_b same =
       | inr (inr lt) ↦ absurd ((distinct j i b a lt at_b at_a).1 (sym same))
     ]
 
--- what stands below the front's end stands in the front
+-- an element before the prefix's end is in the prefix
 at_start : (prefix more : List Decided) (entry : Decided) (j : ℕ) → slice_get (prefix ++ more) j ≡ Some entry → j < length prefix → slice_get prefix j ≡ Some entry
 at_start prefix more entry j at lt =
     let found = get_at prefix j lt in
@@ -51,7 +51,7 @@ nothing_replied before none k given at = nothing (subst (λ (hs : List Action). 
     nothing : slice_get [] k ≡ Some given → ⊥
     nothing e = cc
 
--- by that no two entries have one request, and that the history at each moment is a front of the last
+-- since no two entries have one request, and the history in each state is a prefix of the last
 pub after_what_was_reported : (all : List Event) → IsValid all → IsTrue (are_accepted false all) → AreDistinct (report_of (course all)).history
     → ((before suffix : List Action) → actions all ≡ before ++ suffix → (more : List Decided) × ((report_of (course all)).history ≡ (world_after before).history ++ more))
     → (before suffix : List Action) (k i j : ℕ) (given : Given) (a b : Decided)

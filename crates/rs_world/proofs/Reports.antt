@@ -1,4 +1,4 @@
--- What an ask that is heard gives, case by case, keeps what holds of the replies, the entries and the sessions.
+-- The output of a received ask, case by case, keeps the facts of the replies, the entries and the sessions.
 use Rattle.std.proofs.Common.{◌≡◌, ◌≤◌, ℕ, List, [], ◌∷◌, ◌++◌, length, map, Some, None, Ok, Err, refl, sym, ap, subst, ◌∙◌}
 use Rattle.std.specs.Prelude.{slice_get}
 use Rattle.std.proofs.lemmas.List.{append-nil}
@@ -72,7 +72,7 @@ pub get_last : {X : Type 0} (xs : List X) (x : X) → slice_get (xs ++ x ∷ [])
 get_last [] x = refl
 get_last (y ∷ ys) x = get_last ys x
 
--- ---- an ask is heard
+---- an ask is received
 
 module _ (all : List Event) (before : List Action) (site : SiteState) (from : Peer) (origin : Origin) (text : List ℕ) (receives : Receives all before site origin text)
     (short : length text ≤ 8192) (home : origin.site ≡ site.me) (reports : List Given) (history : List Decided) (number : length (world_after before).replies ≡ length reports)
@@ -80,7 +80,7 @@ module _ (all : List Event) (before : List Action) (site : SiteState) (from : Pe
   abbrev replied_as : Reply → Given
   replied_as reply = record { origin = origin; reply = reply }
 
-  -- the delivery by which it is heard gives these replies
+  -- the delivery by which it is received gives these replies
   abbrev Gives : List Given → Type 0
   Gives more = (world_after (before ++ Deliver ∷ [])).replies ≡ reports ++ more
 

@@ -1,4 +1,4 @@
--- At each moment behind the opening the world has one site, and what was sent was asked of it.
+-- In each state after the opening the world has one site, and what was sent was asked of it.
 use Rattle.std.proofs.Common.{◌≡◌, ℕ, inl, inr, List, [], ◌∷◌, ◌++◌, Some, refl, sym, subst, ◌∙◌}
 use Rattle.std.specs.List.{slice_get, Contains}
 use Rattle.std.proofs.lemmas.List.Elements.{Contains-append_left, Contains-push}

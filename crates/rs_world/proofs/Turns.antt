@@ -1,4 +1,4 @@
--- What the next world is by a happening: an ask is posted, nothing comes of it, or an ask is heard.
+-- The next world by an action: an ask is posted, nothing comes of it, or an ask is received.
 use Rattle.std.proofs.Common.{◌≡◌, ℕ, ◌+◌, List, [], ◌∷◌, ◌++◌, map, Some, ap, ◌∙◌}
 use Rattle.std.specs.Prelude.{flat_map}
 use Rattle.std.specs.List.{slice_get, Contains}
@@ -18,14 +18,14 @@ use Rattle.rs_world.specs.Course.{Action, Post, Deliver, sent_by, given_of, ask_
 use Rattle.rs_world.proofs.Received.{IsOf, IsAsked, Does, Posts, Receives, Stays, receiving, receives_next, does}
 use Rattle.rs_world.proofs.Played.{IsPost, IsPlayed}
 
--- the happening is a delivery, by which this ask is heard
+-- the action is a delivery, by which this ask is received
 pub record IsReceived (before : List Action) (world : World) (action : Action) (origin : Origin) (text : List ℕ) : Type 0 where
   pub post : IsPost origin text
   pub posted : Contains before (Post origin text)
   pub deliver : action ≡ Deliver
   pub next : slice_get world.sent world.delivered ≡ Some (ask_datagram origin text)
 
--- the world behind a delivery: its site is this one now, and it gave these replies and committed these executions
+-- the world after a delivery: its site is this one now, and it gave these replies and committed these executions
 abbrev pub onward : World → SiteState → List Given → List Decided → World
 onward world site givens entries = record { sites = site ∷ []; sent = world.sent; delivered = world.delivered + 1; replies = world.replies ++ givens; history = world.history ++ entries }
 
@@ -48,7 +48,7 @@ receives_on world came none =
     let sent : world.sent ++ flat_map (sent_by 1) came.1.sends ≡ world.sent = ap (λ (sends : List (Peer × List ℕ)). world.sent ++ flat_map (sent_by 1) sends) none ∙ append-nil world.sent in
     ap (λ (all : List Datagram). record { sites = came.0 ∷ []; sent = all; delivered = world.delivered + 1; replies = world.replies ++ map given_of came.1.replies; history = world.history ++ came.1.decided }) sent
 
--- the world behind the delivery of the ask that waits longest
+-- the world after the delivery of the ask that waits longest
 pub turns_received : (before : List Action) (world : World) (site : SiteState) → IsOf world site → (origin : Origin) (text : List ℕ) → IsPost origin text → slice_get world.sent world.delivered ≡ Some (ask_datagram origin text)
     → act world Deliver ≡ onward world (on_first site (peers.Client 0) origin text).0 (map given_of (on_first site (peers.Client 0) origin text).1.replies) (on_first site (peers.Client 0) origin text).1.decided
 turns_received before world site one origin text post there =

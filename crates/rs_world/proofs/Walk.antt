@@ -1,4 +1,4 @@
--- What holds after the opening, and is kept by each happening, holds at each moment.
+-- A fact that holds after the opening, and is kept by each action, holds in each state.
 use Rattle.std.proofs.Common.{◌≡◌, List, [], ◌∷◌, ◌++◌, sym, subst, ◌∙◌, append_assoc}
 use Rattle.std.proofs.lemmas.List.{append-nil}
 use Rattle.std.proofs.lemmas.List.Sums.{fold_push}
@@ -7,7 +7,7 @@ use Rattle.rs_world.specs.Course.{Action, Open, act, start}
 use Rattle.rs_world.specs.States.{world_after}
 use Rattle.rs_world.proofs.Played.{IsPlayed, ArePlayed, played_first}
 
--- the world after the opening of site 1 and these happenings
+-- the world after the opening of site 1 and these actions
 abbrev pub after : List Action → World
 after done = world_after (Open 1 ∷ done)
 

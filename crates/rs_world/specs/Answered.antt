@@ -1,5 +1,5 @@
--- Each ask is answered: it has one reply, in the order of the asks; and a request that its site takes stands in the history, or
--- is told that it is none. So it is where an ask is settled before the next one comes.
+-- Each ask is answered: it has one reply, in the order of the asks; and a request that its site accepts is in the history,
+-- or its text has no supported statement. This holds if each ask is settled before the next one comes.
 use Rattle.std.specs.Prelude.{◌≡◌, ℕ, ◌<◌, ◌==◌, List, [], ◌∷◌, length, flat_map, if◌then◌else◌, Some, None}
 use Rattle.std.specs.List.{slice_get, Contains}
 use Rattle.rs_base.specs.declared.txn.Origin.{Origin}
@@ -43,7 +43,7 @@ requests_asked given = flat_map asked_by given
 abbrev pub requests_answered : List Given → List Origin
 requests_answered givens = flat_map (λ given. numbered given.origin) givens
 
--- The number 0 in the site's epoch, before a request of the user was taken: no reply is kept that could be told.
+-- The number 0 in the site's epoch, before a request of the user was accepted: no reply is stored that could be sent.
 pub record NamesNone (site : SiteState) (origin : Origin) : Type 0 where
   pub epoch : origin.epoch ≡ site.epoch
   pub number : origin.number ≡ 0
@@ -60,12 +60,12 @@ pub record IsEntered (history : List Decided) (origin : Origin) (text : List ℕ
 pub record EachAskIsAnswered (given : List Event) (report : Report) : Type 0 where
   -- the replies answer the requests that are asked, each ask once, in their order
   pub in_order : requests_answered report.replies ≡ requests_asked given
-  -- the delivery by which a site hears an ask gives it a reply
+  -- the delivery by which a site receives an ask gives it a reply
   pub when_received : (before : List Action) (site : SiteState) (origin : Origin) (text : List ℕ) → Contains given (events.Ask origin text) → Receives given before site origin text → (NamesNone site origin → ⊥)
       → (reply : Reply) × (slice_get report.replies (length (world_after before).replies) ≡ Some (record { origin = origin; reply = reply }))
-  -- a request that its site takes is entered
+  -- a request that its site accepts is entered
   pub entered : (origin : Origin) (text : List ℕ) (stmt : Stmt) → Contains given (events.Ask origin text) → Accepts given origin text → statement_of text ≡ Some stmt → IsEntered report.history origin text
-  -- one whose text is no request is told so
+  -- a text without a supported statement is answered so
   pub no_request_replied : (origin : Origin) (text : List ℕ) → Contains given (events.Ask origin text) → Accepts given origin text → statement_of text ≡ None → Contains report.replies (record { origin = origin; reply = replies.Syntax (offset_replied text) })
 
 -- there are fewer events than a site has transactions in an epoch, so that each ask may have one

@@ -1,4 +1,4 @@
--- The course of events: what the world is after each. An event is a list of happenings, and the world is a fold of them.
+-- The course of events: the world after each. An event is a list of actions, and the world is a fold of them.
 use Rattle.std.specs.Prelude.{ℕ, ◌+◌, ◌-◌, List, [], ◌∷◌, ◌++◌, map, slice_set, fold, flat_map, replicate, Option, Some, None}
 use Rattle.std.specs.List.{slice_get, range_with_len}
 use Rattle.rs_base.specs.declared.peer.Peer.{Peer}
@@ -26,9 +26,9 @@ use Rattle.rs_world.specs.declared.world.World.{World}
 abbrev pub start : World
 start = record { sites = []; sent = []; delivered = 0; replies = []; history = [] }
 
--- ---- a site takes an input
+---- a site handles an input
 
--- what is sent to a site is numbered and kept; what goes to a client isn't
+-- what is sent to a site is numbered and stored; what goes to a client isn't
 abbrev pub sent_by : ℕ → Peer × List ℕ → List Datagram
 sent_by site (peers.Site to, bytes) = (record { from = peers.Site site; to = to; bytes = bytes }) ∷ []
 sent_by site (peers.Client port, bytes) = []
@@ -36,7 +36,7 @@ sent_by site (peers.Client port, bytes) = []
 abbrev pub given_of : Told → Given
 given_of reported = record { origin = reported.origin; reply = reported.reply }
 
--- what came out of a step of this site
+-- the output of a step of this site
 abbrev pub after_outs : World → ℕ → Outs → World
 after_outs world site outs = record world {
   sent = world.sent ++ flat_map (sent_by site) outs.sends;
@@ -50,11 +50,11 @@ stepped world number input (Some site) =
     let step = site_step site input in
     after_outs (record world { sites = slice_set world.sites (number - 1) step.0 }) number step.1
 
--- the site of this number takes an input, where there is one
+-- the site of this number handles an input, if there is one
 abbrev pub stepped_by : World → ℕ → Input → World
 stepped_by world number input = stepped world number input (slice_get world.sites (number - 1))
 
--- ---- happenings
+---- actions
 
 pub data Action : Type 0 where
   Open : (last : ℕ) → Action  -- sites 1 to this one are opened
@@ -86,7 +86,7 @@ act world (Noise site bytes) = received world site bytes (message_of bytes)
 
 -- ---- events
 
--- as many deliveries as a settle without a count makes at most
+-- the largest number of deliveries of a settle without a count
 unfoldable pub deliveries : List Action
 deliveries = replicate 16777216 Deliver
 

@@ -1,4 +1,4 @@
--- The sites of a world: what they are, and what comes out, where the one of a place takes an input.
+-- The sites of a world: their states, and the output when the one of a number handles an input.
 use Rattle.std.specs.Prelude.{ℕ, List, slice_set, Option, Some, None}
 use Rattle.rs_site.specs.declared.input.Input.{Input}
 use Rattle.rs_site.specs.declared.outs.Outs.{Outs}

@@ -1,4 +1,4 @@
-//! What happens to a world, one thing at a time.
+//! The actions of a world, one at a time.
 
 ghost use Rattle.std.specs.Prelude.{◌≡◌, replicate, fold, IfOk, OnOk, IsTrue, ◌↔◌, ◌≤◌, length};
 ghost use Rattle.rs_msg.specs.declared.message.Message.TheVariants as messages;
@@ -12,10 +12,10 @@ use rs_msg::{Ask, Message, decode, encode};
 use rs_site::Input;
 use std::alloc::Global;
 
-/// How many deliveries a settle without a count makes at most.
+/// The largest number of deliveries of a settle without a count.
 const MOST_DELIVERIES: usize = 16_777_216;
 
-/// The datagram of a client's ask of a first part.
+/// Makes the datagram of a client's ask of a first part.
 fn ask_datagram(alloc: Global, origin: &Origin, text: &Bytes) -> Result<Datagram, NoMemory>
     ensures { IfOk result (λ datagram. datagram ≡ spec.ask_datagram origin.now text.now) }
 {
@@ -35,7 +35,7 @@ fn ask_datagram(alloc: Global, origin: &Origin, text: &Bytes) -> Result<Datagram
     })
 }
 
-/// What a site is given of a datagram, which is kept.
+/// Makes the input of a copied datagram.
 fn input_of(alloc: Global, from: Peer, bytes: &Bytes) -> Result<Input, NoMemory>
     ensures { IfOk result (λ input. input ≡ inputs.Datagram from bytes.now) }
 {
@@ -62,7 +62,7 @@ impl World {
         Ok(())
     }
 
-    /// A site is given bytes, where they are no message.
+    /// Gives a site bytes, if they are no message.
     pub(crate) fn receive_noise(
         &mut self,
         alloc: Global,
@@ -87,7 +87,7 @@ impl World {
         self.sent.len() <= self.delivered
     }
 
-    /// The first datagram that wasn't delivered yet is, if there is one.
+    /// Delivers the first datagram that wasn't delivered yet, if there is one.
     fn deliver_next(&mut self, alloc: Global) -> Result<(), NoMemory>
         ensures { OnOk result (self.new ≡ spec.act self.old spec.Deliver) }
     {
@@ -100,7 +100,7 @@ impl World {
         self.take_input(alloc, site, &input)
     }
 
-    /// So many deliveries at most. Where nothing is left to deliver, no more are made.
+    /// Delivers at most `most` datagrams, and no more than are left.
     #[tactic(auto, using(crate::proofs::Deliveries::none_left, crate::proofs::Deliveries::one_of))]
     fn deliver_most(&mut self, alloc: Global, most: usize) -> Result<(), NoMemory>
         ensures { OnOk result (self.new ≡ fold spec.act self.old (replicate most spec.Deliver)) }

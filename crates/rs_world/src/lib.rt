@@ -1,4 +1,4 @@
-//! A world of sites: what becomes of it by the events of a schedule, and what it reports.
+//! A world of sites: its course by the events of a schedule, and its report.
 #![tactic(auto)]
 
 mod action;

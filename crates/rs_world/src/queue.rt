@@ -1,4 +1,4 @@
-//! Lists whose items are moved out, from the first on.
+//! Lists whose items are moved out from the first on.
 
 ghost use Rattle.std.specs.Prelude.{◌≡◌, reverse, IfOk};
 
@@ -6,7 +6,7 @@ use rs_base::{NoMemory, with_room};
 use sqlite_items::Items;
 use std::alloc::Global;
 
-/// The items in reverse order, so that the last that is taken out of them is the last of `items`.
+/// Reverses the items, so that popping them gives the first first.
 pub fn reversed<T: Drop>(alloc: Global, mut items: Items<T>) -> Result<Items<T>, NoMemory>
     ensures { IfOk result (λ reversed. reverse reversed ≡ items) }
 {

@@ -1,4 +1,4 @@
-//! A site of the world takes an input.
+//! A site of the world handles an input.
 
 ghost use Rattle.std.specs.Prelude.{◌≡◌, ◌++◌, map, flat_map, OnOk};
 ghost use Rattle.rs_world.specs.Course as spec;
@@ -11,7 +11,7 @@ use rs_site::{Input, Outs, Tolds};
 use sqlite_items::Items;
 use std::alloc::Global;
 
-/// What one send of this site adds to the datagrams: nothing where it goes to a client.
+/// Appends one send of this site to the datagrams, unless it goes to a client.
 fn send_one(
     sent: &mut Items<Datagram>,
     site: SiteNo,
@@ -73,7 +73,7 @@ impl World {
         Ok(())
     }
 
-    /// The site of this number takes an input, where there is one.
+    /// Gives the site of this number an input, if there is such a site.
     pub(crate) fn take_input(
         &mut self,
         alloc: Global,
