@@ -17,7 +17,7 @@ use Rattle.rs_ast.specs.declared.select.TableRef.{TableRef}
 use Rattle.rs_ast.specs.declared.token.Symbol.TheVariants as symbols
 use Rattle.rs_ast.specs.declared.token.Token.{Token}
 use Rattle.rs_ast.specs.declared.token.Token.TheVariants as tokens
-use Rattle.rs_ast.specs.Spelled.{comma, spelled_list, spelled_ref, symbol_of, spelled_operand, spelled_cmp, spelled_cmps, spelled_clause, spelled_where, spelled_function, spelled_item, spelled_items, spelled_distinct, spelled_alias, spelled_table_ref, spelled_group, spelled_by, spelled_falling, spelled_key, spelled_order, spelled_answered, spelled_from, spelled_select}
+use Rattle.rs_ast.specs.Spelled.{comma, spelled_list, spelled_ref, symbol_of, spelled_operand, spelled_cmp, spelled_cmps, spelled_clause, spelled_where, spelled_function, spelled_item, spelled_items, spelled_distinct, spelled_alias, spelled_table_ref, spelled_group, spelled_by, spelled_direction, spelled_key, spelled_order, spelled_select_list, spelled_from, spelled_select}
 use Rattle.rs_parse.specs.Phrases.{Phrase, Spell, Optional, IsList, AtMost}
 use Rattle.rs_parse.specs.Grammar.{IsSymbol, IsIdent, IsOp, IsOperand, IsCmp, IsClause, IsWhere, IsOfColumn, IsListed, IsItem, IsItems, IsDistinct, IsTableRef, IsGroup, IsKeyBy, IsDirection, IsKey, IsOrder, IsSelect}
 use Rattle.rs_parse.proofs.TokenForms.{AreFormed}
@@ -135,8 +135,8 @@ key_by_respelled (keys.Col c) = col_ref_respelled c
 key_by_respelled (keys.Place n) = kept_respelled (n < 2 ^ 32) (token_respelled (tokens.Number n))
 
 -- ASC isn't printed
-direction_respelled : (desc : Bool) → IsRespelled (IsDirection desc) (spelled_falling desc)
-unfolding spelled_falling
+direction_respelled : (desc : Bool) → IsRespelled (IsDirection desc) (spelled_direction desc)
+unfolding spelled_direction
 direction_respelled false = record { respelled = λ ts is formed. (inl refl, tt) }
 direction_respelled true = word_respelled (codes "desc")
 
@@ -162,7 +162,7 @@ tables_respelled : (tables : List TableRef) → IsRespelled (AtMost 6 (IsListed 
 tables_respelled tables = at_most_respelled 6 (list_respelled comma table_ref_respelled) tables
 
 pub select_respelled : (select : Select) → IsRespelled (IsSelect select) (spelled_select select)
-unfolding spelled_select spelled_answered spelled_from
+unfolding spelled_select spelled_select_list spelled_from
 select_respelled select =
     let distinct = spelled_distinct select.distinct in
     let separated_list = spelled_items select.items in
