@@ -16,11 +16,11 @@ pub enum Event {
     Lose(u64),
     /// Ticks a site this number of times, from 1 to 1,000.
     Tick(SiteNo, u32),
-    /// Stops a site. Of its disk's writes since the last sync the first ones are kept, by their number, and of the next
-    /// write the first bytes, by their number.
+    /// Stops a site. The second field is the number of its disk's writes since the last sync that are kept, and the third
+    /// the number of bytes that are kept of the next write.
     Stop(SiteNo, u64, u64),
-    /// Makes a site's disk fail at a later call, counted from 1, where the site stops as by `Stop`, with the same numbers of
-    /// writes and bytes.
+    /// Makes a site's disk fail at a later call. The second field is the number of that call, from 1, and the site stops
+    /// there as by `Stop` with the last two fields.
     Arm(SiteNo, u64, u64, u64),
     /// Opens a stopped site.
     Restart(SiteNo),
