@@ -1,4 +1,4 @@
--- Each test of a token is passed by that token alone.
+-- Each test of a token holds of that token only.
 use Rattle.std.proofs.Common.{◌≡◌, ℕ, true, List, refl, ap, rules}
 use Rattle.std.proofs.lemmas.Bool.{false≢true}
 use Rattle.std.proofs.lemmas.Slice.Eq.{bytes_eq-Decides}

@@ -22,7 +22,7 @@ goes_on_symbol symbols.Less b = b == 61 || b == 62
 goes_on_symbol symbols.Greater b = b == 61
 goes_on_symbol symbol b = false
 
--- whether a token's text and this byte behind it begin another token, or a longer one
+-- whether a token's text and this byte after it begin another token, or a longer one
 abbrev pub goes_on : Token → ℕ → Bool
 goes_on (tokens.Word word) b = is_word_byte b
 goes_on (tokens.Number n) b = is_word_byte b
@@ -41,7 +41,7 @@ or_right : (a b : Bool) → b ≡ true → (a || b) ≡ true
 or_right true b h = refl
 or_right false b h = h
 
--- a mark that touches a word begins with one of six bytes
+-- a symbol that touches a word begins with one of six bytes
 begins_symbol : (p : ℕ → Bool) → p 40 ≡ false → p 41 ≡ false → p 44 ≡ false → p 46 ≡ false → p 59 ≡ false → p 64 ≡ false
     → (symbol : Symbol) → (same_symbol symbol symbols.Open || closes_up symbol) ≡ true → begins p (printed_symbol symbol) ≡ false
 unfolding same_symbol closes_up printed_symbol
@@ -102,7 +102,7 @@ symbol_apart before symbols.NotEqual u h = begins_never (goes_on_symbol symbols.
 symbol_apart before symbols.LessOrEqual u h = begins_never (goes_on_symbol symbols.LessOrEqual) (λ b. refl) (printed_token u)
 symbol_apart before symbols.GreaterOrEqual u h = begins_never (goes_on_symbol symbols.GreaterOrEqual) (λ b. refl) (printed_token u)
 
--- Where u stands behind t without a space, the text of t doesn't go on with the first byte of u.
+-- If u follows t without a space, the first byte of u doesn't continue the text of t.
 pub touching_apart : (before : Ending) (t u : Token) → touches (ending_after before t) u ≡ true → begins (goes_on t) (printed_token u) ≡ false
 unfolding ending_after
 touching_apart before (tokens.Word word) u h = begins_token is_word_byte refl refl refl refl refl refl u (touches_word (is_function word) u h)

@@ -1,4 +1,4 @@
--- The text of a statement: its tokens, with a space between two but where they touch.
+-- The text of a statement: its tokens, with a space between two unless they touch.
 use Rattle.std.specs.Prelude.{ℕ, Bool, true, false, ◌||◌, List, [], ◌∷◌, ◌++◌, map, codes, decimal, if◌then◌else◌}
 use Rattle.std.specs.Char.{to_ascii_uppercase}
 use Rattle.rs_base.specs.Printing.{printed_text}
@@ -15,7 +15,7 @@ use Rattle.rs_ast.specs.Spelled.{spelled_stmt}
 
 -- ---- tokens
 
--- a reserved word stands in upper case
+-- a reserved word is printed in upper case
 unfoldable pub printed_word : List ℕ → List ℕ
 printed_word word = if is_reserved word then map to_ascii_uppercase word else word
 
@@ -43,13 +43,13 @@ printed_token (tokens.Number n) = decimal n
 printed_token (tokens.Text text) = printed_text text
 printed_token (tokens.Symbol symbol) = printed_symbol symbol
 
--- ---- what stands without a space
+-- ---- tokens without a space before them
 
--- the words that take an argument in brackets
+-- the aggregate functions
 unfoldable pub is_function : List ℕ → Bool
 is_function word = is_among (codes "count" ∷ codes "sum" ∷ codes "min" ∷ codes "max" ∷ []) word
 
--- a minus behind a mark, or in front of all, is a sign
+-- a minus after a symbol, or at the start, is a sign
 unfoldable pub ending_minus : Ending → Ending
 ending_minus endings.Start = endings.Tight
 ending_minus endings.Tight = endings.Tight
@@ -65,14 +65,14 @@ ending_symbol before symbols.Colon = endings.Tight
 ending_symbol before symbols.Minus = ending_minus before
 ending_symbol before symbol = endings.Symbol
 
--- what the text ends with, once this token stands behind what it ended with before
+-- what the text ends with after this token, by what it ended with before
 unfoldable pub ending_after : Ending → Token → Ending
 ending_after before (tokens.Word word) = if is_function word then endings.Function else endings.Other
 ending_after before (tokens.Number n) = endings.Other
 ending_after before (tokens.Text text) = endings.Other
 ending_after before (tokens.Symbol symbol) = ending_symbol before symbol
 
--- a mark that touches the token before it
+-- a symbol that touches the token before it
 unfoldable pub closes_up : Symbol → Bool
 closes_up symbols.Close = true
 closes_up symbols.Comma = true
@@ -87,7 +87,7 @@ token_closes_up (tokens.Number n) = false
 token_closes_up (tokens.Text text) = false
 token_closes_up (tokens.Symbol symbol) = closes_up symbol
 
--- whether a token touches the text before it, by what that ends with
+-- whether a token touches the text before it, by the text's ending
 unfoldable pub touches : Ending → Token → Bool
 touches endings.Start token = true
 touches endings.Tight token = true
@@ -97,7 +97,7 @@ touches endings.Other token = token_closes_up token
 
 -- ---- texts
 
--- a token behind what the text ends with
+-- a token after a text with this ending
 unfoldable pub printed_next : Ending → Token → List ℕ
 printed_next before token = if touches before token then printed_token token else 32 ∷ printed_token token
 

@@ -1,5 +1,5 @@
--- How statements are spelled: the tokens of the text that is printed for each. Words stand in lower case. A creator's
--- site without a creator has no spelling and is left out.
+-- The tokens of the text that is printed for each statement. Words are in lower case. A creator's site without a creator
+-- has no tokens and is left out.
 use Rattle.std.specs.Prelude.{ℕ, suc, ℤ, pos, negsuc, Bool, true, false, List, [], ◌∷◌, ◌++◌, flat_map, Option, Some, None, codes}
 use Rattle.rs_base.specs.declared.name.NameText.{NameText}
 use Rattle.rs_base.specs.declared.value.Kind.{Kind}
@@ -38,7 +38,7 @@ use Rattle.rs_ast.specs.declared.stmt.Stmt.TheVariants as stmts
 
 -- ---- lists
 
--- a separator, and an item that isn't the first
+-- a separator, then an item that isn't the first
 abbrev pub spelled_further : {A : Type 0} → Token → (A → List Token) → A → List Token
 spelled_further separator spelled x = separator ∷ spelled x
 
@@ -53,7 +53,7 @@ comma = tokens.Symbol symbols.Comma
 abbrev pub between_brackets : List Token → List Token
 between_brackets inside = tokens.Symbol symbols.Open ∷ inside ++ tokens.Symbol symbols.Close ∷ []
 
--- a list in brackets, with commas
+-- a list in parentheses, separated by commas
 unfoldable pub spelled_tuple : {A : Type 0} → (A → List Token) → List A → List Token
 spelled_tuple spelled xs = between_brackets (spelled_list comma spelled xs)
 
@@ -62,12 +62,12 @@ spelled_tuple spelled xs = between_brackets (spelled_list comma spelled xs)
 abbrev pub spelled_ident : List ℕ → List Token
 spelled_ident name = tokens.Word name ∷ []
 
--- the site behind a name
+-- the site after a name
 unfoldable pub spelled_site : Option ℕ → List Token
 spelled_site None = []
 spelled_site (Some site) = tokens.Symbol symbols.At ∷ tokens.Number site ∷ []
 
--- who created the object, in front of it
+-- the creator, before the object
 unfoldable pub spelled_creator : Option (List ℕ) → Option ℕ → List Token
 spelled_creator None site = []
 spelled_creator (Some creator) site = tokens.Word creator ∷ spelled_site site ++ tokens.Symbol symbols.Dot ∷ []
@@ -79,16 +79,16 @@ unfoldable pub spelled_kind : Kind → List Token
 spelled_kind kinds.Int = tokens.Word (codes "int") ∷ []
 spelled_kind kinds.Text = tokens.Word (codes "text") ∷ []
 
--- a column as a table declares it
+-- a column definition
 unfoldable pub spelled_column : ColDef → List Token
 spelled_column column = tokens.Word column.name ∷ spelled_kind column.kind
 
--- the table in front of its column
+-- the table, before its column
 unfoldable pub spelled_table : Option (List ℕ) → List Token
 spelled_table None = []
 spelled_table (Some table) = tokens.Word table ∷ tokens.Symbol symbols.Dot ∷ []
 
--- a column as a statement names it
+-- a reference to a column
 unfoldable pub spelled_ref : ColRef → List Token
 spelled_ref ref = spelled_table ref.table ++ tokens.Word ref.column ∷ []
 
@@ -105,7 +105,7 @@ spelled_value (values.Text text) = tokens.Text text ∷ []
 abbrev pub spelled_param : List ℕ → List Token
 spelled_param param = tokens.Symbol symbols.Colon ∷ tokens.Word param ∷ []
 
--- ---- clauses
+-- ---- predicates
 
 unfoldable pub symbol_of : Op → Symbol
 symbol_of ops.Eq = symbols.Equal
@@ -126,7 +126,7 @@ spelled_cmp cmp = spelled_ref cmp.left ++ tokens.Symbol (symbol_of cmp.op) ∷ s
 abbrev pub spelled_any : List Cmp → List Token
 spelled_any cmps = between_brackets (spelled_list (tokens.Word (codes "or")) spelled_cmp cmps)
 
--- one comparison stands without brackets
+-- a single comparison has no parentheses
 unfoldable pub spelled_cmps : List Cmp → List Token
 spelled_cmps [] = spelled_any []
 spelled_cmps (cmp ∷ []) = spelled_cmp cmp
@@ -135,7 +135,7 @@ spelled_cmps (cmp ∷ next ∷ cmps) = spelled_any (cmp ∷ next ∷ cmps)
 unfoldable pub spelled_clause : Clause → List Token
 spelled_clause clause = spelled_cmps clause.any
 
--- WHERE stands only where there are clauses
+-- without clauses there is no WHERE
 unfoldable pub spelled_where : List Clause → List Token
 spelled_where [] = []
 spelled_where (clause ∷ clauses) = tokens.Word (codes "where") ∷ spelled_list (tokens.Word (codes "and")) spelled_clause (clause ∷ clauses)
@@ -175,36 +175,36 @@ unfoldable pub spelled_by : KeyBy → List Token
 spelled_by (keys.Col ref) = spelled_ref ref
 spelled_by (keys.Place n) = tokens.Number n ∷ []
 
-unfoldable pub spelled_falling : Bool → List Token
-spelled_falling false = []
-spelled_falling true = tokens.Word (codes "desc") ∷ []
+unfoldable pub spelled_direction : Bool → List Token
+spelled_direction false = []
+spelled_direction true = tokens.Word (codes "desc") ∷ []
 
 unfoldable pub spelled_key : Key → List Token
-spelled_key key = spelled_by key.by ++ spelled_falling key.desc
+spelled_key key = spelled_by key.by ++ spelled_direction key.desc
 
 unfoldable pub spelled_order : List Key → List Token
 spelled_order [] = []
 spelled_order (key ∷ more) = tokens.Word (codes "order") ∷ tokens.Word (codes "by") ∷ spelled_list comma spelled_key (key ∷ more)
 
--- what a query answers
-unfoldable pub spelled_answered : Bool → Option (List Item) → List Token
-spelled_answered distinct listed = tokens.Word (codes "select") ∷ spelled_distinct distinct ++ spelled_items listed
+-- the select list
+unfoldable pub spelled_select_list : Bool → Option (List Item) → List Token
+spelled_select_list distinct listed = tokens.Word (codes "select") ∷ spelled_distinct distinct ++ spelled_items listed
 
--- the tables of a query
+-- the tables of FROM
 unfoldable pub spelled_from : List TableRef → List Token
 spelled_from tables = tokens.Word (codes "from") ∷ spelled_list comma spelled_table_ref tables
 
 unfoldable pub spelled_select : Select → List Token
-spelled_select select = spelled_answered select.distinct select.items ++ spelled_from select.from ++ spelled_where select.clauses ++ spelled_group select.group ++ spelled_order select.order
+spelled_select select = spelled_select_list select.distinct select.items ++ spelled_from select.from ++ spelled_where select.clauses ++ spelled_group select.group ++ spelled_order select.order
 
--- ---- changes of rows
+-- ---- INSERT, UPDATE and DELETE
 
 unfoldable pub spelled_term : Term → List Token
 spelled_term (terms.Col column) = tokens.Word column ∷ []
 spelled_term (terms.Lit value) = spelled_value value
 spelled_term (terms.Param param) = spelled_param param
 
--- the terms of a row that is inserted
+-- a row of INSERT
 unfoldable pub spelled_term_row : List Term → List Token
 spelled_term_row row = spelled_tuple spelled_term row
 
@@ -213,7 +213,7 @@ arith_symbol ariths.Add = symbols.Plus
 arith_symbol ariths.Sub = symbols.Minus
 arith_symbol ariths.Mul = symbols.Star
 
--- the second term, behind what is done with it
+-- the operator and the second term
 unfoldable pub spelled_more : Option (Arith × Term) → List Token
 spelled_more None = []
 spelled_more (Some more) = tokens.Symbol (arith_symbol more.0) ∷ spelled_term more.1
@@ -232,7 +232,7 @@ spelled_dml (dmls.Delete name clauses) = tokens.Word (codes "delete") ∷ tokens
 
 -- ---- statements
 
--- a statement of a program
+-- a statement in a program's body
 unfoldable pub spelled_step : Dml → List Token
 spelled_step dml = spelled_dml dml ++ tokens.Symbol symbols.Semicolon ∷ []
 

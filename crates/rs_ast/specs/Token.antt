@@ -1,4 +1,4 @@
--- Which token it is.
+-- Tests of tokens.
 use Rattle.std.specs.Prelude.{ℕ, Bool, false, List, bytes_eq}
 use denote.Enum.Bare.{sameb}
 use Rattle.rs_ast.specs.declared.token.Symbol.{Symbol}
@@ -9,7 +9,7 @@ use Rattle.rs_ast.specs.contracts.token.Symbol.{the_type}
 unfoldable pub same_symbol : Symbol → Symbol → Bool
 same_symbol = sameb the_type
 
--- this word, in lower case
+-- the token is this word, in lower case
 abbrev pub is_word : List ℕ → Token → Bool
 is_word word (tokens.Word w) = bytes_eq w word
 is_word word (tokens.Number n) = false

@@ -1,8 +1,9 @@
-//! What INSERT and UPDATE put into rows.
+//! The values of INSERT and the assignments of UPDATE.
 
 use rs_base::{Ident, Value};
 use sqlite_items::Items;
 
+/// An arithmetic operator.
 #[derive(Clone, Copy, Debug, PartialEq, Eq)]
 pub enum Arith {
     Add,
@@ -10,7 +11,7 @@ pub enum Arith {
     Mul,
 }
 
-/// A column of the row, a value, or a parameter.
+/// A term: a column of the row, a constant, or a parameter.
 #[derive(Debug, Drop)]
 pub enum Term {
     Col(Ident),
@@ -18,22 +19,25 @@ pub enum Term {
     Param(Ident),
 }
 
+/// A row of INSERT.
 pub type TermRow = Items<Term>;
 
+/// The rows of INSERT.
 pub type TermRows = Items<TermRow>;
 
-/// A term, or two that are added, subtracted or multiplied.
+/// An expression: a term, or two terms that are added, subtracted or multiplied.
 #[derive(Debug, Drop)]
 pub struct Expr {
     pub first: Term,
     pub more: Option<(Arith, Term)>,
 }
 
-/// A column and what it is set to.
+/// An assignment of an expression to a column.
 #[derive(Debug, Drop)]
 pub struct Set {
     pub column: Ident,
     pub expr: Expr,
 }
 
+/// The assignments of UPDATE.
 pub type Sets = Items<Set>;

@@ -1,10 +1,10 @@
-//! What WHERE asks of a row.
+//! The predicate of WHERE: a conjunction of clauses, each a disjunction of comparisons.
 
 use crate::column::ColRef;
 use rs_base::{Ident, Value};
 use sqlite_items::Items;
 
-/// How two values are compared.
+/// A comparison operator.
 #[derive(Clone, Copy, Debug, PartialEq, Eq)]
 pub enum Op {
     Eq,
@@ -15,7 +15,7 @@ pub enum Op {
     Ge,
 }
 
-/// What a column is compared with.
+/// The right operand of a comparison: a column, a constant, or a parameter.
 #[derive(Debug, Drop)]
 pub enum Operand {
     Col(ColRef),
@@ -23,7 +23,7 @@ pub enum Operand {
     Param(Ident),
 }
 
-/// A comparison.
+/// A comparison of a column with an operand.
 #[derive(Debug, Drop)]
 pub struct Cmp {
     pub left: ColRef,
@@ -31,13 +31,14 @@ pub struct Cmp {
     pub right: Operand,
 }
 
+/// The comparisons of a clause.
 pub type Cmps = Items<Cmp>;
 
-/// Comparisons of which one has to hold.
+/// A disjunction of comparisons.
 #[derive(Debug, Drop)]
 pub struct Clause {
     pub any: Cmps,
 }
 
-/// Clauses that all have to hold.
+/// A predicate: a conjunction of clauses. Without clauses each row satisfies it.
 pub type Clauses = Items<Clause>;

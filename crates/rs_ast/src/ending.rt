@@ -1,20 +1,20 @@
-//! Which tokens stand without a space before them.
+//! Spacing of printed tokens: which ones follow the text before them without a space.
 
 ghost use Rattle.std.specs.Prelude.{◌≡◌};
 ghost use Rattle.rs_ast.specs.Printed as spec;
 
 use crate::token::{Symbol, Token};
 
-/// What a text ends with, as far as the next token asks.
+/// What a text ends with, as far as it decides the space before the next token.
 #[derive(Clone, Copy, Debug, PartialEq, Eq)]
 pub enum Ending {
-    /// Nothing stands before.
+    /// The text is empty.
     Start,
-    /// A mark that the next token touches, or a sign.
+    /// A symbol that is followed by no space, or a sign.
     Tight,
-    /// A word that takes an argument in brackets.
+    /// The name of an aggregate function.
     Function,
-    /// Another mark.
+    /// Another symbol.
     Symbol,
     /// Another token.
     Other,
@@ -77,9 +77,9 @@ impl Ending {
         }
     }
 
-    /// What the text ends with once `token` stands behind it.
+    /// Returns what the text ends with after `token` is appended.
     #[tactic(auto, unfolding(crate::specs::Printed::ending_after))]
-    pub fn suffix(self, token: &Token) -> Ending
+    pub fn after(self, token: &Token) -> Ending
         ensures { result ≡ spec.ending_after self token.now }
     {
         match token {
@@ -96,7 +96,7 @@ impl Ending {
         }
     }
 
-    /// Whether `token` touches it.
+    /// Returns whether `token` follows without a space.
     #[tactic(auto, unfolding(crate::specs::Printed::touches))]
     pub fn touches(self, token: &Token) -> bool
         ensures { result ≡ spec.touches self token.now }

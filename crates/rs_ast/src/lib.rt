@@ -1,5 +1,4 @@
-//! Statements: as a text's tokens spell them, the text that is printed for each, and their parts once names are bound to
-//! columns.
+//! The syntax tree of statements, its printing as tokens and text, and its bound form, whose columns are column indexes.
 #![tactic(auto)]
 
 mod bound;

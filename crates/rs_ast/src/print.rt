@@ -1,4 +1,4 @@
-//! The text of a statement.
+//! Printing of statements.
 
 ghost use Rattle.std.specs.Prelude.{◌≡◌, ◌++◌, map, drop, take, OnOk, OnErr};
 ghost use Rattle.std.specs.Char.{to_ascii_uppercase};
@@ -76,7 +76,7 @@ fn put_token(alloc: Global, out: &mut Bytes, token: &Token) -> Result<(), NoMemo
     }
 }
 
-/// A token behind what the text ends with.
+/// Appends a token, after a space where the text's ending requires one.
 #[tactic(auto, unfolding(crate::specs::Printed::printed_next))]
 fn put_next(alloc: Global, out: &mut Bytes, before: Ending, token: &Token) -> Result<(), NoMemory>
     ensures { OnOk result (out.new ≡ out.old ++ spec.printed_next before token.now) }
@@ -93,12 +93,13 @@ fn put_tokens(alloc: Global, out: &mut Bytes, tokens: &[Token]) -> Result<(), No
     let mut ending = Ending::Start;
     for token in tokens {
         put_next(alloc, out, ending, token)?;
-        ending = ending.suffix(token);
+        ending = ending.after(token);
     }
     Ok(())
 }
 
-/// Prints a statement as a text that reads as it does. Where memory is wanting, the bytes stay as they were.
+/// Appends the text of a statement to `out`: reserved words in upper case, and a space between two tokens unless they
+/// touch. On out of memory nothing changes. Linear in the text's length.
 pub fn print_stmt(alloc: Global, stmt: &Stmt, out: &mut Bytes) -> Result<(), NoMemory>
     ensures ok { OnOk result (out.new ≡ out.old ++ spec.printed_stmt stmt.now) }
     ensures err { OnErr result (out.new ≡ out.old) }

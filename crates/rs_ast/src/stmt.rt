@@ -1,4 +1,4 @@
-//! Statements: flat plain data.
+//! The syntax tree of statements.
 
 use crate::change::{Sets, TermRows};
 use crate::clause::Clauses;
@@ -26,8 +26,10 @@ pub enum Dml {
     },
 }
 
+/// The statements of a program.
 pub type Dmls = Items<Dml>;
 
+/// A list of identifiers.
 pub type Idents = Items<Ident>;
 
 /// A statement.

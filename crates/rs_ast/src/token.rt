@@ -1,4 +1,4 @@
-//! The tokens of a text.
+//! The tokens of statements.
 
 ghost use Rattle.std.specs.Prelude.{◌≡◌, IfOk};
 ghost use Rattle.rs_ast.specs.Token as spec;
@@ -7,7 +7,7 @@ use rs_base::{Ident, NoMemory, Txt};
 use sqlite_items::Items;
 use std::alloc::Global;
 
-/// A mark of one or two characters.
+/// A symbol of one or two characters.
 #[derive(Clone, Copy, Debug, PartialEq, Eq)]
 pub enum Symbol {
     Open,
@@ -28,7 +28,7 @@ pub enum Symbol {
     GreaterOrEqual,
 }
 
-/// A token: a word in lower case, a number, a text without its quotes, or a mark.
+/// A token: a word in lower case, a number, a text literal without its quotes, or a symbol.
 #[derive(Debug, Drop)]
 pub enum Token {
     Word(Ident),
@@ -37,6 +37,7 @@ pub enum Token {
     Symbol(Symbol),
 }
 
+/// A list of tokens.
 pub type Tokens = Items<Token>;
 
 #[tactic(auto, unfolding(crate::specs::Token::same_symbol))]
@@ -47,7 +48,7 @@ fn same_symbol(symbol: Symbol, other: Symbol) -> bool
 }
 
 impl Token {
-    /// Whether it is this mark.
+    /// Returns whether the token is this symbol.
     pub fn is_symbol(&self, symbol: Symbol) -> bool
         ensures { result ≡ spec.is_symbol symbol self.now }
     {
@@ -59,7 +60,7 @@ impl Token {
         }
     }
 
-    /// Whether it is this word, which is given in lower case.
+    /// Returns whether the token is this word, which is given in lower case.
     pub fn is_word(&self, word: &[u8]) -> bool
         ensures { result ≡ spec.is_word word.now self.now }
     {
@@ -71,6 +72,7 @@ impl Token {
         }
     }
 
+    /// Copies the token. Fails if an allocation fails.
     pub fn copy(&self, alloc: Global) -> Result<Token, NoMemory>
         ensures { IfOk result (λ token. token ≡ self.now) }
     {

@@ -1,4 +1,4 @@
--- Counts, integers and texts: each has one spelling, which is made of bytes.
+-- Counts, integers and texts: each has one encoding, which consists of bytes.
 use Rattle.std.proofs.Common.{◌≡◌, ℕ, ◌+◌, ◌^◌, ◌<◌, ◌≤◌, ℤ, pos, negsuc, List, ◌++◌, length, take, drop, refl, sym, ap, subst, ◌∙◌, arith, append_assoc, length-append}
 use Rattle.std.specs.Prelude.{FitsSigned}
 use Rattle.std.specs.Int.{w64}
@@ -44,11 +44,11 @@ each_int z h = each_count (count_of z) (count_below z h)
 
 -- ---- texts
 
--- fronts of one length of one list
+-- prefixes of one length of one list
 same_prefixes : (x y r s : List ℕ) → length x ≡ length y → x ++ r ≡ y ++ s → x ≡ y
 same_prefixes x y r s len e = sym (take_at x r (length y) len) ∙ ap (take (length y)) e ∙ take_at y s (length y) refl
 
--- the text behind its count
+-- the count, then the text
 pub suffix_count : (a r text : List ℕ) (p : IsText a text) → a ++ r ≡ p.count ++ (text ++ r)
 suffix_count a r text p = ap (λ (xs : List ℕ). xs ++ r) p.parts ∙ append_assoc p.count text r
 
@@ -68,14 +68,14 @@ each_text text h =
 pub bytes_of_text : (bytes text : List ℕ) → IsText bytes text → AreBytes text → AreBytes bytes
 bytes_of_text bytes text p are = subst AreBytes (sym p.parts) (All-append (λ b. b < 256) p.count text (bytes_of_count p.count (length text) p.counted) are)
 
--- no count stands there
+-- without a count there is no text
 pub none_no_count : (bytes : List ℕ) → NoneBegins IsCount bytes → NoneBegins IsText bytes
 none_no_count bytes none text encoding rest p e = none (length text) p.count (text ++ rest) p.counted (e ∙ suffix_count encoding rest text p)
 
 pub length_of_text : (bytes text : List ℕ) → IsText bytes text → length bytes ≡ count_size (length text) + length text
 length_of_text bytes text p = ap length p.parts ∙ length-append p.count text ∙ ap (λ (n : ℕ). n + length text) (length_of_count p.count (length text) p.counted)
 
--- a count stands there, and then fewer bytes than it says
+-- a count with fewer bytes after it than it says is no text
 pub none_short : (bytes suffix : List ℕ) (n : ℕ) → Takes IsCount bytes suffix n → length suffix < n → NoneBegins IsText bytes
 none_short bytes suffix n t short text encoding rest p e =
     let both : t.encoding ++ suffix ≡ p.count ++ (text ++ rest) = sym t.parts ∙ e ∙ suffix_count encoding rest text p in
@@ -83,7 +83,7 @@ none_short bytes suffix n t short text encoding rest p e =
     let texts : suffix ≡ text ++ rest = append_cancel_left p.count suffix (text ++ rest) (ap (λ (xs : List ℕ). xs ++ suffix) (sym same.0) ∙ both) in
     omega (arith, same.1, ap length texts, length-append text rest)
 
--- a count stands there, and then as many bytes as it says
+-- a count with as many bytes after it as it says is a text
 pub takes_text : (bytes suffix text new : List ℕ) (n : ℕ) → Takes IsCount bytes suffix n → n ≤ length suffix → text ≡ take n suffix → new ≡ drop n suffix → Takes IsText bytes new text
 takes_text bytes suffix text new n t within prefix back =
     let len : length text ≡ n = omega (arith, ap length prefix, length-take n suffix) in

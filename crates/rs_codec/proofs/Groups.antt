@@ -1,4 +1,4 @@
--- Numbers in groups of seven bits: how a spelling is made, what it tells, and how it is written.
+-- Numbers in groups of seven bits: their encoding exists, is unique and prefix-free, and is what code writes and reads.
 use Rattle.std.proofs.Common.{◌≡◌, ℕ, zero, suc, ◌+◌, ◌-◌, ◌*◌, ◌/◌, ◌%◌, ◌^◌, ◌<◌, ◌≤◌, List, [], ◌∷◌, ◌++◌, length, set, take, refl, sym, ap, subst, ◌∙◌, arith, inl, inr, append_assoc}
 use Rattle.std.specs.List.{All}
 use Rattle.std.proofs.lemmas.Bool.{cases_lt}
@@ -9,7 +9,7 @@ use Rattle.rs_base.specs.Sizes.{groups_within}
 use Rattle.rs_base.proofs.SizeLaws.{groups_last, groups_more}
 use Rattle.rs_codec.specs.Encoding.{IsGroups, Takes}
 
--- one more group below those of what is above it
+-- a low group added to the groups of the higher bits
 pub longer : (b n high : ℕ) (bytes : List ℕ) → 128 ≤ b → b < 256 → 0 < high → n + 128 ≡ b + 128 * high → IsGroups bytes high → IsGroups (b ∷ bytes) n
 longer b n high [] from below more parts g = absurd g
 longer b n high (c ∷ bs) from below more parts g = (from, below, high, more, parts, g)
@@ -57,7 +57,7 @@ bytes_of_groups (b ∷ c ∷ bs) n g = All-cons (λ b. b < 256) b (c ∷ bs) g.1
 
 -- ---- writing
 
--- what spells the rest completes the number
+-- any encoding of the rest completes the number's
 abbrev pub Completes : List ℕ → ℕ → ℕ → Type 0
 Completes prefix rest n = (tail : List ℕ) → IsGroups tail rest → IsGroups (prefix ++ tail) n
 
@@ -73,7 +73,7 @@ writes_last bytes at rest n within last so_far = subst (λ (xs : List ℕ). IsGr
 
 -- ---- reading
 
--- no number up to a limit is spelled at the front of the bytes
+-- no encoding of a number up to the limit begins the bytes
 abbrev pub NoneUpTo : ℕ → List ℕ → Type 0
 NoneUpTo limit bytes = (n : ℕ) (encoding rest : List ℕ) → n ≤ limit → IsGroups encoding n → bytes ≡ encoding ++ rest → ⊥
 
@@ -113,7 +113,7 @@ takes_more bytes others suffix first high e large below more t = record {
   parts = e ∙ ap (λ (xs : List ℕ). first ∷ xs) t.parts;
 }
 
--- ---- the room of ten bytes
+-- ---- ten bytes suffice
 
 pub room_left : (at rest : ℕ) → at < 9 → rest < 2 * 128 ^ (9 - at) → rest / 128 < 2 * 128 ^ (9 - (at + 1))
 room_left at rest within below =
@@ -122,7 +122,7 @@ room_left at rest within below =
     let wide : rest < 2 * 128 ^ suc (9 - (at + 1)) = subst (λ (i : ℕ). rest < 2 * 128 ^ i) k below in
     omega (arith, one, wide)
 
--- what is left behind nine bytes has room in the tenth
+-- what is left after nine bytes fits the tenth
 pub writes_tenth : (bytes : List ℕ) (at rest n : ℕ) → length bytes ≡ 10 → at ≡ 9 → rest < 2 * 128 ^ (9 - at) → Completes (take at bytes) rest n → IsGroups (take 10 (set bytes 9 rest)) n
 writes_tenth bytes at rest n len is_ninth below so_far =
     let last : rest < 2 * 128 ^ (9 - 9) = subst (λ (i : ℕ). rest < 2 * 128 ^ (9 - i)) is_ninth below in
@@ -131,7 +131,7 @@ writes_tenth bytes at rest n len is_ninth below so_far =
 
 -- ---- how many groups there are
 
--- a number below 128 ^ (more + 1) has so many above the first, and no more
+-- a number below 128 ^ (more + 1) has at most `more` groups after the first
 pub length_of_groups : (bytes : List ℕ) (more n : ℕ) → IsGroups bytes n → n < 128 ^ suc more → length bytes ≡ groups_within more n
 length_of_groups [] more n g below = absurd g
 length_of_groups (b ∷ []) more n g below = sym (groups_last more n (omega (arith, g.0, g.1)))

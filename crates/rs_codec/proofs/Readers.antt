@@ -1,4 +1,4 @@
--- Readers of fields: what is read is spelled so, and what is spelled so is read, whatever stands behind it.
+-- Readers of fields: a value is read exactly if its encoding begins the bytes, whatever follows it.
 use Rattle.std.proofs.Common.{◌≡◌, ℕ, zero, suc, ◌+◌, ◌-◌, ◌*◌, ◌%◌, ◌^◌, ◌<◌, ℤ, pos, negsuc, Bool, cond, true, false, leb, ltb, eqb, List, [], ◌∷◌, ◌++◌, length, take, drop, Option, Some, None, refl, sym, ap, subst, ◌∙◌, arith, ◌⊎◌, inl, inr, length-append}
 use Rattle.std.specs.Prelude.{bytes_eq}
 use Rattle.std.specs.Int.{w32, w64, to_be_bytes, from_be_bytes}
@@ -18,11 +18,11 @@ use Rattle.rs_codec.proofs.Encodings.{suffix_count, takes_text}
 
 -- ---- steps
 
--- a step, and what comes of its value
+-- a step that gave a value, and the value's continuation
 pub bind_at : {A B : Type 0} (read : Option A) (f : A → Option B) (x : A) → read ≡ Some x → (read >>= f) ≡ f x
 bind_at read f x e = ap (λ (o : Option _). o >>= f) e
 
--- a test that had to fail
+-- a test that had to fail, since a value was given
 pub passed : {A : Type 0} (test : Bool) (read : Option A) (y : A) → cond test None read ≡ Some y → (test ≡ false) × (read ≡ Some y)
 passed true read y e = absurd cc
 passed false read y e = (refl, e)
@@ -48,11 +48,11 @@ module _ {X : Type 0} (IsX : List ℕ → X → Type 0) (x_at : List ℕ → Opt
   pub read_by : ((encoding rest : List ℕ) (x : X) → IsX encoding x → x_at (encoding ++ rest) ≡ Some (x, rest)) → ((bytes rest : List ℕ) (x : X) → x_at bytes ≡ Some (x, rest) → Takes IsX bytes rest x) → IsReadBy IsX x_at
   read_by forth back bytes rest x = (λ t. ap x_at t.parts ∙ forth t.encoding rest x t.encoded, λ e. back bytes rest x e)
 
-  -- where no field begins, none is read
+  -- if no encoding begins the bytes, none is read
   pub ends_there : IsReadBy IsX x_at → (bytes : List ℕ) → NoneBegins IsX bytes → x_at bytes ≡ None
   ends_there reads bytes none = none_from (x_at bytes) (λ x e. let t = (reads bytes x.1 x.0).1 e in none x.0 t.encoding x.1 t.encoded t.parts)
 
-  -- a spelling is read, whatever stands behind it
+  -- an encoding is read, whatever follows it
   pub read_again : IsReadBy IsX x_at → (encoding rest : List ℕ) (x : X) → IsX encoding x → x_at (encoding ++ rest) ≡ Some (x, rest)
   read_again reads encoding rest x is = (reads (encoding ++ rest) rest x).0 (record { encoding = encoding; encoded = is; parts = refl })
 

@@ -1,4 +1,4 @@
--- The fields of messages: what is read is what is spelled, and nothing is spelled in two ways.
+-- The fields of messages: reading and encoding are inverse, and a value has one encoding.
 use Rattle.std.proofs.Common.{◌≡◌, ℕ, ◌^◌, ◌<◌, ◌≤◌, Bool, cond, true, ◌&&◌, leb, List, [], ◌∷◌, ◌++◌, length, Option, Some, None, refl, sym, ap, subst, ◌∙◌, arith, append_assoc}
 use Rattle.std.specs.Int.{w32, w64, to_be_bytes}
 use Rattle.std.proofs.lemmas.Bool.{and_parts, and_from, leb-true, le-leb}
@@ -18,13 +18,13 @@ use Rattle.rs_msg.specs.Limits.{ask_limit, IsAskWithin, IsOriginWithin, IsReplyW
 use Rattle.rs_msg.specs.Message.{IsAsk, IsOrigin, IsReply}
 use Rattle.rs_msg.specs.Reader.{user_at, short_text_at, site_at, origin_at, ask_at, reply_at}
 
--- ---- what was taken
+-- ---- consumed bytes
 
--- two parts in a row
+-- two parts joined
 joins : (bytes prefix middle back rest : List ℕ) → bytes ≡ prefix ++ middle → middle ≡ back ++ rest → bytes ≡ (prefix ++ back) ++ rest
 joins bytes prefix middle back rest e f = e ∙ ap (λ (bs : List ℕ). prefix ++ bs) f ∙ sym (append_assoc prefix back rest)
 
--- parts in a row, and what stands behind them
+-- parts in a row, and the bytes after them
 spread_3 : (bytes a b c rest : List ℕ) → bytes ≡ a ++ b ++ c → bytes ++ rest ≡ a ++ (b ++ (c ++ rest))
 spread_3 bytes a b c rest p = ap (λ (bs : List ℕ). bs ++ rest) p ∙ append_assoc (a ++ b) c rest ∙ append_assoc a b (c ++ rest)
 
@@ -50,7 +50,7 @@ takes_byte bytes rest n e =
     let t = (byte_read bytes rest n).1 e in
     t.parts ∙ ap (λ (bs : List ℕ). bs ++ rest) t.encoded.1
 
--- ---- what is read
+-- ---- numbers are read
 
 reads_u32 : (rest : List ℕ) (n : ℕ) → n < 2 ^ 32 → u32_at (to_be_bytes w32 n ++ rest) ≡ Some (n, rest)
 reads_u32 rest n below = read_again IsU32 u32_at u32_read (to_be_bytes w32 n) rest n (below, refl)
@@ -61,7 +61,7 @@ reads_u64 rest n below = read_again IsU64 u64_at u64_read (to_be_bytes w64 n) re
 -- ---- fields with a test
 
 module _ {X : Type 0} (IsX : List ℕ → X → Type 0) (x_at : List ℕ → Option (X × List ℕ)) (test : X → Bool) where
-  -- such a field, where the test holds of it
+  -- a field whose value satisfies the test
   abbrev pub IsTested : List ℕ → X → Type 0
   IsTested bytes x = IsX bytes x × (test x ≡ true)
 
@@ -210,15 +210,15 @@ origin_read = read_by IsOrigin origin_at origin_forth origin_back
 
 -- ---- replies
 
-reply_taken : (bytes r1 r2 r3 rest origin said : List ℕ) (reply : ReplyPart) → IsReplyWithin reply → IsOrigin origin reply.origin → IsText said reply.bytes
-    → bytes ≡ origin ++ r1 → r1 ≡ to_be_bytes w32 reply.part ++ r2 → r2 ≡ to_be_bytes w32 reply.parts ++ r3 → r3 ≡ said ++ rest → Takes IsReply bytes rest reply
-reply_taken bytes r1 r2 r3 rest origin said reply within origin_is said_is e1 e2 e3 e4 =
+reply_taken : (bytes r1 r2 r3 rest origin body : List ℕ) (reply : ReplyPart) → IsReplyWithin reply → IsOrigin origin reply.origin → IsText body reply.bytes
+    → bytes ≡ origin ++ r1 → r1 ≡ to_be_bytes w32 reply.part ++ r2 → r2 ≡ to_be_bytes w32 reply.parts ++ r3 → r3 ≡ body ++ rest → Takes IsReply bytes rest reply
+reply_taken bytes r1 r2 r3 rest origin body reply within origin_is body_is e1 e2 e3 e4 =
     let part = to_be_bytes w32 reply.part in
     let all = to_be_bytes w32 reply.parts in
     record {
-      encoding = origin ++ part ++ all ++ said;
-      encoded = record { within = within; origin = origin; origin_is = origin_is; said = said; said_is = said_is; parts = refl };
-      parts = joins bytes (origin ++ part ++ all) r3 said rest
+      encoding = origin ++ part ++ all ++ body;
+      encoded = record { within = within; origin = origin; origin_is = origin_is; body = body; body_is = body_is; parts = refl };
+      parts = joins bytes (origin ++ part ++ all) r3 body rest
           (joins bytes (origin ++ part) r2 all r3
           (joins bytes origin r1 part r2 e1 e2) e3) e4;
     }
@@ -233,29 +233,29 @@ reply_back bytes rest reply e =
     let origin = (origin_read bytes a.0.1 a.0.0).1 a.1 in
     let part = takes_u32 a.0.1 b.0.1 b.0.0 b.1 in
     let all = takes_u32 b.0.1 c.0.1 c.0.0 c.1 in
-    let said = (text_read c.0.1 d.0.1 d.0.0).1 d.1 in
+    let body = (text_read c.0.1 d.0.1 d.0.0).1 d.1 in
     let found : ReplyPart = record { origin = a.0.0; part = b.0.0; parts = c.0.0; bytes = d.0.0 } in
-    let within : IsReplyWithin found = record { origin = origin.encoded.within; part = part.0; parts = all.0; bytes = said.encoded.counted.below } in
+    let within : IsReplyWithin found = record { origin = origin.encoded.within; part = part.0; parts = all.0; bytes = body.encoded.counted.below } in
     subst (λ (p : ReplyPart × List ℕ). Takes IsReply bytes p.1 p.0) (same_Some (found, d.0.1) (reply, rest) d.2)
-    (reply_taken bytes a.0.1 b.0.1 c.0.1 d.0.1 origin.encoding said.encoding found within origin.encoded said.encoded origin.parts part.1 all.1 said.parts)
+    (reply_taken bytes a.0.1 b.0.1 c.0.1 d.0.1 origin.encoding body.encoding found within origin.encoded body.encoded origin.parts part.1 all.1 body.parts)
 
 reply_forth : (encoding rest : List ℕ) (reply : ReplyPart) → IsReply encoding reply → reply_at (encoding ++ rest) ≡ Some (reply, rest)
 unfolding reply_at
 reply_forth encoding rest reply is =
-    let said = is.said ++ rest in
-    let all = to_be_bytes w32 reply.parts ++ said in
+    let body = is.body ++ rest in
+    let all = to_be_bytes w32 reply.parts ++ body in
     let part = to_be_bytes w32 reply.part ++ all in
-    let parts : encoding ++ rest ≡ is.origin ++ part = spread_4 encoding is.origin (to_be_bytes w32 reply.part) (to_be_bytes w32 reply.parts) is.said rest is.parts in
+    let parts : encoding ++ rest ≡ is.origin ++ part = spread_4 encoding is.origin (to_be_bytes w32 reply.part) (to_be_bytes w32 reply.parts) is.body rest is.parts in
     let one = ap origin_at parts ∙ read_again IsOrigin origin_at origin_read is.origin part reply.origin is.origin_is in
     bind_at (origin_at (encoding ++ rest)) _ (reply.origin, part) one
     ∙ bind_at (u32_at part) _ (reply.part, all) (reads_u32 all reply.part is.within.part)
-    ∙ bind_at (u32_at all) _ (reply.parts, said) (reads_u32 said reply.parts is.within.parts)
-    ∙ bind_at (text_at said) _ (reply.bytes, rest) (read_again IsText text_at text_read is.said rest reply.bytes is.said_is)
+    ∙ bind_at (u32_at all) _ (reply.parts, body) (reads_u32 body reply.parts is.within.parts)
+    ∙ bind_at (text_at body) _ (reply.bytes, rest) (read_again IsText text_at text_read is.body rest reply.bytes is.body_is)
 
 pub reply_read : IsReadBy IsReply reply_at
 reply_read = read_by IsReply reply_at reply_forth reply_back
 
--- ---- one spelling
+-- ---- uniqueness
 
 pub once_ask : IsEncodedOnce IsAsk
 once_ask a b ask p q =
@@ -268,5 +268,5 @@ once_origin a b origin p q =
 
 pub once_reply : IsEncodedOnce IsReply
 once_reply a b reply p q =
-    let fixed = λ (origin said : List ℕ). origin ++ to_be_bytes w32 reply.part ++ to_be_bytes w32 reply.parts ++ said in
-    p.parts ∙ ap (λ (origin : List ℕ). fixed origin p.said) (once_origin p.origin q.origin reply.origin p.origin_is q.origin_is) ∙ ap (λ (said : List ℕ). fixed q.origin said) (once_text p.said q.said reply.bytes p.said_is q.said_is) ∙ sym q.parts
+    let fixed = λ (origin body : List ℕ). origin ++ to_be_bytes w32 reply.part ++ to_be_bytes w32 reply.parts ++ body in
+    p.parts ∙ ap (λ (origin : List ℕ). fixed origin p.body) (once_origin p.origin q.origin reply.origin p.origin_is q.origin_is) ∙ ap (λ (body : List ℕ). fixed q.origin body) (once_text p.body q.body reply.bytes p.body_is q.body_is) ∙ sym q.parts

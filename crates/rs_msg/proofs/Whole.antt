@@ -1,4 +1,4 @@
--- Whole messages: what is read is what is spelled, and each message is spelled in one way.
+-- Whole messages: reading and encoding are inverse, and a message has one encoding.
 use Rattle.std.proofs.Common.{◌≡◌, ℕ, ◌^◌, ◌<◌, ◌≤◌, cond, ◌&&◌, eqb, leb, List, [], ◌∷◌, ◌++◌, length, Option, Some, None, Result, Ok, Err, IfOk, IsTrue, refl, sym, ap, subst, ◌∙◌, arith, inl, inr}
 use Rattle.std.proofs.lemmas.Bool.{and_parts, leb-true, eqb-true}
 use Rattle.std.proofs.lemmas.List.{append-nil}
@@ -17,26 +17,26 @@ use Rattle.rs_msg.specs.declared.message.Message.{Message}
 use Rattle.rs_msg.specs.declared.message.Message.TheVariants as messages
 use Rattle.rs_msg.specs.Limits.{IsWithin}
 use Rattle.rs_msg.specs.Message.{magic, IsAsk, IsReply, IsMessage}
-use Rattle.rs_msg.specs.Reader.{ask_at, reply_at, as_ask, as_reply, fields_at, kind_at, message_at, alone, message_of}
+use Rattle.rs_msg.specs.Reader.{ask_at, reply_at, as_ask, as_reply, fields_at, kind_at, message_at, if_at_end, message_of}
 use Rattle.rs_msg.specs.Written.{ask_bytes, origin_bytes, reply_bytes, message_bytes}
 use Rattle.rs_msg.proofs.Parts.{takes_byte, ask_read, reply_read, once_ask, once_reply}
 
--- ---- what is spelled is read
+-- ---- what is encoded is read
 
 forth : (bytes : List ℕ) (m : Message) → IsMessage bytes m → message_of bytes ≡ Some m
 unfolding message_of message_at
 forth bytes (messages.Ask ask) is =
     let read : ask_at is.0 ≡ Some (ask, []) = ap ask_at (sym (append-nil is.0)) ∙ read_again IsAsk ask_at ask_read is.0 [] ask is.1 in
-    ap message_of is.2 ∙ ap (λ (o : Option (Ask × List ℕ)). (o >>= as_ask) >>= alone) read
+    ap message_of is.2 ∙ ap (λ (o : Option (Ask × List ℕ)). (o >>= as_ask) >>= if_at_end) read
 forth bytes (messages.Reply reply) is =
     let read : reply_at is.0 ≡ Some (reply, []) = ap reply_at (sym (append-nil is.0)) ∙ read_again IsReply reply_at reply_read is.0 [] reply is.1 in
-    ap message_of is.2 ∙ ap (λ (o : Option (ReplyPart × List ℕ)). (o >>= as_reply) >>= alone) read
+    ap message_of is.2 ∙ ap (λ (o : Option (ReplyPart × List ℕ)). (o >>= as_reply) >>= if_at_end) read
 
--- ---- what is read is spelled so
+-- ---- what is read is encoded
 
-alone_is : (x : Message × List ℕ) (m : Message) → alone x ≡ Some m → x ≡ (m, [])
-alone_is (message, []) m e = ap (λ (n : Message). (n, [])) (same_Some message m e)
-alone_is (message, b ∷ bytes) m e = absurd cc
+if_at_end_is : (x : Message × List ℕ) (m : Message) → if_at_end x ≡ Some m → x ≡ (m, [])
+if_at_end_is (message, []) m e = ap (λ (n : Message). (n, [])) (same_Some message m e)
+if_at_end_is (message, b ∷ bytes) m e = absurd cc
 
 ask_is : (fields : List ℕ) (m : Message) → (ask_at fields >>= as_ask) ≡ Some (m, []) → IsMessage (magic ∷ 1 ∷ fields) m
 ask_is fields m e =
@@ -68,8 +68,8 @@ fields_are kind fields m e =
 back : (bytes : List ℕ) (m : Message) → message_of bytes ≡ Some m → IsMessage bytes m
 unfolding message_of message_at
 back bytes m e =
-    let s = bind_some (message_at bytes) alone m e in
-    let read : message_at bytes ≡ Some (m, []) = s.1 ∙ ap (λ (x : Message × List ℕ). Some x) (alone_is s.0 m s.2) in
+    let s = bind_some (message_at bytes) if_at_end m e in
+    let read : message_at bytes ≡ Some (m, []) = s.1 ∙ ap (λ (x : Message × List ℕ). Some x) (if_at_end_is s.0 m s.2) in
     let first = bind_some (byte_at bytes) _ (m, []) read in
     let marked = held (eqb first.0.0 magic) (kind_at first.0.1) (m, []) first.2 in
     let kind = bind_some (byte_at first.0.1) _ (m, []) marked.1 in
@@ -81,7 +81,7 @@ back bytes m e =
 pub message_read : (bytes : List ℕ) (m : Message) → (IsMessage bytes m → message_of bytes ≡ Some m) × (message_of bytes ≡ Some m → IsMessage bytes m)
 message_read bytes m = (forth bytes m, back bytes m)
 
--- ---- one spelling, of one message
+-- ---- uniqueness
 
 pub once_message : (a b : List ℕ) (m : Message) → IsMessage a m → IsMessage b m → a ≡ b
 once_message a b (messages.Ask ask) p q = p.2 ∙ ap (λ (bs : List ℕ). magic ∷ 1 ∷ bs) (once_ask p.0 q.0 ask p.1 q.1) ∙ sym q.2
@@ -90,7 +90,7 @@ once_message a b (messages.Reply reply) p q = p.2 ∙ ap (λ (bs : List ℕ). ma
 pub one_message : (bytes : List ℕ) (m n : Message) → IsMessage bytes m → IsMessage bytes n → m ≡ n
 one_message bytes m n p q = same_Some m n (sym (forth bytes m p) ∙ forth bytes n q)
 
--- ---- as it is written
+-- ---- the function gives encodings
 
 pub length_ident : (bytes : List ℕ) → IsTrue (is_ident bytes) → length bytes ≤ 24
 length_ident bytes is =
@@ -119,8 +119,8 @@ written_message (messages.Reply reply) w =
         within = w;
         origin = origin_bytes reply.origin;
         origin_is = record { within = w.origin; user = text_bytes reply.origin.user; user_is = written_text reply.origin.user small; parts = refl };
-        said = text_bytes reply.bytes;
-        said_is = written_text reply.bytes w.bytes;
+        body = text_bytes reply.bytes;
+        body_is = written_text reply.bytes w.bytes;
         parts = refl;
       },
       refl,

@@ -1,4 +1,4 @@
--- The spelling of a message that is within its limits, as a function of it.
+-- The encoding of a message that is within its limits, as a function of it.
 use Rattle.std.specs.Prelude.{ℕ, List, ◌∷◌, ◌++◌}
 use Rattle.std.specs.Int.{w32, w64, to_be_bytes}
 use Rattle.rs_base.specs.declared.txn.Origin.{Origin}

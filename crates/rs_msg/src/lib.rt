@@ -1,4 +1,4 @@
-//! The messages of sites and clients: how each is spelled in a datagram, and read again.
+//! The messages between sites and clients, and their encoding as datagrams.
 #![tactic(auto)]
 
 mod laws;

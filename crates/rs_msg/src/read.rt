@@ -1,4 +1,4 @@
-//! The message of bytes.
+//! The decoder of messages.
 
 ghost use Rattle.std.specs.Prelude.{Some, IfOk};
 ghost use Rattle.rs_base.specs.Reading.{Reads, Gives};
@@ -125,7 +125,8 @@ fn read_whole(alloc: Global, bytes: &[u8]) -> Result<Message, ReadFault>
     }
 }
 
-/// The message that these bytes spell. Where they spell none the fault is `Malformed`.
+/// Decodes a whole datagram. Fails with `Malformed` only if the bytes are the encoding of no message, and with
+/// `NoMemory` if an allocation fails. Linear in the datagram's length.
 pub fn decode(alloc: Global, bytes: &[u8]) -> Result<Message, ReadFault>
     ensures found { IfOk result (λ message. IsMessage bytes.now message) }
     ensures only { (message : Message) → IsMessage bytes.now message → Gives (λ m. m) result (Some message) }

@@ -1,4 +1,4 @@
--- Bytes in two parts at a mark: what is read is written so, and what is written is read.
+-- Bytes split at a separator: reading and writing are inverse.
 use Rattle.std.proofs.Common.{◌≡◌, ℕ, ◌⊎◌, Bool, true, false, ◌&&◌, not, eqb, leb, List, [], ◌∷◌, ◌++◌, length, take, drop, Some, IsTrue, refl, sym, ap, ◌∙◌, suc, ◌+◌, inl, inr, arith}
 use Rattle.std.specs.List.{list_all, prefix_len}
 use Rattle.std.proofs.lemmas.Bool.{and_parts, and_from, eq-eqb}
@@ -31,7 +31,7 @@ suffix_is prefix (b ∷ left) x e = let same = same_Some (prefix, left) x e in (
 suc_of : (n : ℕ) → 1 + n ≡ suc n
 suc_of n = omega arith
 
--- what stands behind those before the mark begins with it
+-- the bytes after the prefix begin with the separator
 first_suffix : (separator : ℕ) (bytes : List ℕ) (b : ℕ) (rest : List ℕ) → drop (prefix_len (is_before separator) bytes) bytes ≡ b ∷ rest → b ≡ separator
 first_suffix separator [] b rest e = absurd cc
 first_suffix separator (c ∷ bytes) b rest e = by_first (eqb_tells c separator) e (first_suffix separator bytes b rest)
@@ -48,7 +48,7 @@ separated_is separator bytes x e =
     let first = first_suffix separator bytes parts.0 x.1 parts.1 in
     sym (take-append-drop len bytes) ∙ ap (λ (rest : List ℕ). take len bytes ++ rest) parts.1 ∙ ap (λ (prefix : List ℕ). prefix ++ (parts.0 ∷ x.1)) parts.2 ∙ ap (λ (b : ℕ). x.0 ++ (b ∷ x.1)) first
 
--- ---- bytes without the mark
+-- ---- bytes without the separator
 
 all_before : (p : ℕ → Bool) (separator : ℕ) → p separator ≡ false → (bytes : List ℕ) → list_all p bytes ≡ true → list_all (is_before separator) bytes ≡ true
 all_before p separator h [] all = refl

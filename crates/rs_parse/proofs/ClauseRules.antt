@@ -26,7 +26,7 @@ use Rattle.rs_parse.proofs.Lists.{reads_all}
 use Rattle.rs_parse.proofs.NameRules.{symbol_reads, word_reads, ident_of_free, on_column, col_ref_reads}
 use Rattle.rs_parse.proofs.TermRules.{literal_reads, param_reads, ident_begins, literal_begins, literal_no_colon, param_begins}
 
--- ---- identifiers, marks and keywords
+-- ---- identifiers, symbols and keywords
 
 pub ident_no_symbol : (symbol : Symbol) (t : Token) → is_ident_token t ≡ true → is_symbol symbol t ≡ false
 ident_no_symbol symbol (tokens.Word w) e = refl
@@ -141,7 +141,7 @@ closed_clause any close = clause_of any
 abbrev single_clause : Cmp → Clause
 single_clause cmp = clause_of (cmp ∷ [])
 
--- OR or a dot goes on
+-- OR or a dot continues
 abbrev on_any : Token → Bool
 on_any t = is_word (codes "or") t || on_column t
 
@@ -178,7 +178,7 @@ clause_reads = as_reads IsClause
 
 -- ---- WHERE
 
--- AND or a dot goes on
+-- AND or a dot continues
 abbrev on_clauses : Token → Bool
 on_clauses t = is_word (codes "and") t || on_column t
 
@@ -190,7 +190,7 @@ unfolding clauses_at
 clauses_reads = suffix_reads (word_reads (codes "where"))
     (λ word. reads_all IsClause and_word (is_word (codes "and")) on_column clause_at (is_word_self (codes "and")) (is_word_is (codes "and")) clause_reads refl)
 
--- WHERE, AND or a dot goes on
+-- WHERE, AND or a dot continues
 abbrev pub on_where : Token → Bool
 on_where t = is_word (codes "where") t || on_clauses t
 
@@ -217,7 +217,7 @@ where_reads = as_reads IsWhere
     (λ clauses prefix rest p ends. empty_begins (is_word (codes "where")) on_where on_where_word prefix rest p.1 ends))
     where_to where_from
 
--- WHERE or nothing stands there: a test that WHERE fails says nothing of what stands before it
+-- a test that fails for WHERE and for the tokens after it fails for an optional WHERE before them
 pub where_begins : (is : Token → Bool) → is (tokens.Word (codes "where")) ≡ false → (clauses : List Clause) (prefix rest : List Token) → IsWhere clauses prefix → begins is rest ≡ false → begins is (prefix ++ rest) ≡ false
 where_begins is e [] prefix rest nothing ends = ap (λ (us : List Token). begins is (us ++ rest)) nothing ∙ ends
 where_begins is e (clause ∷ clauses) prefix rest (f, b, at, list, p) ends = token_begins is (tokens.Word (codes "where")) false e f b prefix rest at p

@@ -13,7 +13,7 @@ use Rattle.rs_ast.specs.Token.{is_symbol, is_word, same_symbol}
 use Rattle.rs_ast.proofs.TokenLaws.{is_symbol_self, is_symbol_is}
 use Rattle.rs_parse.specs.Phrases.{Phrase, IsSeries, AtMost}
 use Rattle.rs_parse.specs.Read.{begins, all_at}
-use Rattle.rs_parse.specs.Grammar.{IsName, IsTuple, IsSet, IsWhere, IsSelect, IsListed, IsDml, IsDmlEnded, IsBody}
+use Rattle.rs_parse.specs.Grammar.{IsName, IsTuple, IsSet, IsWhere, IsSelect, IsCommaList, IsDml, IsDmlEnded, IsBody}
 use Rattle.rs_parse.specs.Reader.{tuple_at, insert_at, update_at, delete_at, dml_at, begins_dml, dml_ended_at, body_at}
 use Rattle.rs_parse.proofs.Readers.{IsReader, Then, Made, Either, IsToken, Begins, never, or_left, or_right, then_reads, suffix_reads, made_reads, either_reads, as_reads, before_reads, token_begins, end_begins, begins_fewer, begins_made, begins_either, suffix_begins}
 use Rattle.rs_parse.proofs.Series.{reads_more}
@@ -28,14 +28,14 @@ use Rattle.rs_parse.proofs.SelectRules.{on_select, select_reads}
 name_no_values : on_name (tokens.Word (codes "values")) ≡ false
 name_no_values = refl
 
-tuples_reads : IsReader (IsListed IsTuple) (on_list never) (λ ts. all_at (is_symbol symbols.Comma) tuple_at ts)
+tuples_reads : IsReader (IsCommaList IsTuple) (on_list never) (λ ts. all_at (is_symbol symbols.Comma) tuple_at ts)
 tuples_reads = reads_all IsTuple (tokens.Symbol symbols.Comma) (is_symbol symbols.Comma) never tuple_at (is_symbol_self symbols.Comma) (is_symbol_is symbols.Comma) tuple_reads refl
 
 abbrev insert_of : NameText → List (List Term) → Dml
 insert_of name rows = dmls.Insert name rows
 
 abbrev ValuesEnd : NameText → Phrase Dml
-ValuesEnd name = Then (IsToken (tokens.Word (codes "values"))) (λ word. Made (insert_of name) (IsListed IsTuple))
+ValuesEnd name = Then (IsToken (tokens.Word (codes "values"))) (λ word. Made (insert_of name) (IsCommaList IsTuple))
 
 abbrev InsertChain : Phrase Dml
 InsertChain = Then (IsToken (tokens.Word (codes "insert"))) (λ insert. Then (IsToken (tokens.Word (codes "into"))) (λ into. Then IsName ValuesEnd))
@@ -67,7 +67,7 @@ abbrev update_of : NameText → List Set → List Clause → Dml
 update_of name sets clauses = dmls.Update name sets clauses
 
 abbrev SetEnd : NameText → Phrase Dml
-SetEnd name = Then (IsToken (tokens.Word (codes "set"))) (λ word. Then (AtMost 16 (IsListed IsSet)) (λ sets. Made (update_of name sets) IsWhere))
+SetEnd name = Then (IsToken (tokens.Word (codes "set"))) (λ word. Then (AtMost 16 (IsCommaList IsSet)) (λ sets. Made (update_of name sets) IsWhere))
 
 abbrev UpdateChain : Phrase Dml
 UpdateChain = Then (IsToken (tokens.Word (codes "update"))) (λ update. Then IsName SetEnd)
@@ -106,7 +106,7 @@ delete_reads = suffix_reads (word_reads (codes "delete")) (λ delete. suffix_rea
 
 -- ---- statements on rows
 
--- what goes on with the last part of a statement on rows
+-- the tokens that continue the last part of a statement on rows
 abbrev pub on_dml : Token → Bool
 on_dml t = on_select t || (on_list never t || (on_update t || on_delete t))
 
@@ -178,7 +178,7 @@ dml_reads = as_reads IsDml
     (λ dml prefix rest p ends. insert_part_begins (is_word (codes "select")) false refl refl refl dml prefix rest p))
     dml_to dml_from
 
--- a test that says the same of the four words by which a statement on rows begins
+-- a test that is the same for the four words that begin a statement on rows
 pub dml_begins : (is : Token → Bool) (c : Bool) → is (tokens.Word (codes "select")) ≡ c → is (tokens.Word (codes "insert")) ≡ c → is (tokens.Word (codes "update")) ≡ c → is (tokens.Word (codes "delete")) ≡ c → Begins is c IsDml
 dml_begins is c e e' e'' e''' dml prefix rest p =
     begins_either (Made dmls.Select IsSelect) InsertPart is c (begins_made IsSelect dmls.Select is c (select_begins is c e)) (insert_part_begins is c e' e'' e''') dml prefix rest (dml_from dml prefix p)

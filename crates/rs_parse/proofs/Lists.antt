@@ -43,7 +43,7 @@ module _ {A : Type 0} (P : Phrase A) (separator : Token) (is_separator goes_on :
   list_from n [] ts (le, is) = absurd is
   list_from n (x ∷ xs) ts (le, (one, two, p, series, separated)) = (x, one, two, p, (xs, (omega (arith, le), series), refl), separated)
 
-  -- one item or more, at most so many further ones
+  -- one item, and at most `n` others
   pub reads_list : (n : ℕ) → IsReader (AtMost (suc n) (IsList separator P)) between (separated_at is_separator item n)
   reads_list n = reads_as (Then P (Others' n)) (AtMost (suc n) (IsList separator P)) between (separated_at is_separator item n)
       (reads_more P (After separator P) is_separator goes_on item next r reads_next next_begins apart n)

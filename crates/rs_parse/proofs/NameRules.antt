@@ -19,10 +19,10 @@ use Rattle.rs_ast.proofs.TokenLaws.{is_symbol_self, is_symbol_is, is_word_self, 
 use Rattle.rs_parse.specs.Phrases.{Phrase, Optional}
 use Rattle.rs_parse.specs.Read.{Got, begins, either_at}
 use Rattle.rs_parse.specs.Grammar.{IsIdent, IsSite, IsKind, IsAtSite, IsName, IsNameOf, IsColRef, IsColRefOf, IsColumn}
-use Rattle.rs_parse.specs.Reader.{word_at, symbol_at, ident_of, ident_at, site_of, site_at, kind_of, kind_at, at_site_at, optional_site_at, created_at, object_alone, name_at, column_of_at, column_alone, col_ref_at, column_at}
+use Rattle.rs_parse.specs.Reader.{word_at, symbol_at, ident_of, ident_at, site_of, site_at, kind_of, kind_at, at_site_at, optional_site_at, created_at, unqualified_name, name_at, column_of_at, unqualified_column, col_ref_at, column_at}
 use Rattle.std.proofs.lemmas.List.{append-nil}
 use Rattle.rs_parse.proofs.Options.{barred}
-use Rattle.rs_parse.proofs.Readers.{IsReader, One, Then, Made, Either, Empty, IsToken, never, or_left, or_right, gives_before, reads_one, reads_token, reads_optional, then_reads, suffix_reads, made_reads, either_reads, as_reads, before_reads, token_begins, empty_begins, prefix_alone}
+use Rattle.rs_parse.proofs.Readers.{IsReader, One, Then, Made, Either, Empty, IsToken, never, or_left, or_right, gives_before, reads_one, reads_token, reads_optional, then_reads, suffix_reads, made_reads, either_reads, as_reads, before_reads, token_begins, empty_begins, prefix_is_all}
 
 -- ---- single tokens
 
@@ -88,7 +88,7 @@ at_site_reads = as_reads IsAtSite (suffix_reads (symbol_reads symbols.At) (λ at
     (λ site ts (at, one, two, is, p, e). (one, two, is, p, e))
     (λ site ts (one, two, is, p, e). (tt, one, two, is, p, e))
 
--- a site's mark goes on
+-- a site's `@` continues
 abbrev pub on_at : Token → Bool
 on_at t = is_symbol symbols.At t || never t
 
@@ -107,7 +107,7 @@ created_reads : (creator : List ℕ) (creator_site : Option ℕ) → IsReader (C
 unfolding created_at
 created_reads creator creator_site = suffix_reads (symbol_reads symbols.Dot) (λ dot. suffix_reads ident_reads (λ object. made_reads (created creator creator_site object) optional_site_reads))
 
--- a dot or a site's mark goes on
+-- a dot or a site's `@` continues
 abbrev pub on_name : Token → Bool
 on_name t = is_symbol symbols.Dot t || on_at t
 
@@ -118,10 +118,10 @@ on_name_dot : (t : Token) → on_name t ≡ false → is_symbol symbols.Dot t �
 on_name_dot t e = or_left (is_symbol symbols.Dot t) (on_at t) e
 
 abbrev Ended : List ℕ → Option ℕ → Phrase NameText
-Ended first site = Either (Created first site) (Empty (object_alone first site))
+Ended first site = Either (Created first site) (Empty (unqualified_name first site))
 
-ended_reads : (first : List ℕ) (site : Option ℕ) → IsReader (Ended first site) on_name (either_at (is_symbol symbols.Dot) (created_at first site) (λ us. Got (object_alone first site) us))
-ended_reads first site = either_reads (is_symbol symbols.Dot) (before_reads on_name on_name_at (created_reads first site)) (gives_before (object_alone first site) on_name)
+ended_reads : (first : List ℕ) (site : Option ℕ) → IsReader (Ended first site) on_name (either_at (is_symbol symbols.Dot) (created_at first site) (λ us. Got (unqualified_name first site) us))
+ended_reads first site = either_reads (is_symbol symbols.Dot) (before_reads on_name on_name_at (created_reads first site)) (gives_before (unqualified_name first site) on_name)
     (λ name prefix rest p. token_begins (is_symbol symbols.Dot) (tokens.Symbol symbols.Dot) true (is_symbol_self symbols.Dot) p.1 p.2 prefix rest p.3 p.5)
     (λ name prefix rest p ends. empty_begins (is_symbol symbols.Dot) on_name on_name_dot prefix rest p.1 ends)
 
@@ -140,11 +140,11 @@ name_to : (name : NameText) (ts : List Token) → NameChain name ts → IsName n
 name_to name ts (first, f1, b1, free, (site, f2, b2, at, inl (dot, f3, b3, is, (object, f4, b4, ident, (birth, birth_at, e), p4), p3), p2), p1) =
     subst (λ (n : NameText). IsName n ts) e (f1, b1, free, (f2, b2, at, (f3, b3, is, (f4, b4, ident, birth_at, p4), p3), p2), p1)
 name_to name ts (first, f1, b1, free, (site, f2, b2, at, inr (e, nothing), p2), p1) =
-    subst (λ (n : NameText). IsName n ts) e (refl, (f1, b1, free, subst (Optional IsAtSite site) (prefix_alone b1 f2 b2 p2 nothing) at, p1))
+    subst (λ (n : NameText). IsName n ts) e (refl, (f1, b1, free, subst (Optional IsAtSite site) (prefix_is_all b1 f2 b2 p2 nothing) at, p1))
 
 name_from_creator : (name : NameText) (ts : List Token) (creator : Option (List ℕ)) → creator ≡ name.creator → IsNameOf creator name ts → NameChain name ts
 name_from_creator name ts None e (no_site, (f1, b1, free, at, p1)) =
-    let alone : object_alone name.object name.birth ≡ name = ap (λ (site : Option ℕ). record (object_alone name.object name.birth) { creator_site = site }) (sym no_site) ∙ ap (λ (creator : Option (List ℕ)). record name { creator = creator }) e in
+    let alone : unqualified_name name.object name.birth ≡ name = ap (λ (site : Option ℕ). record (unqualified_name name.object name.birth) { creator_site = site }) (sym no_site) ∙ ap (λ (creator : Option (List ℕ)). record name { creator = creator }) e in
     (name.object, f1, b1, free, (name.birth, b1, [], at, inr (alone, refl), sym (append-nil b1)), p1)
 name_from_creator name ts (Some creator) e (f1, b1, free, (f2, b2, at, (f3, b3, is, (f4, b4, ident, birth_at, p4), p3), p2), p1) =
     (creator, f1, b1, free, (name.creator_site, f2, b2, at, inl (tt, f3, b3, is, (name.object, f4, b4, ident, (name.birth, birth_at, ap (λ (creator : Option (List ℕ)). record name { creator = creator }) e), p4), p3), p2), p1)
@@ -163,19 +163,19 @@ column_of table column = record { table = Some table; column = column }
 abbrev ColumnOf : List ℕ → Phrase ColRef
 ColumnOf table = Then (IsToken (tokens.Symbol symbols.Dot)) (λ dot. Made (column_of table) IsIdent)
 
--- a dot goes on
+-- a dot continues
 abbrev pub on_column : Token → Bool
 on_column t = is_symbol symbols.Dot t
 
 abbrev ColumnEnded : List ℕ → Phrase ColRef
-ColumnEnded first = Either (ColumnOf first) (Empty (column_alone first))
+ColumnEnded first = Either (ColumnOf first) (Empty (unqualified_column first))
 
 column_of_reads : (table : List ℕ) → IsReader (ColumnOf table) never (column_of_at table)
 unfolding column_of_at
 column_of_reads table = suffix_reads (symbol_reads symbols.Dot) (λ dot. made_reads (column_of table) ident_reads)
 
-column_ended_reads : (first : List ℕ) → IsReader (ColumnEnded first) on_column (either_at (is_symbol symbols.Dot) (column_of_at first) (λ us. Got (column_alone first) us))
-column_ended_reads first = either_reads (is_symbol symbols.Dot) (before_reads on_column (λ t e. refl) (column_of_reads first)) (gives_before (column_alone first) on_column)
+column_ended_reads : (first : List ℕ) → IsReader (ColumnEnded first) on_column (either_at (is_symbol symbols.Dot) (column_of_at first) (λ us. Got (unqualified_column first) us))
+column_ended_reads first = either_reads (is_symbol symbols.Dot) (before_reads on_column (λ t e. refl) (column_of_reads first)) (gives_before (unqualified_column first) on_column)
     (λ column prefix rest p. token_begins (is_symbol symbols.Dot) (tokens.Symbol symbols.Dot) true (is_symbol_self symbols.Dot) p.1 p.2 prefix rest p.3 p.5)
     (λ column prefix rest p ends. empty_begins (is_symbol symbols.Dot) on_column (λ t e. e) prefix rest p.1 ends)
 
@@ -184,7 +184,7 @@ ColRefChain = Then IsIdent ColumnEnded
 
 col_ref_to : (c : ColRef) (ts : List Token) → ColRefChain c ts → IsColRef c ts
 col_ref_to c ts (first, f1, b1, free, inl (dot, f2, b2, is, (column, ident, e), p2), p1) = subst (λ (z : ColRef). IsColRef z ts) e (f1, b1, free, (f2, b2, is, ident, p2), p1)
-col_ref_to c ts (first, f1, b1, free, inr (e, nothing), p1) = subst (λ (z : ColRef). IsColRef z ts) e (subst (IsIdent first) (prefix_alone ts f1 b1 p1 nothing) free)
+col_ref_to c ts (first, f1, b1, free, inr (e, nothing), p1) = subst (λ (z : ColRef). IsColRef z ts) e (subst (IsIdent first) (prefix_is_all ts f1 b1 p1 nothing) free)
 
 col_ref_from_table : (c : ColRef) (ts : List Token) (table : Option (List ℕ)) → table ≡ c.table → IsColRefOf table c.column ts → ColRefChain c ts
 col_ref_from_table c ts None e free = (c.column, ts, [], free, inr (ap (λ (table : Option (List ℕ)). record c { table = table }) e, refl), sym (append-nil ts))

@@ -1,4 +1,4 @@
--- What is parsed is spelled so, what is spelled so is parsed, and a fault stands where it is told.
+-- A text is parsed as a statement exactly if it is the text of one, and a fault is at the offset that is reported.
 use Rattle.std.proofs.Common.{◌≡◌, ℕ, ◌-◌, ◌+◌, ◌<◌, ◌≤◌, Bool, true, false, cond, List, [], ◌∷◌, ◌++◌, length, Option, Some, None, Result, Ok, Err, refl, sym, ap, subst, ◌∙◌, append_assoc, arith, ◌⊎◌, inl, inr}
 use Rattle.std.specs.Prelude.{IfOk, unwrap_or}
 use Rattle.std.proofs.Common.{get_or}
@@ -15,7 +15,7 @@ use Rattle.rs_parse.specs.Grammar.{IsRequest}
 use Rattle.rs_parse.specs.Read.{Read, Got, Fault, ◌>>=◌}
 use Rattle.rs_parse.specs.Reader.{request_at, at_end, request_of}
 use Rattle.rs_parse.specs.Parsing.{Spells, SomeBegins, IsOffending, IsFault, AtToken, NoToken, AtEnd, Parsed, Statement, FaultAt, offset_of, judged, parsed_of, ParseGives}
-use Rattle.rs_parse.proofs.Readers.{Finds, got_value, got_rest, fault_rest, got-fault, fault-got, got_both, fault_of_both, nil-cons, prefix_alone}
+use Rattle.rs_parse.proofs.Readers.{Finds, got_value, got_rest, fault_rest, got-fault, fault-got, got_both, fault_of_both, nil-cons, prefix_is_all}
 use Rattle.rs_parse.proofs.StmtRules.{request_reads}
 use Rattle.rs_parse.proofs.Splits.{length-starts, end_of_whole}
 
@@ -28,28 +28,28 @@ end_got : (value : Stmt) (mid : List Token) (stmt : Stmt) (rest : List Token) �
 end_got value [] stmt rest e = (refl, got_value value stmt [] rest e)
 end_got value (t ∷ us) stmt rest e = absurd (fault-got stmt (t ∷ us) rest e)
 
--- what is read is spelled so
+-- what is read is a request
 pub whole_found : (ts : List Token) (stmt : Stmt) (rest : List Token) → request_of ts ≡ Got stmt rest → IsRequest stmt ts
 unfolding request_of
 whole_found ts stmt rest e =
     let a = got_both (request_at ts) alone stmt rest e in
     let g = end_got a.value a.mid stmt rest a.second in
     let f = request_reads.finds ts a.value a.mid a.first in
-    subst (λ (s : Stmt). IsRequest s ts) g.1 (subst (IsRequest a.value) (prefix_alone ts f.prefix a.mid f.separated g.0) f.phrase)
+    subst (λ (s : Stmt). IsRequest s ts) g.1 (subst (IsRequest a.value) (prefix_is_all ts f.prefix a.mid f.separated g.0) f.phrase)
 
 request_again : (stmt : Stmt) (ts : List Token) → IsRequest stmt ts → request_at ts ≡ Got stmt []
 request_again stmt ts is = ap request_at (sym (append-nil ts)) ∙ request_reads.again stmt ts [] is refl
 
--- what is spelled so is read
+-- a request is read
 pub whole_again : (stmt : Stmt) (ts : List Token) → IsRequest stmt ts → request_of ts ≡ Got stmt []
 unfolding request_of
 whole_again stmt ts is = ap (λ (got : Read Stmt). got >>= alone) (request_again stmt ts is)
 
--- no request begins with tokens behind whose last one reading doesn't look
+-- no request begins with tokens whose last one is refused, whatever follows it
 barred_by : (prefix : List Token) (t : Token) → ((more : List Token) (stmt : Stmt) → request_at (prefix ++ t ∷ more) ≡ Got stmt [] → ⊥) → SomeBegins (prefix ++ t ∷ []) → ⊥
 barred_by prefix t never_got (stmt, more, is) = never_got more stmt (ap request_at (sym (append_assoc prefix (t ∷ []) more)) ∙ request_again stmt ((prefix ++ t ∷ []) ++ more) is)
 
--- what a fault of all tokens says
+-- the claims of a fault in reading all tokens
 pub record FaultOf (ts rest : List Token) : Type 0 where
   pub prefix : List Token
   pub separated : ts ≡ prefix ++ rest
@@ -121,7 +121,7 @@ offset_at : (text : List ℕ) (offset : ℕ) (f : FaultOf (split_of text).tokens
 offset_at text offset f e = go (split_of text).whole refl
   where
     all : SomeBegins (split_of text).tokens
-    all = subst SomeBegins (prefix_alone (split_of text).tokens f.prefix [] f.separated refl) f.begun
+    all = subst SomeBegins (prefix_is_all (split_of text).tokens f.prefix [] f.separated refl) f.begun
 
     go : (whole : Bool) → (split_of text).whole ≡ whole → IsFault text offset
     go true w = AtEnd w all f.none (sym e ∙ end_of_whole text w)
@@ -131,7 +131,7 @@ if_fault : (whole : Bool) (found : Stmt) (end offset : ℕ) → cond whole (Stat
 if_fault true found end offset e = absurd (false≢true (sym (ap is_statement e)))
 if_fault false found end offset e = (refl, ap (offset_or end) e)
 
--- the place behind the last token
+-- the offset after the last token
 offset_after : (text : List ℕ) → offset_of (split_of text) 0 ≡ (split_of text).end
 offset_after text = go (slice_get_cases (split_of text).starts (length (split_of text).tokens - 0)).1
   where
@@ -141,7 +141,7 @@ offset_after text = go (slice_get_cases (split_of text).starts (length (split_of
     go (inl h) = absurd (omega (arith, h.1, length-starts text))
     go (inr h) = ap (λ (found : Option ℕ). unwrap_or found (split_of text).end) h.1
 
--- the place of a token
+-- the offset of a token
 offset_of_token : (text : List ℕ) (n left : ℕ) → length (split_of text).tokens ≡ n + left → 0 < left → slice_get (split_of text).starts n ≡ Some (offset_of (split_of text) left)
 offset_of_token text n left counted more = go (slice_get_cases (split_of text).starts n).1
   where

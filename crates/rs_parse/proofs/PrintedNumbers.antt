@@ -1,4 +1,4 @@
--- A number that is printed is read again, where no digit follows.
+-- A printed number is read again, if no digit follows.
 use Rattle.std.proofs.Common.{◌≡◌, ℕ, ◌+◌, ◌-◌, ◌*◌, ◌^◌, ◌<◌, ◌≤◌, Bool, true, false, cond, ◌&&◌, leb, List, [], ◌∷◌, ◌++◌, length, take, drop, Option, Some, None, decimal, refl, sym, ap, ◌∙◌, arith, rules, take_at, drop_at}
 use Rattle.std.specs.List.{fold, list_all, prefix_len}
 use Rattle.std.proofs.lemmas.Bool.{and_parts, and_from, and_left, or_from, leb-true, le-leb, lt-leb, cond-true}

@@ -1,4 +1,4 @@
--- A mark that is printed is read again, where nothing follows that makes a longer one of it.
+-- A printed symbol is read again, if no byte follows that makes it a longer one.
 use Rattle.std.proofs.Common.{◌≡◌, ℕ, false, eqb, List, [], ◌∷◌, ◌++◌, Some, refl}
 use Rattle.std.proofs.lemmas.Bool.{or_parts}
 use Rattle.rs_ast.specs.declared.token.Symbol.{Symbol}

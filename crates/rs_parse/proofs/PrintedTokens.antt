@@ -49,7 +49,7 @@ token_again (tokens.Number n) rest formed apart = number_again n rest formed (be
 token_again (tokens.Text text) rest formed apart = text_again text rest formed apart
 token_again (tokens.Symbol symbol) rest formed apart = symbol_again symbol rest apart
 
--- ---- what stands behind a token doesn't go on with it
+-- ---- the bytes after a token don't continue it
 
 space_after_symbol : (symbol : Symbol) → goes_on_symbol symbol 32 ≡ false
 space_after_symbol symbols.Less = refl

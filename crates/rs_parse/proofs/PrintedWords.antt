@@ -1,5 +1,4 @@
--- A word that is printed is read again, where no byte of a word follows: it is printed in one of two cases, and taken in
--- lower case.
+-- A printed word is read again, if no byte of a word follows: it is printed in one of two cases, and read in lower case.
 use Rattle.std.proofs.Common.{◌≡◌, ℕ, suc, ◌+◌, ◌<◌, Bool, true, false, cond, not, ◌&&◌, ◌||◌, eqb, leb, List, [], ◌∷◌, ◌++◌, map, length, take, drop, Option, Some, None, refl, sym, ap, ◌∙◌, arith, inl, inr, map-id, take_at, drop_at}
 use Rattle.std.specs.List.{list_all, prefix_len}
 use Rattle.std.specs.Char.{to_ascii_lowercase, to_ascii_uppercase}
@@ -13,7 +12,7 @@ use Rattle.rs_ast.proofs.Touching.{begins}
 use Rattle.rs_parse.specs.Tokens.{is_letter, is_word_byte, word_at, token_at}
 use Rattle.rs_parse.specs.Scanning.{token_here}
 
--- how many bytes pass, where all in front do and what follows doesn't begin with one
+-- the number of bytes that pass, if all of the prefix do and the first byte after it doesn't
 pub prefix_all : (p : ℕ → Bool) (prefix rest : List ℕ) → list_all p prefix ≡ true → begins p rest ≡ false → prefix_len p (prefix ++ rest) ≡ length prefix
 prefix_all p [] [] all apart = refl
 prefix_all p [] (b ∷ rest) all apart = ap (λ (test : Bool). cond test (1 + prefix_len p rest) 0) apart

@@ -1,4 +1,4 @@
--- What a reader has to do with the phrases that it reads, and how readers are put together.
+-- Readers of phrases: what they claim, and how they are combined.
 use Rattle.std.proofs.Common.{◌≡◌, Bool, true, false, if◌then◌else◌, ◌||◌, List, [], ◌∷◌, ◌++◌, Option, Some, None, refl, sym, ap, subst, ◌∙◌, append_assoc, ◌⊎◌, inl, inr}
 use Rattle.std.proofs.lemmas.List.{append-nil}
 use Rattle.std.proofs.lemmas.Bool.{false≢true}
@@ -6,14 +6,14 @@ use Rattle.rs_ast.specs.declared.token.Token.{Token}
 use Rattle.rs_parse.specs.Phrases.{Phrase, Is, Optional}
 use Rattle.rs_parse.specs.Read.{Read, Got, Fault, ◌>>=◌, got_one, one_at, begins, either_at, where_so, passed, pass_at, optional_at}
 
--- What was read is spelled by the tokens in front of the rest, and only the next token was looked at.
+-- The tokens before the rest are a phrase of the value read, and only one token after them was looked at.
 pub record Finds {A : Type 0} (P : Phrase A) (read : List Token → Read A) (ts : List Token) (x : A) (rest : List Token) : Type 0 where
   pub prefix : List Token
   pub phrase : P x prefix
   pub separated : ts ≡ prefix ++ rest
   pub steady : (t : Token) (us vs : List Token) → rest ≡ t ∷ us → read (prefix ++ t ∷ vs) ≡ Got x (t ∷ vs)
 
--- The tokens in front of the fault can be completed, and behind the token of the fault nothing was looked at.
+-- The tokens before the fault are a prefix of a phrase, and no token after that of the fault was looked at.
 pub record Breaks {A : Type 0} (P : Phrase A) (read : List Token → Read A) (ts rest : List Token) : Type 0 where
   pub prefix : List Token
   pub suffix : List Token
@@ -28,7 +28,7 @@ pub record Spelled {A : Type 0} (P : Phrase A) : Type 0 where
   pub tokens : List Token
   pub phrase : P value tokens
 
--- A reader of these phrases. A phrase is read again where no token follows that would go on with it.
+-- A reader of these phrases. A phrase is read again if no token follows that would continue it.
 pub record IsReader {A : Type 0} (P : Phrase A) (goes_on : Token → Bool) (read : List Token → Read A) : Type 0 where
   pub finds : (ts : List Token) (x : A) (rest : List Token) → read ts ≡ Got x rest → Finds P read ts x rest
   pub breaks : (ts rest : List Token) → read ts ≡ Fault rest → Breaks P read ts rest
@@ -82,7 +82,7 @@ pub or_right : (a b : Bool) → (a || b) ≡ false → b ≡ false
 or_right true b e = absurd (false≢true (sym e))
 or_right false b e = e
 
--- ---- one reading behind another
+-- ---- one read after another
 
 pub record GotBoth {A B : Type 0} (read : Read A) (next : A × List Token → Read B) (y : B) (rest : List Token) : Type 0 where
   pub value : A
@@ -173,7 +173,7 @@ module _ {A : Type 0} (meant : Token → Option A) where
   }
   one_breaks_in some (t ∷ ts) rest e = one_breaks some t ts rest (meant t) refl e
 
-  -- a reader of one token reads what it stands for
+  -- a reader of one token reads the value it means
   pub reads_one : (t : Token) (x : A) → meant t ≡ Some x → IsReader (One meant) never (one_at meant)
   reads_one t x m =
       let some : Spelled (One meant) = record { value = x; tokens = t ∷ []; phrase = (t, m, refl) } in
@@ -184,7 +184,7 @@ module _ {A : Type 0} (meant : Token → Option A) where
         some = some;
       }
 
--- ---- one reader behind another
+-- ---- one reader after another
 
 abbrev pub Then : {A B : Type 0} → Phrase A → (A → Phrase B) → Phrase B
 Then {A} P Q y ts = (x : A) × (prefix suffix : List Token) × P x prefix × Q x y suffix × (ts ≡ prefix ++ suffix)
@@ -193,7 +193,7 @@ module _ {A B : Type 0} (P : Phrase A) (Q : A → Phrase B) (read : List Token �
   abbrev chain : List Token → Read B
   chain ts = read ts >>= λ x. next x.0 x.1
 
-  -- the first reader stays at what it read, whatever follows behind the token that the second leaves
+  -- the first reader reads the same, whatever follows the token that the second leaves
   steady_before : (ts : List Token) (x : A) (mid : List Token) (a : Finds P read ts x mid) (prefix : List Token) (t : Token) (us vs : List Token) → mid ≡ prefix ++ t ∷ us → read (a.prefix ++ (prefix ++ t ∷ vs)) ≡ Got x (prefix ++ t ∷ vs)
   steady_before ts x mid a [] t us vs h = a.steady t us vs h
   steady_before ts x mid a (u ∷ prefix) t us vs h = a.steady u (prefix ++ t ∷ us) (prefix ++ t ∷ vs) h
@@ -263,7 +263,7 @@ module _ {A B : Type 0} (P : Phrase A) (Q : A → Phrase B) (read : List Token �
         let b = (second a.value).some in
         record { value = b.value; tokens = a.tokens ++ b.tokens; phrase = (a.value, a.tokens, b.tokens, a.phrase, b.phrase, refl) }
 
-    -- one reader behind another reads one phrase behind the other
+    -- one reader after another reads one phrase after the other
     pub reads_then : Follows → IsReader (Then P Q) second_on (λ ts. read ts >>= λ x. next x.0 x.1)
     reads_then follows = record {
       finds = λ ts y rest e. then_finds ts y rest (read ts) refl e;
@@ -387,7 +387,7 @@ module _ {A : Type 0} (P Q : Phrase A) (goes_on is : Token → Bool) (one other 
   either_again so otherwise x prefix rest (inl p) ends = ap (λ (test : Bool). chosen_at test (prefix ++ rest)) (so x prefix rest p) ∙ first.again x prefix rest p ends
   either_again so otherwise x prefix rest (inr q) ends = ap (λ (test : Bool). chosen_at test (prefix ++ rest)) (otherwise x prefix rest q ends) ∙ second.again x prefix rest q ends
 
-  -- The first token tells which of two readers reads.
+  -- The first token decides which of two readers reads.
   pub reads_either : BeginsSo → BeginsOtherwise → IsReader (Either P Q) goes_on (either_at is one other)
   reads_either so otherwise = record {
     finds = λ ts x rest e. either_finds ts x rest (begins is ts) refl e;
@@ -396,7 +396,7 @@ module _ {A : Type 0} (P Q : Phrase A) (goes_on is : Token → Bool) (one other 
     some = record { value = second.some.value; tokens = second.some.tokens; phrase = inr second.some.phrase };
   }
 
--- ---- the same reader, otherwise said
+-- ---- the same reader, stated otherwise
 
 module _ {A : Type 0} (P P' : Phrase A) (goes_on : Token → Bool) (read : List Token → Read A) where
   -- the same phrases by another definition
@@ -416,7 +416,7 @@ pub begins_fewer : (fewer more : Token → Bool) → ((t : Token) → more t ≡
 begins_fewer fewer more le [] e = refl
 begins_fewer fewer more le (t ∷ ts) e = le t e
 
--- with more tokens that go on
+-- with more tokens that continue
 pub reads_before : {A : Type 0} (P : Phrase A) (fewer more : Token → Bool) (read : List Token → Read A) → ((t : Token) → more t ≡ false → fewer t ≡ false) → IsReader P fewer read → IsReader P more read
 reads_before P fewer more read le r = record {
   finds = r.finds;
@@ -438,11 +438,11 @@ reads_same P goes_on read read' same r = record {
   some = r.some;
 }
 
--- a value that nothing spells, whatever follows
+-- a value of no token, whatever follows
 pub gives_before : {A : Type 0} (x : A) (goes_on : Token → Bool) → IsReader (Empty x) goes_on (give x)
 gives_before x goes_on = reads_before (Empty x) never goes_on (give x) (λ t e. refl) (gives x)
 
--- ---- a token that stands for itself
+-- ---- a token that means itself
 
 passes : (is : Token → Bool) (t : Token) → is t ≡ true → passed is t ≡ Some tt
 passes is t e = ap where_so e
@@ -465,10 +465,10 @@ module _ (t : Token) (is : Token → Bool) (self : is t ≡ true) (only : (u : T
   pub reads_token : IsReader (IsToken t) never (pass_at is)
   reads_token = reads_as (One (passed is)) (IsToken t) never (pass_at is) (reads_one (passed is) t tt (passes is t self)) token_to token_from
 
--- ---- what may stand there or not
+-- ---- optional phrases
 
 module _ {A : Type 0} (P : Phrase A) (is goes_on : Token → Bool) (read : List Token → Read A) (r : IsReader P goes_on read) (begins_so : (x : A) (prefix rest : List Token) → P x prefix → begins is (prefix ++ rest) ≡ true) where
-  -- it may stand there, or it goes on
+  -- the phrase may begin, or continue
   abbrev pub may : Token → Bool
   may t = is t || goes_on t
 
@@ -503,7 +503,7 @@ module _ {A : Type 0} (P : Phrase A) (is goes_on : Token → Bool) (read : List 
       (λ x prefix rest p ends. ap (λ (us : List Token). begins is (us ++ rest)) p.1 ∙ begins_fewer is may may_is rest ends))
       optional_to optional_from
 
--- ---- the same with what can be seen from the readers left out
+-- ---- the same, with what can be inferred from the readers left out
 
 pub then_reads : {A B : Type 0} {P : Phrase A} {Q : A → Phrase B} {read : List Token → Read A} {next : A → List Token → Read B} {first_on second_on : Token → Bool}
     → IsReader P first_on read → ((x : A) → IsReader (Q x) second_on (next x))
@@ -511,7 +511,7 @@ pub then_reads : {A B : Type 0} {P : Phrase A} {Q : A → Phrase B} {read : List
     → IsReader (Then P Q) second_on (λ ts. read ts >>= λ x. next x.0 x.1)
 then_reads {P = P} {Q = Q} {read = read} {next = next} {first_on = first_on} {second_on = second_on} first second follows = reads_then P Q read next first_on second_on first second follows
 
--- behind a reader that nothing goes on
+-- after a reader whose phrases no token continues
 pub suffix_reads : {A B : Type 0} {P : Phrase A} {Q : A → Phrase B} {read : List Token → Read A} {next : A → List Token → Read B} {second_on : Token → Bool}
     → IsReader P never read → ((x : A) → IsReader (Q x) second_on (next x)) → IsReader (Then P Q) second_on (λ ts. read ts >>= λ x. next x.0 x.1)
 suffix_reads first second = then_reads first second (λ x y suffix rest q ends. begins_never (suffix ++ rest))
@@ -532,24 +532,24 @@ as_reads {P = P} {goes_on = goes_on} {read = read} P' r to from = reads_as P P' 
 pub before_reads : {A : Type 0} {P : Phrase A} {fewer : Token → Bool} {read : List Token → Read A} (more : Token → Bool) → ((t : Token) → more t ≡ false → fewer t ≡ false) → IsReader P fewer read → IsReader P more read
 before_reads {P = P} {fewer = fewer} {read = read} more le r = reads_before P fewer more read le r
 
--- what begins with a token
+-- a phrase that begins with a token
 pub token_begins : (is : Token → Bool) (t : Token) (value : Bool) → is t ≡ value → (prefix two suffix rest : List Token) → prefix ≡ t ∷ [] → suffix ≡ prefix ++ two → begins is (suffix ++ rest) ≡ value
 token_begins is t value e prefix two suffix rest at separated = ap (λ (us : List Token). begins is (us ++ rest)) (separated ∙ ap (λ (us : List Token). us ++ two) at) ∙ e
 
 pub end_begins : (is : Token → Bool) (t : Token) (value : Bool) → is t ≡ value → (prefix rest : List Token) → prefix ≡ t ∷ [] → begins is (prefix ++ rest) ≡ value
 end_begins is t value e prefix rest at = ap (λ (us : List Token). begins is (us ++ rest)) at ∙ e
 
--- nothing stands there, and what follows doesn't begin so
+-- an empty phrase, if the token after it fails the test
 pub empty_begins : (is more : Token → Bool) → ((t : Token) → more t ≡ false → is t ≡ false) → (prefix rest : List Token) → prefix ≡ [] → begins more rest ≡ false → begins is (prefix ++ rest) ≡ false
 empty_begins is more le prefix rest nothing ends = ap (λ (us : List Token). begins is (us ++ rest)) nothing ∙ begins_fewer is more le rest ends
 
--- an end that is empty
-pub prefix_alone : (ts prefix suffix : List Token) → ts ≡ prefix ++ suffix → suffix ≡ [] → prefix ≡ ts
-prefix_alone ts prefix suffix separated nothing = sym (separated ∙ ap (λ (us : List Token). prefix ++ us) nothing ∙ append-nil prefix)
+-- a suffix that is empty
+pub prefix_is_all : (ts prefix suffix : List Token) → ts ≡ prefix ++ suffix → suffix ≡ [] → prefix ≡ ts
+prefix_is_all ts prefix suffix separated nothing = sym (separated ∙ ap (λ (us : List Token). prefix ++ us) nothing ∙ append-nil prefix)
 
 -- ---- how phrases begin
 
--- each phrase has a first token, and the test says this of it
+-- each phrase has a first token, for which the test has this value
 abbrev pub Begins : {A : Type 0} → (Token → Bool) → Bool → Phrase A → Type 0
 Begins {A} is c P = (x : A) (prefix rest : List Token) → P x prefix → begins is (prefix ++ rest) ≡ c
 
@@ -572,6 +572,6 @@ begins_longer is one two rest c e = ap (begins is) (append_assoc one two rest) �
 pub begins_first : {A B : Type 0} (P : Phrase A) (Q : A → Phrase B) (is : Token → Bool) (c : Bool) → Begins is c P → Begins is c (Then P Q)
 begins_first P Q is c b y prefix rest (x, one, two, p, q, e) = ap (λ (us : List Token). begins is (us ++ rest)) e ∙ begins_longer is one two rest c (b x one (two ++ rest) p)
 
--- what stands behind a front
+-- a phrase in two parts begins as its first part
 pub suffix_begins : (is : Token → Bool) (suffix one two rest : List Token) (c : Bool) → suffix ≡ one ++ two → begins is (one ++ (two ++ rest)) ≡ c → begins is (suffix ++ rest) ≡ c
 suffix_begins is suffix one two rest c separated e = ap (λ (us : List Token). begins is (us ++ rest)) separated ∙ begins_longer is one two rest c e

@@ -1,4 +1,4 @@
--- The tokens that are printed of a statement spell it.
+-- The printed tokens of a statement are a phrase of it.
 use Rattle.std.proofs.Common.{ℕ, List, [], ◌∷◌, ◌++◌, codes, ap, ◌∙◌, append_assoc}
 use Rattle.rs_base.specs.declared.name.NameText.{NameText}
 use Rattle.rs_ast.specs.declared.change.Set.{Set}
@@ -17,7 +17,7 @@ use Rattle.rs_parse.proofs.Respelling.{IsRespelled, word_respelled, symbol_respe
 use Rattle.rs_parse.proofs.RespelledTerms.{ident_respelled, site_respelled, name_respelled, column_respelled, literal_respelled, tuple_respelled, set_respelled}
 use Rattle.rs_parse.proofs.RespelledSelect.{where_respelled, select_respelled}
 
--- ---- changes of rows
+-- ---- INSERT, UPDATE and DELETE
 
 update_respelled : (name : NameText) (sets : List Set) (clauses : List Clause) → IsRespelled (IsDml (dmls.Update name sets clauses)) (spelled_dml (dmls.Update name sets clauses))
 unfolding spelled_dml
@@ -82,6 +82,6 @@ each_respelled stmts.ShowSections = word_respelled (codes "show") ▹ word_respe
 each_respelled stmts.ShowCache = word_respelled (codes "show") ▹ word_respelled (codes "cache")
 each_respelled (stmts.Dml dml) = dml_respelled dml
 
--- Where tokens that a text may have spell a statement, the tokens that are printed of it do too, and a text may have them.
+-- If tokens that a text may have are a phrase of a statement, so are its printed tokens, and a text may have them.
 pub stmt_respelled : (stmt : Stmt) (ts : List Token) → IsStmt stmt ts → AreFormed ts → IsStmt stmt (spelled_stmt stmt) × AreFormed (spelled_stmt stmt)
 stmt_respelled stmt ts is formed = (each_respelled stmt).respelled ts is formed

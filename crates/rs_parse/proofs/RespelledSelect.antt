@@ -1,4 +1,4 @@
--- The tokens that are printed of comparisons, clauses and queries spell them.
+-- The printed tokens of comparisons, clauses and queries are phrases of them.
 use Rattle.std.proofs.Common.{◌≡◌, ℕ, ◌<◌, ◌^◌, Bool, true, false, List, [], ◌∷◌, ◌++◌, Option, Some, None, codes, refl, sym, ap, subst, ◌∙◌, append_assoc, ◌⊎◌, inl, inr}
 use Rattle.rs_ast.specs.declared.clause.Clause.{Clause}
 use Rattle.rs_ast.specs.declared.clause.Cmp.{Cmp}
@@ -17,9 +17,9 @@ use Rattle.rs_ast.specs.declared.select.TableRef.{TableRef}
 use Rattle.rs_ast.specs.declared.token.Symbol.TheVariants as symbols
 use Rattle.rs_ast.specs.declared.token.Token.{Token}
 use Rattle.rs_ast.specs.declared.token.Token.TheVariants as tokens
-use Rattle.rs_ast.specs.Spelled.{comma, spelled_list, spelled_ref, symbol_of, spelled_operand, spelled_cmp, spelled_cmps, spelled_clause, spelled_where, spelled_function, spelled_item, spelled_items, spelled_distinct, spelled_alias, spelled_table_ref, spelled_group, spelled_by, spelled_falling, spelled_key, spelled_order, spelled_answered, spelled_from, spelled_select}
+use Rattle.rs_ast.specs.Spelled.{comma, spelled_list, spelled_ref, symbol_of, spelled_operand, spelled_cmp, spelled_cmps, spelled_clause, spelled_where, spelled_function, spelled_item, spelled_items, spelled_distinct, spelled_alias, spelled_table_ref, spelled_group, spelled_by, spelled_direction, spelled_key, spelled_order, spelled_select_list, spelled_from, spelled_select}
 use Rattle.rs_parse.specs.Phrases.{Phrase, Spell, Optional, IsList, AtMost}
-use Rattle.rs_parse.specs.Grammar.{IsSymbol, IsIdent, IsOp, IsOperand, IsCmp, IsClause, IsWhere, IsOfColumn, IsListed, IsItem, IsItems, IsDistinct, IsTableRef, IsGroup, IsKeyBy, IsDirection, IsKey, IsOrder, IsSelect}
+use Rattle.rs_parse.specs.Grammar.{IsSymbol, IsIdent, IsOp, IsOperand, IsCmp, IsClause, IsWhere, IsOfColumn, IsCommaList, IsItem, IsItems, IsDistinct, IsTableRef, IsGroup, IsKeyBy, IsDirection, IsKey, IsOrder, IsSelect}
 use Rattle.rs_parse.proofs.TokenForms.{AreFormed}
 use Rattle.rs_parse.proofs.Respelling.{IsRespelled, formed_parts, nothing_respelled, token_respelled, word_respelled, symbol_respelled, ◌▹◌, bracketed_respelled, respelled_so, kept_respelled, list_respelled, at_most_respelled}
 use Rattle.rs_parse.proofs.RespelledTerms.{ident_respelled, name_respelled, col_ref_respelled, literal_respelled, param_respelled}
@@ -63,7 +63,7 @@ end_again cmp ts is formed =
     let again = (cmp_respelled cmp).respelled ts is formed in
     (inl (cmp, refl, again.0), again.1)
 
--- one comparison is printed without its brackets
+-- a single comparison is printed without its parentheses
 bracketed_again : (any : List Cmp) (ts : List Token) → InBrackets any ts → AreFormed ts → AnyAgain any
 unfolding spelled_cmps
 bracketed_again [] ts (f, b, is, (f1, b1, list, is_close, p1), p) formed = absurd list
@@ -135,8 +135,8 @@ key_by_respelled (keys.Col c) = col_ref_respelled c
 key_by_respelled (keys.Place n) = kept_respelled (n < 2 ^ 32) (token_respelled (tokens.Number n))
 
 -- ASC isn't printed
-direction_respelled : (desc : Bool) → IsRespelled (IsDirection desc) (spelled_falling desc)
-unfolding spelled_falling
+direction_respelled : (desc : Bool) → IsRespelled (IsDirection desc) (spelled_direction desc)
+unfolding spelled_direction
 direction_respelled false = record { respelled = λ ts is formed. (inl refl, tt) }
 direction_respelled true = word_respelled (codes "desc")
 
@@ -158,11 +158,11 @@ six_parts a b c d e f =
     ∙ append_assoc (a ++ b) c (d ++ (e ++ f))
     ∙ append_assoc a b (c ++ (d ++ (e ++ f)))
 
-tables_respelled : (tables : List TableRef) → IsRespelled (AtMost 6 (IsListed IsTableRef) tables) (spelled_list comma spelled_table_ref tables)
+tables_respelled : (tables : List TableRef) → IsRespelled (AtMost 6 (IsCommaList IsTableRef) tables) (spelled_list comma spelled_table_ref tables)
 tables_respelled tables = at_most_respelled 6 (list_respelled comma table_ref_respelled) tables
 
 pub select_respelled : (select : Select) → IsRespelled (IsSelect select) (spelled_select select)
-unfolding spelled_select spelled_answered spelled_from
+unfolding spelled_select spelled_select_list spelled_from
 select_respelled select =
     let distinct = spelled_distinct select.distinct in
     let separated_list = spelled_items select.items in

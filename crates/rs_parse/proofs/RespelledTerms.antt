@@ -1,4 +1,4 @@
--- The tokens that are printed of names, columns, literals, terms and expressions spell them.
+-- The printed tokens of names, columns, literals, terms and expressions are phrases of them.
 use Rattle.std.proofs.Common.{◌≡◌, ℕ, zero, suc, ◌<◌, ◌^◌, false, List, [], ◌∷◌, ◌++◌, Option, Some, None, ℤ, pos, neg_ℤ, codes, refl, sym, ap, subst, append_assoc, inl, inr}
 use Rattle.rs_base.specs.declared.name.NameText.{NameText}
 use Rattle.rs_base.specs.declared.value.Kind.{Kind}

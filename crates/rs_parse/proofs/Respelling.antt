@@ -1,4 +1,4 @@
--- What a respelling of a phrase is, and how respellings are put together.
+-- Respellings: other tokens of the same phrase, and how they are combined.
 use Rattle.std.proofs.Common.{◌≡◌, ℕ, ◌≤◌, List, [], ◌∷◌, ◌++◌, length, refl, sym, subst}
 use Rattle.std.specs.Prelude.{flat_map}
 use Rattle.rs_ast.specs.declared.token.Symbol.{Symbol}
@@ -7,10 +7,10 @@ use Rattle.rs_ast.specs.declared.token.Token.{Token}
 use Rattle.rs_ast.specs.declared.token.Token.TheVariants as tokens
 use Rattle.rs_ast.specs.Spelled.{spelled_further, spelled_list, comma, between_brackets}
 use Rattle.rs_parse.specs.Phrases.{Phrase, Is, Both, Spell, IsSeries, After, IsList, AtMost}
-use Rattle.rs_parse.specs.Grammar.{Keyword, IsSymbol, IsListedOrNone}
+use Rattle.rs_parse.specs.Grammar.{Keyword, IsSymbol, IsCommaListOrNone}
 use Rattle.rs_parse.proofs.TokenForms.{AreFormed}
 
--- Where some tokens that a text may have spell a phrase, these do too, and a text may have them.
+-- If some tokens that a text may have are such a phrase, so are these, and a text may have them.
 pub record IsRespelled (P : List Token → Type 0) (spelled : List Token) : Type 0 where
   pub respelled : (ts : List Token) → P ts → AreFormed ts → P spelled × AreFormed spelled
 
@@ -40,7 +40,7 @@ word_respelled word = token_respelled (tokens.Word word)
 pub symbol_respelled : (symbol : Symbol) → IsRespelled (IsSymbol symbol) (tokens.Symbol symbol ∷ [])
 symbol_respelled symbol = token_respelled (tokens.Symbol symbol)
 
--- ---- one behind the other
+-- ---- sequences
 
 both_respelled : {P Q : List Token → Type 0} {us vs : List Token} → IsRespelled P us → IsRespelled Q vs → IsRespelled (Both P Q) (us ++ vs)
 both_respelled {P} {Q} {us} {vs} first second = record {
@@ -55,15 +55,15 @@ infixr 10 ◌▹◌
 pub ◌▹◌ : {P Q : List Token → Type 0} {us vs : List Token} → IsRespelled P us → IsRespelled Q vs → IsRespelled (Both P Q) (us ++ vs)
 first ▹ second = both_respelled first second
 
--- in brackets
+-- in parentheses
 pub bracketed_respelled : {P : List Token → Type 0} {us : List Token} → IsRespelled P us → IsRespelled (Spell (IsSymbol symbols.Open ∷ P ∷ IsSymbol symbols.Close ∷ [])) (between_brackets us)
 bracketed_respelled inside = symbol_respelled symbols.Open ▹ inside ▹ symbol_respelled symbols.Close
 
--- the same tokens, parted otherwise
+-- the same tokens, separated otherwise
 pub respelled_so : {P : List Token → Type 0} {us vs : List Token} → us ≡ vs → IsRespelled P vs → IsRespelled P us
 respelled_so {P} e again = subst (λ (ts : List Token). IsRespelled P ts) (sym e) again
 
--- with a fact that isn't of the tokens
+-- with a condition that isn't on the tokens
 pub kept_respelled : (C : Type 0) {P : List Token → Type 0} {us : List Token} → IsRespelled P us → IsRespelled (λ ts. C × P ts) us
 kept_respelled C again = record {
   respelled = λ ts is formed.
@@ -92,7 +92,7 @@ pub at_most_respelled : {A : Type 0} {P : Phrase (List A)} {spelled : List A →
 at_most_respelled n each xs = kept_respelled (length xs ≤ n) (each xs)
 
 pub list_or_none_respelled : {A : Type 0} {P : Phrase A} {spelled : A → List Token} → ((x : A) → IsRespelled (P x) (spelled x))
-    → (xs : List A) → IsRespelled (IsListedOrNone P xs) (spelled_list comma spelled xs)
+    → (xs : List A) → IsRespelled (IsCommaListOrNone P xs) (spelled_list comma spelled xs)
 unfolding spelled_list
 list_or_none_respelled each [] = nothing_respelled
 list_or_none_respelled each (x ∷ xs) = list_respelled comma each (x ∷ xs)

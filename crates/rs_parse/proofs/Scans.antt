@@ -1,5 +1,5 @@
--- The tokenizer: each token leaves an end of the bytes, and the loop puts the tokens that were found in front of those
--- of the bytes that are left.
+-- The tokenizer: each token leaves a suffix of the bytes, and the loop prepends the tokens found so far to those of the
+-- bytes that are left.
 use Rattle.std.proofs.Common.{◌≡◌, ℕ, zero, suc, ◌+◌, ◌-◌, ◌<◌, ◌≤◌, min, Bool, true, false, cond, eqb, leb, ◌&&◌, List, [], ◌∷◌, ◌++◌, map, length, take, drop, Option, Some, None, refl, sym, ap, ◌∙◌, arith, inl, inr}
 use Rattle.std.specs.List.{prefix_len}
 use Rattle.std.specs.Char.{to_ascii_lowercase}
@@ -20,7 +20,7 @@ use Rattle.rs_parse.specs.Scanning.{token_here}
 use Rattle.rs_base.proofs.Steps.{bind_some, chosen}
 use Rattle.rs_parse.proofs.Options.{push_some}
 
--- ---- what a token leaves is an end of what stood there
+-- ---- a token leaves a suffix of the bytes
 
 abbrev Leaves : List ℕ → List ℕ → Type 0
 Leaves bytes rest = (m : ℕ) × (rest ≡ drop m bytes)
@@ -88,7 +88,7 @@ text_leaves bytes t rest e =
     let l = quoted_leaves bytes b.0.0 b.0.1 b.1 in
     (l.0, sym (ap (λ (x : Token × List ℕ). x.1) g.1) ∙ l.1)
 
--- what is read, if it is, leaves an end
+-- what is read, if it is, leaves a suffix
 Left : List ℕ → Option (Symbol × List ℕ) → Type 0
 Left bytes read = (symbol : Symbol) (rest : List ℕ) → read ≡ Some (symbol, rest) → Leaves bytes rest
 
@@ -137,7 +137,7 @@ token_leaves b bytes t rest e =
       ]
     ]
 
--- ---- splitting behind bytes that were taken before
+-- ---- splitting after the bytes of a token
 
 suffix_drop : (at inside : ℕ) (bytes : List ℕ) → inside ≤ length bytes → split_suffix at inside bytes ≡ split_suffix (at + inside) 0 (drop inside bytes)
 suffix_drop at zero bytes h = ap (λ (n : ℕ). split_suffix n 0 bytes) (omega arith)
@@ -146,7 +146,7 @@ suffix_drop at (suc inside) (b ∷ bytes) h =
     let offset : at + 1 + inside ≡ at + suc inside = omega arith in
     suffix_drop (at + 1) inside bytes (omega arith) ∙ ap (λ (n : ℕ). split_suffix n 0 (drop inside bytes)) offset
 
--- how bytes are split that begin with no blank
+-- the split of bytes that begin with no blank
 abbrev pub split_here : ℕ → List ℕ → Split
 split_here at [] = ends_at at true
 split_here at (b ∷ bytes) = taken_at at (token_here (b ∷ bytes)) (λ token. split_suffix (at + (length (b ∷ bytes) - length token.1)) 0 token.1)
@@ -184,11 +184,11 @@ skipped at (b ∷ bytes) = skip_step (is_blank b) at b bytes (skipped (at + 1) b
 
 -- ---- the loop
 
--- what was found before, and how the bytes that are left are split
+-- the tokens found so far, prepended to the split of the bytes that are left
 abbrev pub with_found : List Token → List ℕ → Split → Split
 with_found tokens starts split = record { tokens = tokens ++ split.tokens; starts = starts ++ split.starts; end = split.end; whole = split.whole }
 
--- a place in a text of n bytes is told by the bytes that are left
+-- the number of the bytes that are left determines the offset in a text of n bytes
 blanks_skipped : (n : ℕ) (old left : List ℕ) → left ≡ drop (prefix_len is_blank old) old → length old ≤ n
     → split_suffix (n - length old) 0 old ≡ split_here (n - length left) left
 blanks_skipped n old left skip within =

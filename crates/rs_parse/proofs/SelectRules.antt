@@ -22,7 +22,7 @@ use Rattle.rs_ast.specs.Token.{is_symbol, is_word, same_symbol}
 use Rattle.rs_ast.proofs.TokenLaws.{is_symbol_self}
 use Rattle.rs_parse.specs.Phrases.{Phrase, Is, Optional, AtMost}
 use Rattle.rs_parse.specs.Read.{Got, ◌>>=◌, begins, either_at, optional_at}
-use Rattle.rs_parse.specs.Grammar.{IsIdent, IsColRef, IsListed, IsOfColumn, IsItem, IsItems, IsDistinct, IsTableRef, IsGroup, IsKeyBy, IsDirection, IsKey, IsOrder, IsWhere, IsSelect}
+use Rattle.rs_parse.specs.Grammar.{IsIdent, IsColRef, IsCommaList, IsOfColumn, IsItem, IsItems, IsDistinct, IsTableRef, IsGroup, IsKeyBy, IsDirection, IsKey, IsOrder, IsWhere, IsSelect}
 use Rattle.rs_parse.specs.Reader.{word_at, ident_at, is_ident_token, ordinal_of, ordinal_at, count_at, of_column_at, item_at, items_at, distinct_at, table_ref_at, group_by_at, group_at, key_by_at, direction_at, key_at, order_by_at, order_at, select_at, list_at, where_at}
 use Rattle.rs_parse.proofs.Readers.{IsReader, Then, Made, Either, Empty, IsToken, Begins, never, or_left, or_right, gives_before, reads_one, reads_optional, then_reads, suffix_reads, made_reads, either_reads, as_reads, before_reads, token_begins, end_begins, empty_begins, begins_fewer, begins_made, begins_either, suffix_begins}
 use Rattle.rs_parse.proofs.Series.{begins_apart}
@@ -150,7 +150,7 @@ item_reads = as_reads IsItem
     (λ item prefix rest p ends. count_no_ident item prefix rest p))
     item_to item_from
 
--- a test that no identifier and no function word passes
+-- a test that no identifier and no function's name passes
 item_begins : (is : Token → Bool) → ((t : Token) → is_ident_token t ≡ true → is t ≡ false) → is (tokens.Word (codes "count")) ≡ false → is (tokens.Word (codes "sum")) ≡ false → is (tokens.Word (codes "min")) ≡ false → is (tokens.Word (codes "max")) ≡ false → Begins is false IsItem
 item_begins is apart e e' e'' e''' item prefix rest p = go (item_from item prefix p)
   where
@@ -158,7 +158,7 @@ item_begins is apart e e' e'' e''' item prefix rest p = go (item_from item prefi
     go (inl q) = begins_apart is_ident_token is apart (prefix ++ rest) (col_ref_begins q.0 prefix rest q.1)
     go (inr q) = count_begins is false e e' e'' e''' item prefix rest q
 
-pub list_begins : {A : Type 0} (P : Phrase A) (n : ℕ) (is : Token → Bool) (c : Bool) → Begins is c P → Begins is c (AtMost n (IsListed P))
+pub list_begins : {A : Type 0} (P : Phrase A) (n : ℕ) (is : Token → Bool) (c : Bool) → Begins is c P → Begins is c (AtMost n (IsCommaList P))
 list_begins P n is c b [] prefix rest p = absurd p.1
 list_begins P n is c b (x ∷ xs) prefix rest (le, (one, two, p, others, e)) = suffix_begins is prefix one two rest c e (b x one (two ++ rest) p)
 
@@ -166,7 +166,7 @@ abbrev no_items : Unit {0} → Option (List Item)
 no_items star = None
 
 abbrev ItemsChain : Phrase (Option (List Item))
-ItemsChain = Either (Made no_items (IsToken (tokens.Symbol symbols.Star))) (Made Some (AtMost 16 (IsListed IsItem)))
+ItemsChain = Either (Made no_items (IsToken (tokens.Symbol symbols.Star))) (Made Some (AtMost 16 (IsCommaList IsItem)))
 
 items_to : (found : Option (List Item)) (ts : List Token) → ItemsChain found ts → IsItems found ts
 items_to found ts (inl (star, is, e)) = subst (λ (x : Option (List Item)). IsItems x ts) e is
@@ -225,7 +225,7 @@ distinct_reads = as_reads IsDistinct
 abbrev on_alias : Token → Bool
 on_alias t = is_ident_token t || never t
 
--- an alias goes on, or what goes on with a name
+-- an alias continues, or what continues a name
 abbrev on_table : Token → Bool
 on_table t = on_alias t || on_name t
 
@@ -256,14 +256,14 @@ comma_ends_table : on_table (tokens.Symbol symbols.Comma) ≡ false
 unfolding same_symbol
 comma_ends_table = refl
 
--- what goes on with the tables of a query
+-- the tokens that continue the tables of a query
 abbrev on_tables : Token → Bool
 on_tables t = on_list on_table t
 
 -- ---- GROUP BY
 
 abbrev GroupChain : Phrase (List ColRef)
-GroupChain = Then (IsToken (tokens.Word (codes "group"))) (λ group. Then (IsToken (tokens.Word (codes "by"))) (λ by. AtMost 16 (IsListed IsColRef)))
+GroupChain = Then (IsToken (tokens.Word (codes "group"))) (λ group. Then (IsToken (tokens.Word (codes "by"))) (λ by. AtMost 16 (IsCommaList IsColRef)))
 
 group_by_reads : IsReader GroupChain (on_list on_column) group_by_at
 unfolding group_by_at
@@ -406,7 +406,7 @@ unfolding same_symbol
 comma_ends_key = refl
 
 abbrev OrderChain : Phrase (List Key)
-OrderChain = Then (IsToken (tokens.Word (codes "order"))) (λ order. Then (IsToken (tokens.Word (codes "by"))) (λ by. AtMost 16 (IsListed IsKey)))
+OrderChain = Then (IsToken (tokens.Word (codes "order"))) (λ order. Then (IsToken (tokens.Word (codes "by"))) (λ by. AtMost 16 (IsCommaList IsKey)))
 
 order_by_reads : IsReader OrderChain (on_list on_key) order_by_at
 unfolding order_by_at
@@ -438,7 +438,7 @@ order_begins is e (k ∷ ks) prefix rest (f, b, at, others, p) ends = token_begi
 
 -- ---- queries
 
--- what goes on with the last part of a query
+-- the tokens that continue the last part of a query
 abbrev pub on_select : Token → Bool
 on_select t = on_order t || (on_group t || (on_where t || on_tables t))
 
@@ -506,7 +506,7 @@ items_no_from : on_list on_column (tokens.Word (codes "from")) ≡ false
 items_no_from = refl
 
 abbrev FromEnd : Bool → Option (List Item) → Phrase Select
-FromEnd distinct found = Then (IsToken (tokens.Word (codes "from"))) (λ word. Then (AtMost 6 (IsListed IsTableRef)) (WhereEnd distinct found))
+FromEnd distinct found = Then (IsToken (tokens.Word (codes "from"))) (λ word. Then (AtMost 6 (IsCommaList IsTableRef)) (WhereEnd distinct found))
 
 items_follow : (distinct : Bool) (found : Option (List Item)) (select : Select) (suffix rest : List Token) → FromEnd distinct found select suffix → begins (on_list on_column) (suffix ++ rest) ≡ false
 items_follow distinct found select suffix rest q = token_begins (on_list on_column) (tokens.Word (codes "from")) false items_no_from q.1 q.2 suffix rest q.3 q.5

@@ -1,4 +1,4 @@
--- Readers of phrases that stand one behind the other.
+-- Readers of sequences of phrases.
 use Rattle.std.proofs.Common.{◌≡◌, ℕ, zero, suc, Bool, true, false, ◌||◌, List, [], ◌∷◌, ◌++◌, refl, ap, subst, ◌∙◌, arith, inl, inr}
 use Rattle.rs_ast.specs.declared.token.Token.{Token}
 use Rattle.rs_parse.specs.Phrases.{Phrase, IsSeries, AtMost}
@@ -15,7 +15,7 @@ begins_longer is (t ∷ one) two rest e = e
 
 module _ {A : Type 0} (P N : Phrase A) (is_next goes_on : Token → Bool) (first next : List Token → Read A) (r : IsReader P goes_on first) (s : IsReader N goes_on next)
     (begins_so : (x : A) (prefix rest : List Token) → N x prefix → begins is_next (prefix ++ rest) ≡ true) (apart : (t : Token) → is_next t ≡ true → goes_on t ≡ false) where
-  -- a further one comes, or the last goes on
+  -- another phrase begins, or the last continues
   abbrev pub on : Token → Bool
   on t = is_next t || goes_on t
 
@@ -31,7 +31,7 @@ module _ {A : Type 0} (P N : Phrase A) (is_next goes_on : Token → Bool) (first
   abbrev Series : ℕ → Phrase (List A)
   Series n = AtMost n (IsSeries N)
 
-  -- the items behind one that was read
+  -- the items after one that was read
   abbrev suffix : ℕ → A → List Token → Read (List A)
   suffix n x ts = series n ts >>= λ xs. Got (x ∷ xs.0) xs.1
 
@@ -76,7 +76,7 @@ module _ {A : Type 0} (P N : Phrase A) (is_next goes_on : Token → Bool) (first
   none_from [] ts (le, e) = (refl, e)
   none_from (x ∷ xs) ts (le, e) = absurd (omega (arith, le))
 
-  -- one after the other, at most so many
+  -- at most `n` phrases
   pub reads_series : (n : ℕ) → IsReader (Series n) on (series n)
   reads_series zero = reads_as (Empty []) (Series 0) on (give []) (gives_before [] on) none_to none_from
   reads_series (suc n) = reads_as (Either (Longer n) (Empty [])) (Series (suc n)) on (series (suc n))
@@ -84,6 +84,6 @@ module _ {A : Type 0} (P N : Phrase A) (is_next goes_on : Token → Bool) (first
       (λ ys prefix rest q ends. ap (λ (us : List Token). begins is_next (us ++ rest)) q.1 ∙ begins_fewer is_next on on_next rest ends))
       (series_to n) (series_from n)
 
-  -- one, and at most so many further ones
+  -- one phrase, and at most `n` others
   pub reads_more : (n : ℕ) → IsReader (Then P (Others n)) on (more_at is_next first next n)
   reads_more n = reads_then P (Others n) first (suffix n) goes_on on r (reads_others n (reads_series n)) (others_end n)

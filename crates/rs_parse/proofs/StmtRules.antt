@@ -16,7 +16,7 @@ use Rattle.rs_ast.specs.Token.{is_symbol, is_word, same_symbol}
 use Rattle.rs_ast.proofs.TokenLaws.{is_symbol_self}
 use Rattle.rs_parse.specs.Phrases.{Phrase, AtMost}
 use Rattle.rs_parse.specs.Read.{Read, Got, ◌>>=◌, begins, either_at}
-use Rattle.rs_parse.specs.Grammar.{IsIdent, IsSite, IsName, IsColumn, IsLiteral, IsListed, IsListedOrNone, IsSelect, IsDml, IsBody, IsStmt, IsRequest}
+use Rattle.rs_parse.specs.Grammar.{IsIdent, IsSite, IsName, IsColumn, IsLiteral, IsCommaList, IsCommaListOrNone, IsSelect, IsDml, IsBody, IsStmt, IsRequest}
 use Rattle.rs_parse.specs.Reader.{ident_at, is_ident_token, begins_literal, literal_at, list_or_none_at, dml_at, create_table_at, create_index_at, create_synonym_at, create_at, drop_table_at, drop_index_at, drop_synonym_at, drop_program_at, drop_at, migrate_at, compile_at, execute_at, explain_at, show_at, stmt_at, end_at, request_at}
 use Rattle.rs_parse.proofs.Readers.{IsReader, Then, Made, Either, Empty, IsToken, Begins, never, or_left, or_right, gives_before, then_reads, suffix_reads, made_reads, either_reads, as_reads, before_reads, token_begins, end_begins, empty_begins, begins_either}
 use Rattle.rs_parse.proofs.NameRules.{symbol_reads, word_reads, ident_reads, site_reads, on_name, name_reads, column_reads}
@@ -31,19 +31,19 @@ module _ {A : Type 0} (P : Phrase A) (begins_item : Token → Bool) (item : List
   on_list_or_none t = begins_item t || on_list never t
 
   abbrev SeparatedList : Phrase (List A)
-  SeparatedList = AtMost (suc n) (IsListed P)
+  SeparatedList = AtMost (suc n) (IsCommaList P)
 
-  or_none_to : (xs : List A) (ts : List Token) → Either SeparatedList (Empty []) xs ts → AtMost (suc n) (IsListedOrNone P) xs ts
+  or_none_to : (xs : List A) (ts : List Token) → Either SeparatedList (Empty []) xs ts → AtMost (suc n) (IsCommaListOrNone P) xs ts
   or_none_to [] ts (inl p) = absurd p.1
   or_none_to (x ∷ xs) ts (inl p) = p
-  or_none_to xs ts (inr (e, nothing)) = subst (λ (ys : List A). AtMost (suc n) (IsListedOrNone P) ys ts) e (omega arith, nothing)
+  or_none_to xs ts (inr (e, nothing)) = subst (λ (ys : List A). AtMost (suc n) (IsCommaListOrNone P) ys ts) e (omega arith, nothing)
 
-  or_none_from : (xs : List A) (ts : List Token) → AtMost (suc n) (IsListedOrNone P) xs ts → Either SeparatedList (Empty []) xs ts
+  or_none_from : (xs : List A) (ts : List Token) → AtMost (suc n) (IsCommaListOrNone P) xs ts → Either SeparatedList (Empty []) xs ts
   or_none_from [] ts (le, nothing) = inr (refl, nothing)
   or_none_from (x ∷ xs) ts p = inl p
 
-  list_or_none_reads : IsReader (AtMost (suc n) (IsListedOrNone P)) on_list_or_none (list_or_none_at begins_item item n)
-  list_or_none_reads = as_reads (AtMost (suc n) (IsListedOrNone P))
+  list_or_none_reads : IsReader (AtMost (suc n) (IsCommaListOrNone P)) on_list_or_none (list_or_none_at begins_item item n)
+  list_or_none_reads = as_reads (AtMost (suc n) (IsCommaListOrNone P))
       (either_reads begins_item (before_reads on_list_or_none (λ t e. or_right (begins_item t) (on_list never t) e) (list_reads n r refl)) (gives_before [] on_list_or_none)
       (list_begins P (suc n) begins_item true begins_so)
       (λ xs prefix rest p ends. empty_begins begins_item on_list_or_none (λ t e. or_left (begins_item t) (on_list never t) e) prefix rest p.1 ends))
@@ -63,7 +63,7 @@ abbrev table_made : NameText → List ColDef → Unit {0} → Stmt
 table_made name columns close = stmts.CreateTable name columns
 
 abbrev Columns : NameText → Phrase Stmt
-Columns name = Then (IsToken (tokens.Symbol symbols.Open)) (λ opened. Then (AtMost 16 (IsListed IsColumn)) (λ columns. Made (table_made name columns) (IsToken (tokens.Symbol symbols.Close))))
+Columns name = Then (IsToken (tokens.Symbol symbols.Open)) (λ opened. Then (AtMost 16 (IsCommaList IsColumn)) (λ columns. Made (table_made name columns) (IsToken (tokens.Symbol symbols.Close))))
 
 abbrev TablePart : Phrase Stmt
 TablePart = Then (IsToken (tokens.Word (codes "table"))) (λ table. Then IsName Columns)
@@ -107,7 +107,7 @@ IndexOrSynonym = Either IndexPart SynonymPart
 abbrev CreateChain : Phrase Stmt
 CreateChain = Then (IsToken (tokens.Word (codes "create"))) (λ create. Either TablePart IndexOrSynonym)
 
--- what begins with a word
+-- a phrase that begins with a word
 begins_word : (Q : Unit {0} → Phrase Stmt) (word : List ℕ) (is : Token → Bool) (c : Bool) → is (tokens.Word word) ≡ c → Begins is c (Then (IsToken (tokens.Word word)) Q)
 begins_word Q word is c e stmt prefix rest p = token_begins is (tokens.Word word) c e p.1 p.2 prefix rest p.3 p.5
 
@@ -224,7 +224,7 @@ abbrev BodyEnd : List ℕ → List (List ℕ) → Phrase Stmt
 BodyEnd program params = Then (IsToken (tokens.Symbol symbols.Close)) (λ close. Then (IsToken (tokens.Word (codes "as"))) (λ word. Then IsBody (λ body. Made (compiled program params body) (IsToken (tokens.Word (codes "end"))))))
 
 abbrev CompileChain : Phrase Stmt
-CompileChain = Then (IsToken (tokens.Word (codes "compile"))) (λ compile. Then IsIdent (λ program. Then (IsToken (tokens.Symbol symbols.Open)) (λ opened. Then (AtMost 16 (IsListedOrNone IsIdent)) (BodyEnd program))))
+CompileChain = Then (IsToken (tokens.Word (codes "compile"))) (λ compile. Then IsIdent (λ program. Then (IsToken (tokens.Symbol symbols.Open)) (λ opened. Then (AtMost 16 (IsCommaListOrNone IsIdent)) (BodyEnd program))))
 
 compile_reads : IsReader CompileChain never compile_at
 unfolding compile_at
@@ -239,7 +239,7 @@ abbrev executed : List ℕ → List Value → Unit {0} → Stmt
 executed program given close = stmts.Execute program given
 
 abbrev ExecuteChain : Phrase Stmt
-ExecuteChain = Then (IsToken (tokens.Word (codes "execute"))) (λ execute. Then IsIdent (λ program. Then (IsToken (tokens.Symbol symbols.Open)) (λ opened. Then (AtMost 16 (IsListedOrNone IsLiteral)) (λ given. Made (executed program given) (IsToken (tokens.Symbol symbols.Close))))))
+ExecuteChain = Then (IsToken (tokens.Word (codes "execute"))) (λ execute. Then IsIdent (λ program. Then (IsToken (tokens.Symbol symbols.Open)) (λ opened. Then (AtMost 16 (IsCommaListOrNone IsLiteral)) (λ given. Made (executed program given) (IsToken (tokens.Symbol symbols.Close))))))
 
 minus_begins_literal : begins_literal (tokens.Symbol symbols.Minus) ≡ true
 unfolding same_symbol
@@ -286,7 +286,7 @@ show_reads = suffix_reads (word_reads (codes "show")) (λ show.
 
 -- ---- statements
 
--- what goes on with the last part of a statement
+-- the tokens that continue the last part of a statement
 abbrev pub on_stmt : Token → Bool
 on_stmt t = on_name t || on_dml t
 
@@ -323,7 +323,7 @@ DropPart = Either DropChain MigratePart
 abbrev StmtChain : Phrase Stmt
 StmtChain = Either CreateChain DropPart
 
--- a test that says no of some words
+-- a test that some words fail
 
 dml_part_not : (is : Token → Bool) → is (tokens.Word (codes "select")) ≡ false → is (tokens.Word (codes "insert")) ≡ false → is (tokens.Word (codes "update")) ≡ false → is (tokens.Word (codes "delete")) ≡ false → Begins is false DmlPart
 dml_part_not is a b c d stmt prefix rest p = dml_begins is false a b c d p.0 prefix rest p.1
@@ -373,10 +373,10 @@ abbrev OnShow : (Token → Bool) → Type 0
 OnShow is = Begins is false ShowPart
 
 abbrev Executes : Unit {0} → Phrase Stmt
-Executes execute = Then IsIdent (λ program. Then (IsToken (tokens.Symbol symbols.Open)) (λ opened. Then (AtMost 16 (IsListedOrNone IsLiteral)) (λ given. Made (executed program given) (IsToken (tokens.Symbol symbols.Close)))))
+Executes execute = Then IsIdent (λ program. Then (IsToken (tokens.Symbol symbols.Open)) (λ opened. Then (AtMost 16 (IsCommaListOrNone IsLiteral)) (λ given. Made (executed program given) (IsToken (tokens.Symbol symbols.Close)))))
 
 abbrev Compiles : Unit {0} → Phrase Stmt
-Compiles compile = Then IsIdent (λ program. Then (IsToken (tokens.Symbol symbols.Open)) (λ opened. Then (AtMost 16 (IsListedOrNone IsIdent)) (BodyEnd program)))
+Compiles compile = Then IsIdent (λ program. Then (IsToken (tokens.Symbol symbols.Open)) (λ opened. Then (AtMost 16 (IsCommaListOrNone IsIdent)) (BodyEnd program)))
 
 abbrev Migrates : Unit {0} → Phrase Stmt
 Migrates migrate = Then (IsToken (tokens.Word (codes "table"))) (λ table. Then IsName (λ name. Then (IsToken (tokens.Word (codes "to"))) (λ to. Made (migrated name) IsSite)))
@@ -390,7 +390,7 @@ Explains explain = Made stmts.Explain IsSelect
 abbrev Shows : Unit {0} → Phrase Stmt
 Shows show = Shown
 
--- what stands in the alternatives behind the first word
+-- the alternatives after the first word
 show_not : (word : List ℕ) → IsNot (is_word word) (codes "show") → Begins (is_word word) false DmlPart → Begins (is_word word) false ShowPart
 show_not word e d = part_not Shows (codes "show") DmlPart (is_word word) e d
 
@@ -468,7 +468,7 @@ end_reads = either_reads (is_symbol symbols.Semicolon) (before_reads is_semicolo
     (λ end prefix rest p. end_begins (is_symbol symbols.Semicolon) (tokens.Symbol symbols.Semicolon) true (is_symbol_self symbols.Semicolon) prefix rest p)
     (λ end prefix rest p ends. empty_begins (is_symbol symbols.Semicolon) is_semicolon (λ t e. e) prefix rest p.1 ends)
 
--- what goes on with a request
+-- the tokens that continue a request
 abbrev pub on_request : Token → Bool
 on_request t = is_semicolon t || on_stmt t
 

@@ -19,7 +19,7 @@ use Rattle.rs_ast.specs.Token.{is_symbol, same_symbol}
 use Rattle.rs_ast.proofs.TokenLaws.{is_symbol_self, is_symbol_is}
 use Rattle.rs_parse.specs.Phrases.{Phrase, Optional, AtMost}
 use Rattle.rs_parse.specs.Read.{Read, begins, optional_at}
-use Rattle.rs_parse.specs.Grammar.{IsIdent, IsLiteral, IsParam, IsTerm, IsVal, IsTuple, IsArith, IsMoreTerm, IsExpr, IsSet, IsListed}
+use Rattle.rs_parse.specs.Grammar.{IsIdent, IsLiteral, IsParam, IsTerm, IsVal, IsTuple, IsArith, IsMoreTerm, IsExpr, IsSet, IsCommaList}
 use Rattle.rs_parse.specs.Reader.{is_ident_token, unsigned_of, unsigned_at, negated_of, negated_at, negative_at, literal_at, param_at, val_at, term_at, arith_of, arith_of_symbol, is_arith_token, arith_at, more_term_at, expr_at, set_at, list_at, tuple_at}
 use Rattle.rs_parse.proofs.Readers.{IsReader, One, Then, Made, Either, IsToken, never, reads_one, reads_optional, then_reads, suffix_reads, made_reads, either_reads, as_reads, token_begins, end_begins}
 use Rattle.rs_parse.proofs.Lists.{reads_list}
@@ -85,7 +85,7 @@ literal_reads = as_reads IsLiteral (either_reads (is_symbol symbols.Minus) negat
     (λ value prefix rest p ends. end_begins (is_symbol symbols.Minus) p.0 false (unsigned_no_minus p.0 value p.1) prefix rest p.2))
     literal_to literal_from
 
--- a test that each token passes, or none, by which a literal may begin
+-- a test that is the same for each token by which a literal may begin
 pub literal_begins : (is : Token → Bool) (c : Bool) → is (tokens.Symbol symbols.Minus) ≡ c → ((n : ℕ) → is (tokens.Number n) ≡ c) → ((text : List ℕ) → is (tokens.Text text) ≡ c)
     → (value : Value) (prefix rest : List Token) → IsLiteral value prefix → begins is (prefix ++ rest) ≡ c
 literal_begins is c minus number text (values.Int z) prefix rest (n, lt, inl (e, at)) = end_begins is (tokens.Number n) c (number n) prefix rest at
@@ -191,7 +191,7 @@ more_term_reads = as_reads IsMoreTerm (suffix_reads arith_reads (λ a. made_read
     (λ more ts (a, f, b, is, (t, is_term, e), p). subst (λ (m : Arith × Term). IsMoreTerm m ts) e (f, b, is, is_term, p))
     (λ more ts (f, b, is, is_term, p). (more.0, f, b, is, (more.1, is_term, refl), p))
 
--- a sign goes on
+-- a sign continues
 abbrev pub on_expr : Token → Bool
 on_expr t = is_arith_token t || never t
 
@@ -218,13 +218,13 @@ set_reads = as_reads IsSet (suffix_reads ident_reads (λ column. suffix_reads (s
 
 -- ---- tuples
 
--- a comma goes on, or what goes on with an item
+-- a comma continues, or what continues an item
 abbrev pub on_list : (Token → Bool) → Token → Bool
 on_list goes_on t = is_symbol symbols.Comma t || goes_on t
 
--- items with commas between them, at most one more than so many
+-- items separated by commas, at most `n + 1`
 pub list_reads : {A : Type 0} {P : Phrase A} {goes_on : Token → Bool} {item : List Token → Read A} (n : ℕ) → IsReader P goes_on item → goes_on (tokens.Symbol symbols.Comma) ≡ false
-    → IsReader (AtMost (suc n) (IsListed P)) (on_list goes_on) (list_at item n)
+    → IsReader (AtMost (suc n) (IsCommaList P)) (on_list goes_on) (list_at item n)
 list_reads {P = P} {goes_on = goes_on} {item = item} n r ends = reads_list P (tokens.Symbol symbols.Comma) (is_symbol symbols.Comma) goes_on item (is_symbol_self symbols.Comma) (is_symbol_is symbols.Comma) r ends n
 
 close_ends_vals : on_list never (tokens.Symbol symbols.Close) ≡ false

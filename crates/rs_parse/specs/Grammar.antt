@@ -1,4 +1,4 @@
--- Which lists of tokens spell a request.
+-- The grammar: the lists of tokens that are a request.
 --
 --     request   = statement [ ";" ]
 --     statement = CREATE TABLE name "(" column { "," column } ")"
@@ -33,9 +33,9 @@
 --     term      = id | literal | ":" id
 --     literal   = [ "-" ] number | text
 --
--- An id is a word that isn't reserved, and a site a number from 1 to 16. There are at most 16 columns, items, columns of a
--- group, keys, parameters, values of an EXECUTE or of a tuple, and sets, at most 6 refs and 8 statements of a program. A
--- literal's number is at most 2^63 - 1, and a key's number at most 2^32 - 1.
+-- An id is a word that isn't reserved, and a site a number from 1 to 16. There are at most 16 columns, items, columns of
+-- GROUP BY, keys, parameters, values of an EXECUTE or of a tuple, and assignments, at most 6 refs, and at most 8
+-- statements of a program. A literal's number is at most 2 ^ 63 - 1, and a key's number at most 2 ^ 32 - 1.
 use Rattle.std.specs.Prelude.{◌≡◌, ℕ, ◌^◌, ◌<◌, ◌≤◌, Bool, true, false, List, [], ◌∷◌, Option, Some, None, pos, neg_ℤ, ◌⊎◌, codes}
 use Rattle.rs_base.specs.declared.value.Kind.{Kind}
 use Rattle.rs_base.specs.declared.value.Kind.TheVariants as kinds
@@ -74,7 +74,7 @@ use Rattle.rs_ast.specs.declared.token.Token.TheVariants as tokens
 use Rattle.rs_ast.specs.Reserved.{is_reserved}
 use Rattle.rs_parse.specs.Phrases.{Phrase, Is, Spell, Optional, IsSeries, IsList, AtMost}
 
--- ---- words, marks and numbers
+-- ---- words, symbols and numbers
 
 abbrev pub Keyword : List ℕ → List Token → Type 0
 Keyword word = Is (tokens.Word word)
@@ -89,14 +89,14 @@ IsIdent name ts = (is_reserved name ≡ false) × Is (tokens.Word name) ts
 abbrev pub IsSite : Phrase ℕ
 IsSite site ts = (1 ≤ site) × (site ≤ 16) × Is (tokens.Number site) ts
 
--- items with commas between them
-abbrev pub IsListed : {A : Type 0} → Phrase A → Phrase (List A)
-IsListed P = IsList (tokens.Symbol symbols.Comma) P
+-- items separated by commas
+abbrev pub IsCommaList : {A : Type 0} → Phrase A → Phrase (List A)
+IsCommaList P = IsList (tokens.Symbol symbols.Comma) P
 
--- the same, or none
-abbrev pub IsListedOrNone : {A : Type 0} → Phrase A → Phrase (List A)
-IsListedOrNone P [] ts = ts ≡ []
-IsListedOrNone P (x ∷ xs) ts = IsListed P (x ∷ xs) ts
+-- items separated by commas, or none
+abbrev pub IsCommaListOrNone : {A : Type 0} → Phrase A → Phrase (List A)
+IsCommaListOrNone P [] ts = ts ≡ []
+IsCommaListOrNone P (x ∷ xs) ts = IsCommaList P (x ∷ xs) ts
 
 -- ---- names and columns
 
@@ -141,14 +141,14 @@ IsTerm (terms.Col column) = IsIdent column
 IsTerm (terms.Lit value) = IsLiteral value
 IsTerm (terms.Param param) = IsParam param
 
--- what an INSERT puts into a column
+-- a value of INSERT
 abbrev pub IsVal : Phrase Term
 IsVal (terms.Col column) ts = ⊥
 IsVal (terms.Lit value) ts = IsLiteral value ts
 IsVal (terms.Param param) ts = IsParam param ts
 
 abbrev pub IsTuple : Phrase (List Term)
-IsTuple row = Spell (IsSymbol symbols.Open ∷ AtMost 16 (IsListed IsVal) row ∷ IsSymbol symbols.Close ∷ [])
+IsTuple row = Spell (IsSymbol symbols.Open ∷ AtMost 16 (IsCommaList IsVal) row ∷ IsSymbol symbols.Close ∷ [])
 
 abbrev pub IsArith : Phrase Arith
 IsArith ariths.Add = IsSymbol symbols.Plus
@@ -182,7 +182,7 @@ IsOperand (operands.Param param) = IsParam param
 abbrev pub IsCmp : Phrase Cmp
 IsCmp cmp = Spell (IsColRef cmp.left ∷ IsOp cmp.op ∷ IsOperand cmp.right ∷ [])
 
--- one comparison, or some in brackets of which one has to hold
+-- one comparison, or a disjunction of comparisons in parentheses
 abbrev pub IsClause : Phrase Clause
 IsClause clause ts =
     ((cmp : Cmp) × (clause.any ≡ cmp ∷ []) × IsCmp cmp ts)
@@ -206,7 +206,7 @@ IsItem (items.Max c) = IsOfColumn (codes "max") c
 
 abbrev pub IsItems : Phrase (Option (List Item))
 IsItems None = IsSymbol symbols.Star
-IsItems (Some items) = AtMost 16 (IsListed IsItem) items
+IsItems (Some items) = AtMost 16 (IsCommaList IsItem) items
 
 abbrev pub IsDistinct : Phrase Bool
 IsDistinct false ts = ts ≡ []
@@ -217,7 +217,7 @@ IsTableRef table = Spell (IsName table.name ∷ Optional IsIdent table.alias ∷
 
 abbrev pub IsGroup : Phrase (List ColRef)
 IsGroup [] ts = ts ≡ []
-IsGroup (c ∷ cs) ts = Spell (Keyword (codes "group") ∷ Keyword (codes "by") ∷ AtMost 16 (IsListed IsColRef) (c ∷ cs) ∷ []) ts
+IsGroup (c ∷ cs) ts = Spell (Keyword (codes "group") ∷ Keyword (codes "by") ∷ AtMost 16 (IsCommaList IsColRef) (c ∷ cs) ∷ []) ts
 
 abbrev pub IsKeyBy : Phrase KeyBy
 IsKeyBy (keys.Col c) ts = IsColRef c ts
@@ -232,34 +232,34 @@ IsKey key = Spell (IsKeyBy key.by ∷ IsDirection key.desc ∷ [])
 
 abbrev pub IsOrder : Phrase (List Key)
 IsOrder [] ts = ts ≡ []
-IsOrder (key ∷ keys) ts = Spell (Keyword (codes "order") ∷ Keyword (codes "by") ∷ AtMost 16 (IsListed IsKey) (key ∷ keys) ∷ []) ts
+IsOrder (key ∷ keys) ts = Spell (Keyword (codes "order") ∷ Keyword (codes "by") ∷ AtMost 16 (IsCommaList IsKey) (key ∷ keys) ∷ []) ts
 
 abbrev pub IsSelect : Phrase Select
 IsSelect select = Spell (
     Keyword (codes "select") ∷ IsDistinct select.distinct ∷ IsItems select.items
-    ∷ Keyword (codes "from") ∷ AtMost 6 (IsListed IsTableRef) select.from
+    ∷ Keyword (codes "from") ∷ AtMost 6 (IsCommaList IsTableRef) select.from
     ∷ IsWhere select.clauses ∷ IsGroup select.group ∷ IsOrder select.order ∷ [])
 
 -- ---- statements
 
 abbrev pub IsDml : Phrase Dml
 IsDml (dmls.Select select) = IsSelect select
-IsDml (dmls.Insert name rows) = Spell (Keyword (codes "insert") ∷ Keyword (codes "into") ∷ IsName name ∷ Keyword (codes "values") ∷ IsListed IsTuple rows ∷ [])
-IsDml (dmls.Update name sets clauses) = Spell (Keyword (codes "update") ∷ IsName name ∷ Keyword (codes "set") ∷ AtMost 16 (IsListed IsSet) sets ∷ IsWhere clauses ∷ [])
+IsDml (dmls.Insert name rows) = Spell (Keyword (codes "insert") ∷ Keyword (codes "into") ∷ IsName name ∷ Keyword (codes "values") ∷ IsCommaList IsTuple rows ∷ [])
+IsDml (dmls.Update name sets clauses) = Spell (Keyword (codes "update") ∷ IsName name ∷ Keyword (codes "set") ∷ AtMost 16 (IsCommaList IsSet) sets ∷ IsWhere clauses ∷ [])
 IsDml (dmls.Delete name clauses) = Spell (Keyword (codes "delete") ∷ Keyword (codes "from") ∷ IsName name ∷ IsWhere clauses ∷ [])
 
--- a statement of a program, and its semicolon
+-- a statement of a program, with its semicolon
 abbrev pub IsDmlEnded : Phrase Dml
 IsDmlEnded dml = Spell (IsDml dml ∷ IsSymbol symbols.Semicolon ∷ [])
 
--- one to eight of these
+-- one to eight statements of a program
 abbrev pub IsBody : Phrase (List Dml)
 IsBody [] ts = ⊥
 IsBody (dml ∷ dmls) ts = AtMost 8 (IsSeries IsDmlEnded) (dml ∷ dmls) ts
 
 abbrev pub IsStmt : Phrase Stmt
 IsStmt (stmts.CreateTable name columns) =
-    Spell (Keyword (codes "create") ∷ Keyword (codes "table") ∷ IsName name ∷ IsSymbol symbols.Open ∷ AtMost 16 (IsListed IsColumn) columns ∷ IsSymbol symbols.Close ∷ [])
+    Spell (Keyword (codes "create") ∷ Keyword (codes "table") ∷ IsName name ∷ IsSymbol symbols.Open ∷ AtMost 16 (IsCommaList IsColumn) columns ∷ IsSymbol symbols.Close ∷ [])
 IsStmt (stmts.DropTable name) = Spell (Keyword (codes "drop") ∷ Keyword (codes "table") ∷ IsName name ∷ [])
 IsStmt (stmts.CreateIndex index name column) =
     Spell (Keyword (codes "create") ∷ Keyword (codes "index") ∷ IsIdent index ∷ Keyword (codes "on") ∷ IsName name ∷ IsSymbol symbols.Open ∷ IsIdent column ∷ IsSymbol symbols.Close ∷ [])
@@ -269,17 +269,17 @@ IsStmt (stmts.CreateSynonym synonym name) =
 IsStmt (stmts.DropSynonym synonym) = Spell (Keyword (codes "drop") ∷ Keyword (codes "synonym") ∷ IsIdent synonym ∷ [])
 IsStmt (stmts.Migrate name to) = Spell (Keyword (codes "migrate") ∷ Keyword (codes "table") ∷ IsName name ∷ Keyword (codes "to") ∷ IsSite to ∷ [])
 IsStmt (stmts.Compile program params body) = Spell (
-    Keyword (codes "compile") ∷ IsIdent program ∷ IsSymbol symbols.Open ∷ AtMost 16 (IsListedOrNone IsIdent) params ∷ IsSymbol symbols.Close
+    Keyword (codes "compile") ∷ IsIdent program ∷ IsSymbol symbols.Open ∷ AtMost 16 (IsCommaListOrNone IsIdent) params ∷ IsSymbol symbols.Close
     ∷ Keyword (codes "as") ∷ IsBody body ∷ Keyword (codes "end") ∷ [])
 IsStmt (stmts.DropProgram program) = Spell (Keyword (codes "drop") ∷ Keyword (codes "program") ∷ IsIdent program ∷ [])
 IsStmt (stmts.Execute program given) =
-    Spell (Keyword (codes "execute") ∷ IsIdent program ∷ IsSymbol symbols.Open ∷ AtMost 16 (IsListedOrNone IsLiteral) given ∷ IsSymbol symbols.Close ∷ [])
+    Spell (Keyword (codes "execute") ∷ IsIdent program ∷ IsSymbol symbols.Open ∷ AtMost 16 (IsCommaListOrNone IsLiteral) given ∷ IsSymbol symbols.Close ∷ [])
 IsStmt (stmts.Explain select) = Spell (Keyword (codes "explain") ∷ IsSelect select ∷ [])
 IsStmt stmts.ShowSections = Spell (Keyword (codes "show") ∷ Keyword (codes "sections") ∷ [])
 IsStmt stmts.ShowCache = Spell (Keyword (codes "show") ∷ Keyword (codes "cache") ∷ [])
 IsStmt (stmts.Dml dml) = IsDml dml
 
--- a semicolon or none
+-- an optional semicolon
 abbrev pub IsEnd : List Token → Type 0
 IsEnd ts = (ts ≡ []) ⊎ IsSymbol symbols.Semicolon ts
 

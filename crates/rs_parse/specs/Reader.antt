@@ -1,5 +1,5 @@
--- Reading a request from tokens, rule by rule: what stands at the front, and the tokens behind it, or the place of the
--- fault. Each rule goes by the first token alone.
+-- The parser as functions, rule by rule: the phrase that begins the tokens, with the tokens after it, or the fault. Each
+-- rule decides by the first token only.
 use Rattle.std.specs.Prelude.{ℕ, ◌^◌, Bool, true, false, ◌||◌, ◌&&◌, List, [], ◌∷◌, Option, Some, None, is_some, pos, neg_ℤ, nat_lt, nat_le, bytes_eq, codes, if◌then◌else◌}
 use Rattle.rs_base.specs.declared.value.Kind.{Kind}
 use Rattle.rs_base.specs.declared.value.Kind.TheVariants as kinds
@@ -116,7 +116,7 @@ is_arith_token t = is_some (arith_of t)
 unfoldable pub arith_at : List Token → Read Arith
 arith_at ts = one_at arith_of ts
 
--- a key's place
+-- the ordinal of a select item
 abbrev pub ordinal_of : Token → Option ℕ
 ordinal_of (tokens.Word word) = None
 ordinal_of (tokens.Number n) = if nat_lt n (2 ^ 32) then Some n else None
@@ -128,7 +128,7 @@ ordinal_at ts = one_at ordinal_of ts
 
 -- ---- literals
 
--- a number without a sign, or a text
+-- a number without a sign, or a text literal
 abbrev pub unsigned_of : Token → Option Value
 unsigned_of (tokens.Word word) = None
 unsigned_of (tokens.Number n) = if nat_lt n (2 ^ 63) then Some (values.Int (pos n)) else None
@@ -138,7 +138,7 @@ unsigned_of (tokens.Symbol symbol) = None
 unfoldable pub unsigned_at : List Token → Read Value
 unsigned_at ts = one_at unsigned_of ts
 
--- a number behind `-`
+-- a number after `-`
 abbrev pub negated_of : Token → Option Value
 negated_of (tokens.Word word) = None
 negated_of (tokens.Number n) = if nat_lt n (2 ^ 63) then Some (values.Int (neg_ℤ (pos n))) else None
@@ -163,7 +163,7 @@ begins_literal t = is_symbol symbols.Minus t || is_some (unsigned_of t)
 abbrev pub list_at : {A : Type 0} → (List Token → Read A) → ℕ → List Token → Read (List A)
 list_at item n ts = separated_at (is_symbol symbols.Comma) item n ts
 
--- the same where an item may begin, else none
+-- the same if an item may begin with the first token, and otherwise none
 abbrev pub list_or_none_at : {A : Type 0} → (Token → Bool) → (List Token → Read A) → ℕ → List Token → Read (List A)
 list_or_none_at begins_item item n ts = either_at begins_item (list_at item n) (λ us. Got [] us) ts
 
@@ -175,7 +175,7 @@ at_site_at ts = symbol_at symbols.At ts >>= λ at. site_at at.1
 unfoldable pub optional_site_at : List Token → Read (Option ℕ)
 optional_site_at ts = optional_at (is_symbol symbols.At) at_site_at ts
 
--- a name behind its creator
+-- the rest of a name, after its creator
 unfoldable pub created_at : List ℕ → Option ℕ → List Token → Read NameText
 created_at creator creator_site ts = do
   dot ← symbol_at symbols.Dot ts
@@ -184,29 +184,29 @@ created_at creator creator_site ts = do
   Got (record { creator = Some creator; creator_site = creator_site; object = object.0; birth = birth.0 }) birth.1
 
 -- a name without a creator
-abbrev pub object_alone : List ℕ → Option ℕ → NameText
-object_alone object birth = record { creator = None; creator_site = None; object = object; birth = birth }
+abbrev pub unqualified_name : List ℕ → Option ℕ → NameText
+unqualified_name object birth = record { creator = None; creator_site = None; object = object; birth = birth }
 
 unfoldable pub name_at : List Token → Read NameText
 name_at ts = do
   first ← ident_at ts
   site ← optional_site_at first.1
-  either_at (is_symbol symbols.Dot) (created_at first.0 site.0) (λ us. Got (object_alone first.0 site.0) us) site.1
+  either_at (is_symbol symbols.Dot) (created_at first.0 site.0) (λ us. Got (unqualified_name first.0 site.0) us) site.1
 
--- a column behind its table
+-- the rest of a reference to a column, after its table
 unfoldable pub column_of_at : List ℕ → List Token → Read ColRef
 column_of_at table ts = do
   dot ← symbol_at symbols.Dot ts
   column ← ident_at dot.1
   Got (record { table = Some table; column = column.0 }) column.1
 
-abbrev pub column_alone : List ℕ → ColRef
-column_alone column = record { table = None; column = column }
+abbrev pub unqualified_column : List ℕ → ColRef
+unqualified_column column = record { table = None; column = column }
 
 unfoldable pub col_ref_at : List Token → Read ColRef
 col_ref_at ts = do
   first ← ident_at ts
-  either_at (is_symbol symbols.Dot) (column_of_at first.0) (λ us. Got (column_alone first.0) us) first.1
+  either_at (is_symbol symbols.Dot) (column_of_at first.0) (λ us. Got (unqualified_column first.0) us) first.1
 
 unfoldable pub column_at : List Token → Read ColDef
 column_at ts = do
@@ -228,7 +228,7 @@ literal_term_at ts = literal_at ts >>= λ value. Got (terms.Lit value.0) value.1
 abbrev pub column_term_at : List Token → Read Term
 column_term_at ts = ident_at ts >>= λ column. Got (terms.Col column.0) column.1
 
--- what an INSERT puts into a column
+-- a value of INSERT
 unfoldable pub val_at : List Token → Read Term
 val_at ts = either_at (is_symbol symbols.Colon) param_term_at literal_term_at ts
 
@@ -311,7 +311,7 @@ count_at ts = do
   close_at ← symbol_at symbols.Close star.1
   Got items.Count close_at.1
 
--- the column of an aggregate
+-- an aggregate over a column: the column
 unfoldable pub of_column_at : List ℕ → List Token → Read ColRef
 of_column_at name ts = do
   word ← word_at name ts
@@ -373,7 +373,7 @@ abbrev pub key_column_at : List Token → Read KeyBy
 key_column_at ts = col_ref_at ts >>= λ column. Got (keys.Col column.0) column.1
 
 abbrev pub key_ordinal_at : List Token → Read KeyBy
-key_ordinal_at ts = ordinal_at ts >>= λ offset. Got (keys.Place offset.0) offset.1
+key_ordinal_at ts = ordinal_at ts >>= λ ordinal. Got (keys.Place ordinal.0) ordinal.1
 
 unfoldable pub key_by_at : List Token → Read KeyBy
 key_by_at ts = either_at is_ident_token key_column_at key_ordinal_at ts
@@ -414,7 +414,7 @@ select_at ts = do
   order ← order_at group.1
   Got (record { distinct = distinct.0; items = items.0; from = tables.0; clauses = clauses.0; group = group.0; order = order.0 }) order.1
 
--- ---- changes
+-- ---- INSERT, UPDATE and DELETE
 
 abbrev pub select_dml_at : List Token → Read Dml
 select_dml_at ts = select_at ts >>= λ select. Got (dmls.Select select.0) select.1
@@ -424,8 +424,8 @@ insert_at ts = do
   insert ← word_at (codes "insert") ts
   into ← word_at (codes "into") insert.1
   name ← name_at into.1
-  put ← word_at (codes "values") name.1
-  rows ← all_at (is_symbol symbols.Comma) tuple_at put.1
+  values_at ← word_at (codes "values") name.1
+  rows ← all_at (is_symbol symbols.Comma) tuple_at values_at.1
   Got (dmls.Insert name.0 rows.0) rows.1
 
 unfoldable pub update_at : List Token → Read Dml
@@ -594,7 +594,7 @@ stmt_at ts =
     (either_at (is_word (codes "explain")) explain_at
     (either_at (is_word (codes "show")) show_at dml_stmt_at)))))) ts
 
--- a semicolon or none
+-- an optional semicolon
 unfoldable pub end_at : List Token → Read (Unit {0})
 end_at ts = either_at (is_symbol symbols.Semicolon) (symbol_at symbols.Semicolon) (λ us. Got tt us) ts
 
@@ -604,7 +604,7 @@ request_at ts = do
   end ← end_at stmt.1
   Got stmt.0 end.1
 
--- and nothing behind it
+-- the statement, if no token follows it
 abbrev pub at_end : Stmt → List Token → Read Stmt
 at_end stmt [] = Got stmt []
 at_end stmt (t ∷ ts) = Fault (t ∷ ts)

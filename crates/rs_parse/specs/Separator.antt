@@ -1,4 +1,4 @@
--- What parts the items of a list.
+-- The separators of lists.
 use Rattle.std.specs.Prelude.{Bool, codes}
 use Rattle.rs_ast.specs.declared.token.Symbol.TheVariants as symbols
 use Rattle.rs_ast.specs.declared.token.Token.{Token}

@@ -1,4 +1,4 @@
-//! INSERT, UPDATE and DELETE, and all statements on rows.
+//! Parsing of INSERT, UPDATE and DELETE, and of all statements on rows.
 
 ghost use Rattle.rs_parse.specs.Read.{Reads};
 ghost use Rattle.rs_parse.specs.Reader as spec;
@@ -51,7 +51,7 @@ fn delete(alloc: Global, tokens: &mut Cursor<'_>) -> Result<Dml, ReadFault>
     Ok(Dml::Delete { name, clauses })
 }
 
-/// A statement on rows.
+/// Parses a statement on rows.
 #[tactic(auto, unfolding(crate::specs::Reader::dml_at))]
 pub fn dml(alloc: Global, tokens: &mut Cursor<'_>) -> Result<Dml, ReadFault>
     ensures { Reads (spec.dml_at tokens.old) result tokens.new }

@@ -1,4 +1,4 @@
-//! WHERE.
+//! Parsing of predicates.
 
 ghost use Rattle.rs_parse.specs.Read.{Reads};
 ghost use Rattle.rs_parse.specs.Reader as spec;
@@ -7,12 +7,12 @@ use crate::cursor::Cursor;
 use crate::list::{ListItem, Separator, all};
 use crate::names::col_ref;
 use crate::terms::{literal, param};
-use rs_ast::{Clause, Clauses, Cmp, Symbol, Operand};
+use rs_ast::{Clause, Clauses, Cmp, Operand, Symbol};
 use rs_base::ReadFault;
 use sqlite_items::Items;
 use std::alloc::Global;
 
-/// What a column is compared with.
+/// Parses the right operand of a comparison.
 #[tactic(auto, unfolding(crate::specs::Reader::operand_at))]
 fn operand(alloc: Global, tokens: &mut Cursor<'_>) -> Result<Operand, ReadFault>
     ensures { Reads (spec.operand_at tokens.old) result tokens.new }
@@ -26,7 +26,7 @@ fn operand(alloc: Global, tokens: &mut Cursor<'_>) -> Result<Operand, ReadFault>
     }
 }
 
-/// A comparison.
+/// Parses a comparison.
 #[tactic(auto, unfolding(crate::specs::Reader::cmp_at))]
 fn cmp(alloc: Global, tokens: &mut Cursor<'_>) -> Result<Cmp, ReadFault>
     ensures { Reads (spec.cmp_at tokens.old) result tokens.new }
@@ -75,7 +75,7 @@ fn clauses(alloc: Global, tokens: &mut Cursor<'_>) -> Result<Clauses, ReadFault>
     all(alloc, tokens, Separator::And)
 }
 
-/// What WHERE asks, if there is one.
+/// Parses an optional WHERE. Without one the predicate has no clauses.
 #[tactic(auto, unfolding(crate::specs::Reader::where_at))]
 pub fn optional_clauses(alloc: Global, tokens: &mut Cursor<'_>) -> Result<Clauses, ReadFault>
     ensures { Reads (spec.where_at tokens.old) result tokens.new }

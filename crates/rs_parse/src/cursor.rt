@@ -1,4 +1,5 @@
-//! A place in a list of tokens, and the readers of one token. A reader that gives `Malformed` stays at the token that it refuses.
+//! A cursor over tokens, and the readers of single tokens. A reader that fails with `Malformed` stays at the token that it
+//! refuses.
 
 ghost use Rattle.std.specs.Prelude.{◌≡◌, length};
 ghost use Rattle.rs_parse.specs.Read.{Reads, begins};
@@ -9,12 +10,12 @@ use crate::token::{
     arith_of, ident_of, is_dml, is_unsigned, kind_of, negated_of, op_of, ordinal_of, site_of,
     unsigned_of,
 };
-use rs_ast::{Arith, Symbol, Op, Stmt, Token};
+use rs_ast::{Arith, Op, Stmt, Symbol, Token};
 use rs_base::{Ident, Kind, ReadFault, SiteNo, Value};
 use std::alloc::Global;
 use std::marker::Model;
 
-/// The tokens that are still to be read.
+/// A cursor over tokens: those that are still to be read.
 #[derive(Drop)]
 pub struct Cursor<'a> {
     left: &'a [Token],
@@ -96,7 +97,7 @@ impl<'a> Cursor<'a> {
         }
     }
 
-    /// Gives the statement, where nothing stands behind it.
+    /// Returns the statement, if no token follows it.
     pub fn expect_end(&self, stmt: Stmt) -> Result<Stmt, ReadFault>
         ensures { Reads (spec.at_end stmt self.now) result self.now }
     {
@@ -132,7 +133,7 @@ impl<'a> Cursor<'a> {
         Ok(())
     }
 
-    /// A word that isn't reserved.
+    /// Reads an identifier: a word that isn't reserved.
     #[tactic(auto, unfolding(crate::specs::Reader::ident_at))]
     pub fn ident(&mut self) -> Result<Ident, ReadFault>
         ensures { Reads (spec.ident_at self.old) result self.new }
@@ -203,7 +204,7 @@ impl<'a> Cursor<'a> {
         Ok(arith)
     }
 
-    /// A key's place.
+    /// Reads the ordinal of a select item, below `2 ^ 32`.
     #[tactic(auto, unfolding(crate::specs::Reader::ordinal_at))]
     pub fn ordinal(&mut self) -> Result<u32, ReadFault>
         ensures { Reads (spec.ordinal_at self.old) result self.new }
@@ -218,7 +219,7 @@ impl<'a> Cursor<'a> {
         Ok(ordinal)
     }
 
-    /// A number behind `-`.
+    /// Reads the number after `-`, below `2 ^ 63`, and negates it.
     #[tactic(auto, unfolding(crate::specs::Reader::negated_at))]
     pub fn negated(&mut self) -> Result<Value, ReadFault>
         ensures { Reads (spec.negated_at self.old) result self.new }
@@ -233,7 +234,7 @@ impl<'a> Cursor<'a> {
         Ok(negated)
     }
 
-    /// A number without a sign, or a text.
+    /// Reads a number without a sign, below `2 ^ 63`, or a text literal.
     #[tactic(auto, unfolding(crate::specs::Reader::unsigned_at))]
     pub fn unsigned(&mut self, alloc: Global) -> Result<Value, ReadFault>
         ensures { Reads (spec.unsigned_at self.old) result self.new }

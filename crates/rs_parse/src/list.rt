@@ -1,4 +1,4 @@
-//! Reading lists.
+//! Parsing of lists.
 
 ghost use Rattle.std.specs.Prelude.{◌≡◌};
 ghost use Rattle.rs_parse.specs.Read.{Reads, begins, pass_at, suffix_at, separated_at, all_at};
@@ -10,7 +10,7 @@ use rs_base::ReadFault;
 use sqlite_items::Items;
 use std::alloc::Global;
 
-/// What parts the items of a list.
+/// The separator of a list's items.
 #[derive(Clone, Copy)]
 pub enum Separator {
     Comma,
@@ -18,7 +18,7 @@ pub enum Separator {
     Or,
 }
 
-/// What stands in lists, and how it is read there.
+/// An item of a list, with its reader.
 pub trait ListItem: Drop {
     ghost use Rattle.std.specs.Prelude.{List};
     ghost use Rattle.rs_ast.specs.declared.token.Token.{Token};
@@ -30,7 +30,7 @@ pub trait ListItem: Drop {
         ensures { Reads (item_at tokens.old) result tokens.new };
 }
 
-fn goes_on(tokens: &Cursor<'_>, separator: Separator) -> bool
+fn begins_with_separator(tokens: &Cursor<'_>, separator: Separator) -> bool
     ensures { result ≡ begins (spec.is_separator separator) tokens.now }
 {
     match separator {
@@ -61,7 +61,7 @@ fn next_item<T: ListItem>(
     T::item(alloc, tokens)
 }
 
-/// One item, and at most so many further ones behind separators.
+/// Parses one item, and at most `most` others, each after a separator.
 pub fn separated_list<T: ListItem>(
     alloc: Global,
     tokens: &mut Cursor<'_>,
@@ -73,7 +73,7 @@ pub fn separated_list<T: ListItem>(
     let mut found = Items::new(alloc);
     found.push(T::item(alloc, tokens)?)?;
     for _ in 0..most {
-        if !goes_on(tokens, separator) {
+        if !begins_with_separator(tokens, separator) {
             return Ok(found);
         }
         found.push(next_item::<T>(alloc, tokens, separator)?)?;
@@ -81,7 +81,7 @@ pub fn separated_list<T: ListItem>(
     Ok(found)
 }
 
-/// One item, and any number of further ones behind separators.
+/// Parses one item, and any number of others, each after a separator.
 pub fn all<T: ListItem>(
     alloc: Global,
     tokens: &mut Cursor<'_>,

@@ -1,4 +1,4 @@
-//! Names of tables and of columns.
+//! Parsing of names of tables and columns.
 
 ghost use Rattle.rs_parse.specs.Read.{Reads};
 ghost use Rattle.rs_parse.specs.Reader as spec;
@@ -28,7 +28,7 @@ fn optional_site(tokens: &mut Cursor<'_>) -> Result<Option<SiteNo>, ReadFault>
     }
 }
 
-/// What follows a name's creator.
+/// Parses the rest of a name, after its creator.
 #[tactic(auto, unfolding(crate::specs::Reader::created_at))]
 fn created(
     creator: Ident,
@@ -48,7 +48,7 @@ fn created(
     })
 }
 
-/// A table's name: `creator@site.object@site`, of which the object alone is needed.
+/// Parses a table's name: `creator@site.object@site`, of which only the object is required.
 #[tactic(auto, unfolding(crate::specs::Reader::name_at))]
 pub fn name(tokens: &mut Cursor<'_>) -> Result<NameText, ReadFault>
     ensures { Reads (spec.name_at tokens.old) result tokens.new }
@@ -66,7 +66,7 @@ pub fn name(tokens: &mut Cursor<'_>) -> Result<NameText, ReadFault>
     })
 }
 
-/// What follows a column's table.
+/// Parses the rest of a reference to a column, after its table.
 #[tactic(auto, unfolding(crate::specs::Reader::column_of_at))]
 fn column_of(table: Ident, tokens: &mut Cursor<'_>) -> Result<ColRef, ReadFault>
     ensures { Reads (spec.column_of_at table tokens.old) result tokens.new }
@@ -79,7 +79,7 @@ fn column_of(table: Ident, tokens: &mut Cursor<'_>) -> Result<ColRef, ReadFault>
     })
 }
 
-/// A column of a statement: `column` or `table.column`.
+/// Parses a reference to a column: `column` or `table.column`.
 #[tactic(auto, unfolding(crate::specs::Reader::col_ref_at))]
 pub fn col_ref(tokens: &mut Cursor<'_>) -> Result<ColRef, ReadFault>
     ensures { Reads (spec.col_ref_at tokens.old) result tokens.new }
@@ -94,7 +94,7 @@ pub fn col_ref(tokens: &mut Cursor<'_>) -> Result<ColRef, ReadFault>
     })
 }
 
-/// A column as a table declares it.
+/// Parses a column definition.
 #[tactic(auto, unfolding(crate::specs::Reader::column_at))]
 fn column(tokens: &mut Cursor<'_>) -> Result<ColDef, ReadFault>
     ensures { Reads (spec.column_at tokens.old) result tokens.new }

@@ -1,4 +1,4 @@
-//! Statements on programs and about the site itself.
+//! Parsing of statements on programs, and of EXPLAIN and SHOW.
 
 ghost use Rattle.rs_parse.specs.Read.{Reads};
 ghost use Rattle.rs_parse.specs.Reader as spec;
@@ -7,7 +7,7 @@ use crate::changes::dml;
 use crate::cursor::Cursor;
 use crate::list::{Separator, separated_list};
 use crate::queries::select;
-use rs_ast::{Dml, Dmls, Idents, Symbol, Stmt};
+use rs_ast::{Dml, Dmls, Idents, Stmt, Symbol};
 use rs_base::{ReadFault, Row};
 use sqlite_items::Items;
 use std::alloc::Global;
@@ -21,7 +21,7 @@ fn dml_ended(alloc: Global, tokens: &mut Cursor<'_>) -> Result<Dml, ReadFault>
     Ok(dml)
 }
 
-/// One to eight statements, each with its semicolon.
+/// Parses one to eight statements, each with its semicolon.
 #[tactic(auto, unfolding(crate::specs::Reader::body_at))]
 fn body(alloc: Global, tokens: &mut Cursor<'_>) -> Result<Dmls, ReadFault>
     ensures { Reads (spec.body_at tokens.old) result tokens.new }

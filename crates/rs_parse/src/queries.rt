@@ -1,4 +1,4 @@
-//! SELECT.
+//! Parsing of queries.
 
 ghost use Rattle.rs_parse.specs.Read.{Reads, optional_at};
 ghost use Rattle.rs_parse.specs.Reader as spec;
@@ -7,7 +7,7 @@ use crate::clauses::optional_clauses;
 use crate::cursor::Cursor;
 use crate::list::{ListItem, Separator, separated_list};
 use crate::names::{col_ref, name};
-use rs_ast::{ColRef, ColRefs, Item, Key, KeyBy, Keys, Symbol, Select, SelectItems, TableRef};
+use rs_ast::{ColRef, ColRefs, Item, Key, KeyBy, Keys, Select, SelectItems, Symbol, TableRef};
 use rs_base::{Ident, ReadFault};
 use sqlite_items::Items;
 use std::alloc::Global;
@@ -23,7 +23,7 @@ fn count(tokens: &mut Cursor<'_>) -> Result<Item, ReadFault>
     Ok(Item::Count)
 }
 
-/// The column of an aggregate.
+/// Parses an aggregate over a column, and returns the column.
 #[tactic(auto, unfolding(crate::specs::Reader::of_column_at))]
 fn of_column(aggregate: &[u8], tokens: &mut Cursor<'_>) -> Result<ColRef, ReadFault>
     ensures { Reads (spec.of_column_at aggregate.now tokens.old) result tokens.new }
@@ -52,7 +52,7 @@ fn item(tokens: &mut Cursor<'_>) -> Result<Item, ReadFault>
     }
 }
 
-/// The items of a query, or none for every column.
+/// Parses the items of a select list, or `*`, which is `None`.
 #[tactic(auto, unfolding(crate::specs::Reader::items_at))]
 fn items(alloc: Global, tokens: &mut Cursor<'_>) -> Result<Option<SelectItems>, ReadFault>
     ensures { Reads (spec.items_at tokens.old) result tokens.new }
@@ -171,7 +171,7 @@ fn order(alloc: Global, tokens: &mut Cursor<'_>) -> Result<Keys, ReadFault>
     }
 }
 
-/// A query.
+/// Parses a query.
 #[tactic(auto, unfolding(crate::specs::Reader::select_at))]
 pub fn select(alloc: Global, tokens: &mut Cursor<'_>) -> Result<Select, ReadFault>
     ensures { Reads (spec.select_at tokens.old) result tokens.new }

@@ -1,4 +1,4 @@
-//! A place in a text.
+//! A cursor over a text, and the readers of tokens.
 
 ghost use Rattle.std.specs.Prelude.{◌≡◌, ◌≤◌, length, drop, if◌then◌else◌};
 ghost use Rattle.std.specs.List.{prefix_len};
@@ -12,7 +12,7 @@ use rs_base::{Bytes, Ident, NoMemory, ReadFault, Txt, TxtFault};
 use std::alloc::Global;
 use std::marker::Model;
 
-/// The bytes that are still to be read.
+/// A cursor over a text: the bytes that are still to be read.
 #[derive(Drop)]
 pub struct Scanner<'a> {
     left: &'a [u8],
@@ -44,7 +44,7 @@ impl<'a> Scanner<'a> {
         Scanner { left: text }
     }
 
-    /// How many bytes are still to be read.
+    /// Returns the number of bytes that are still to be read.
     pub fn len(&self) -> usize
         ensures { result ≡ length self.now }
     {
@@ -87,7 +87,7 @@ impl<'a> Scanner<'a> {
         Ok(Token::Number(value as u64))
     }
 
-    /// What stands up to the closing quote, with each doubled quote taken as one.
+    /// Reads the bytes up to the closing quote, with each doubled quote as one.
     fn quoted(&mut self, alloc: Global) -> Result<Bytes, ReadFault>
         ensures { Reads (spec.quoted_at self.old) result self.new }
     {
@@ -111,7 +111,7 @@ impl<'a> Scanner<'a> {
         }
     }
 
-    /// A text, behind its opening quote.
+    /// Reads a text literal, after its opening quote.
     #[tactic(auto, unfolding(crate::specs::Tokens::text_at))]
     fn text(&mut self, alloc: Global) -> Result<Token, ReadFault>
         ensures { Reads (spec.text_at self.old) result self.new }
@@ -124,7 +124,7 @@ impl<'a> Scanner<'a> {
         }
     }
 
-    /// Goes behind this byte, where it stands there.
+    /// Consumes this byte if it is next, and returns whether it was.
     fn eat(&mut self, byte: u8) -> bool
         ensures eaten { result ≡ spec.begins_with byte self.old }
         ensures left { self.new ≡ (if result then drop 1 self.old else self.old) }
@@ -138,7 +138,7 @@ impl<'a> Scanner<'a> {
         false
     }
 
-    /// A mark, behind its first byte.
+    /// Reads a symbol, after its first byte.
     #[tactic(auto, unfolding(crate::specs::Tokens::symbol_at))]
     fn symbol(&mut self, first: u8) -> Result<Symbol, ReadFault>
         ensures { Reads (spec.symbol_at first self.old) result self.new }
@@ -185,7 +185,7 @@ impl<'a> Scanner<'a> {
         Ok(Token::Symbol(self.symbol(first)?))
     }
 
-    /// The token that stands here, or `None` where none does.
+    /// Reads the next token, or returns `None` if no token begins here.
     pub fn next(&mut self, alloc: Global) -> Result<Option<Token>, NoMemory>
         ensures { Steps result self.old self.new }
     {

@@ -1,4 +1,4 @@
-//! Statements on tables, indexes and synonyms.
+//! Parsing of CREATE, DROP and MIGRATE.
 
 ghost use Rattle.rs_parse.specs.Read.{Reads};
 ghost use Rattle.rs_parse.specs.Reader as spec;
@@ -6,7 +6,7 @@ ghost use Rattle.rs_parse.specs.Reader as spec;
 use crate::cursor::Cursor;
 use crate::list::{Separator, separated_list};
 use crate::names::name;
-use rs_ast::{Symbol, Stmt};
+use rs_ast::{Stmt, Symbol};
 use rs_base::ReadFault;
 use std::alloc::Global;
 

@@ -1,11 +1,11 @@
-//! Values, parameters and expressions.
+//! Parsing of values, parameters and expressions.
 
 ghost use Rattle.rs_parse.specs.Read.{Reads, optional_at};
 ghost use Rattle.rs_parse.specs.Reader as spec;
 
 use crate::cursor::Cursor;
 use crate::list::{ListItem, Separator, separated_list};
-use rs_ast::{Arith, Expr, Symbol, Set, Term, TermRow};
+use rs_ast::{Arith, Expr, Set, Symbol, Term, TermRow};
 use rs_base::{Ident, ReadFault, Value};
 use std::alloc::Global;
 
@@ -17,7 +17,7 @@ fn negative(tokens: &mut Cursor<'_>) -> Result<Value, ReadFault>
     tokens.negated()
 }
 
-/// A number, a number behind `-`, or a text.
+/// Parses a literal: a number, `-` and a number, or a text literal.
 #[tactic(auto, unfolding(crate::specs::Reader::literal_at))]
 pub fn literal(alloc: Global, tokens: &mut Cursor<'_>) -> Result<Value, ReadFault>
     ensures { Reads (spec.literal_at tokens.old) result tokens.new }
@@ -29,7 +29,7 @@ pub fn literal(alloc: Global, tokens: &mut Cursor<'_>) -> Result<Value, ReadFaul
     }
 }
 
-/// A parameter: `:name`.
+/// Parses a parameter: `:name`.
 #[tactic(auto, unfolding(crate::specs::Reader::param_at))]
 pub fn param(tokens: &mut Cursor<'_>) -> Result<Ident, ReadFault>
     ensures { Reads (spec.param_at tokens.old) result tokens.new }
@@ -38,7 +38,7 @@ pub fn param(tokens: &mut Cursor<'_>) -> Result<Ident, ReadFault>
     tokens.ident()
 }
 
-/// What an INSERT puts into a column.
+/// Parses a value of INSERT: a literal or a parameter.
 #[tactic(auto, unfolding(crate::specs::Reader::val_at))]
 fn val(alloc: Global, tokens: &mut Cursor<'_>) -> Result<Term, ReadFault>
     ensures { Reads (spec.val_at tokens.old) result tokens.new }
@@ -99,7 +99,7 @@ fn set(alloc: Global, tokens: &mut Cursor<'_>) -> Result<Set, ReadFault>
     Ok(Set { column, expr })
 }
 
-/// One to sixteen values between brackets.
+/// Parses one to sixteen values in parentheses.
 #[tactic(auto, unfolding(crate::specs::Reader::tuple_at))]
 fn tuple(alloc: Global, tokens: &mut Cursor<'_>) -> Result<TermRow, ReadFault>
     ensures { Reads (spec.tuple_at tokens.old) result tokens.new }

@@ -1,9 +1,9 @@
-//! What single tokens stand for.
+//! The meaning of single tokens.
 
 ghost use Rattle.std.specs.Prelude.{◌≡◌, IfOk, is_some};
 ghost use Rattle.rs_parse.specs.Reader as spec;
 
-use rs_ast::{Arith, Symbol, Op, Token, is_reserved};
+use rs_ast::{Arith, Op, Symbol, Token, is_reserved};
 use rs_base::{Ident, Kind, NoMemory, SiteNo, Value};
 use std::alloc::Global;
 
@@ -111,7 +111,7 @@ pub fn arith_of(token: &Token) -> Option<Arith>
     }
 }
 
-/// A key's place.
+/// Returns the ordinal of a select item, below `2 ^ 32`.
 pub fn ordinal_of(token: &Token) -> Option<u32>
     ensures { result ≡ spec.ordinal_of token.now }
 {
@@ -123,7 +123,7 @@ pub fn ordinal_of(token: &Token) -> Option<u32>
     }
 }
 
-/// A number behind `-`.
+/// Returns the value of a number after `-`, below `2 ^ 63`.
 pub fn negated_of(token: &Token) -> Option<Value>
     ensures { result ≡ spec.negated_of token.now }
 {
@@ -152,7 +152,7 @@ pub fn is_unsigned(token: &Token) -> bool
     }
 }
 
-/// A number without a sign, or a text.
+/// Returns the value of a number without a sign, below `2 ^ 63`, or of a text literal.
 pub fn unsigned_of(alloc: Global, token: &Token) -> Result<Option<Value>, NoMemory>
     ensures { IfOk result (λ value. value ≡ spec.unsigned_of token.now) }
 {
@@ -170,7 +170,7 @@ pub fn unsigned_of(alloc: Global, token: &Token) -> Result<Option<Value>, NoMemo
     }
 }
 
-/// A statement on rows may begin with it.
+/// Returns whether a statement on rows may begin with the token.
 pub fn is_dml(token: &Token) -> bool
     ensures { result ≡ spec.begins_dml token.now }
 {

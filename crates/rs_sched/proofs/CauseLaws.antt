@@ -1,4 +1,4 @@
--- A line, read whole: what is read is right, what is right is read, and the cause that is found is the first that fits.
+-- A whole line: it is read exactly if it is valid, and the cause that is found is the first that fits.
 use Rattle.std.proofs.Common.{◌≡◌, ℕ, suc, ◌+◌, ◌<◌, ◌≤◌, Bool, true, false, cond, eqb, leb, List, [], ◌∷◌, ◌++◌, length, take, drop, Option, Some, None, Result, Ok, Err, IsTrue, codes, refl, sym, ap, ◌∙◌, subst, inl, inr, arith, append_assoc}
 use Rattle.std.specs.Prelude.{bytes_eq}
 use Rattle.std.specs.List.{list_all}
@@ -99,9 +99,9 @@ suffix_stops (b ∷ line) = by_space (eqb b 32) refl (suffix_stops line)
 pub begins_with : (y : Word) (line : List ℕ) → field line ≡ encoding y → BeginsWith y line
 begins_with y line is = begins_at y line (field line) (suffix line) (take-append-drop (field_len line) line) is (suffix_stops line)
 
--- ---- what is read is right
+-- ---- what is read is valid
 
--- an event that was read from a line: right but for the form of an ask's text
+-- an event that was read from a line: valid except for the form of an ask's text
 pub record IsRead (sites : ℕ) (line : List ℕ) (event : Event) : Type 0 where
   pub fits : FieldsFit sites event
   pub written : line ≡ line_of event
@@ -146,7 +146,7 @@ read_word sites words.Restart rest event le e = read_numbers sites words.Restart
 read_word sites words.Settle rest event le e = read_numbers sites words.Settle rest (settle_at rest) event (settle_is sites rest) e
 read_word sites words.Noise rest event le e = read_numbers sites words.Noise rest (noise_at sites rest) event (λ x. noise_is sites rest x le) e
 
--- what is read of a line behind the sites line
+-- what is read of a line after the sites line
 pub later_is : (sites : ℕ) (line : List ℕ) (event : Event) → sites ≤ 16 → later_line sites line ≡ Ok event → IsRead sites line event
 unfolding later_line
 later_is sites line event le e = by_word (word_of (field line)) refl e
@@ -157,7 +157,7 @@ later_is sites line event le e = by_word (word_of (field line)) refl e
         let parts : encoding y ++ suffix line ≡ line = ap (λ (f : List ℕ). f ++ suffix line) (sym (word_is (field line) y w)) ∙ take-append-drop (field_len line) line in
         subst (λ (l : List ℕ). IsRead sites l event) parts (read_word sites y (suffix line) event le e)
 
--- ---- what is right is read
+-- ---- what is valid is read
 
 -- what is read of the line of an event
 abbrev pub read_of : Event → Result Event Why
@@ -203,7 +203,7 @@ later_right sites event h = later_again sites event h.fits ∙ read_right event 
 
 -- ---- which cause it is
 
--- why the fields behind a word are refused
+-- why the fields after a keyword are refused
 data Refused (sites : ℕ) (y : Word) (rest : List ℕ) (why : Why) : Type 0 where
   again : y ≡ words.Sites → why ≡ whys.SitesAgain → Refused sites y rest why
   fields : (y ≡ words.Sites → ⊥) → why ≡ whys.BadFields → Refused sites y rest why
@@ -235,7 +235,7 @@ refused_word sites words.Restart rest why le e = refused_fields sites words.Rest
 refused_word sites words.Settle rest why le e = refused_fields sites words.Settle rest why (settle_at rest) (λ same. absurd cc) e
 refused_word sites words.Noise rest why le e = refused_fields sites words.Noise rest why (noise_at sites rest) (λ same. absurd cc) e
 
--- an event with right fields is not refused for them
+-- an event with valid fields is not refused for them
 text_not_fields : (utf8 short : Bool) (event : Event) → cond utf8 (cond short (Ok event) (Err whys.TooLong)) (Err whys.NotUtf8) ≡ Err whys.BadFields → ⊥
 text_not_fields false short event e = cc
 text_not_fields true false event e = cc
@@ -338,7 +338,7 @@ module _ (sites : ℕ) (line : List ℕ) (y : Word) (w : word_of (field line) �
       } in
       subst (IsCause (Some sites) line) (sym cause) made
 
--- The cause that is found of a line behind the sites line is the first that fits.
+-- The cause that is found of a line after the sites line is the first that fits.
 pub later_cause : (sites : ℕ) (line : List ℕ) (why : Why) → sites ≤ 16 → later_line sites line ≡ Err why → IsCause (Some sites) line why
 unfolding later_line
 later_cause sites line why le e = by_word (word_of (field line)) refl e
@@ -347,7 +347,7 @@ later_cause sites line why le e = by_word (word_of (field line)) refl e
     by_word None w e' = unknown_cause sites line why w cc
     by_word (Some y) w e' = cause_of sites line y w why e (refused_word sites y (suffix line) why le e')
 
--- such a line is not right
+-- such a line is not valid
 pub later_wrong : (sites : ℕ) (line : List ℕ) (why : Why) → later_line sites line ≡ Err why → ¬ IsRightLine (Some sites) line
 later_wrong sites line why e = λ h. let right = ap (later_line sites) h.2 ∙ later_right sites h.0 h.1 in absurd cc
 

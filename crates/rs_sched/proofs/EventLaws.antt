@@ -1,4 +1,4 @@
--- The fields behind a word: what is read is written so, and what is written is read.
+-- The fields after a keyword: reading and printing are inverse.
 use Rattle.std.proofs.Common.{◌≡◌, ℕ, ◌^◌, ◌<◌, ◌≤◌, List, [], ◌∷◌, ◌++◌, Some, None, codes, refl, sym, ap, ◌∙◌, subst, arith, append_assoc}
 use Rattle.std.proofs.lemmas.List.{append-nil}
 use Rattle.rs_base.proofs.Steps.{bind_some}
@@ -12,7 +12,7 @@ use Rattle.rs_sched.proofs.NumberLaws.{some_is}
 use Rattle.rs_sched.proofs.FieldLaws.{space_is, end_is, IsNumber, number_at_is, number_at_again, user_at_is, user_at_again, AreWithin, fields_of, numbers_are, numbers_again}
 use Rattle.rs_sched.proofs.HexLaws.{noise_bytes_is, noise_bytes_again}
 
--- behind the word stands what the event is written as
+-- the keyword and the rest of the line are the event's line
 pub record IsOf (sites : ℕ) (word rest : List ℕ) (event : Event) : Type 0 where
   pub fits : FieldsFit sites event
   pub text : HasText event

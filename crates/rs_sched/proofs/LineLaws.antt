@@ -21,12 +21,12 @@ all_without : (prefix : List ℕ) (x : ℕ) → is_return x ≡ false → list_a
 all_without [] x h = rw h refl
 all_without (b ∷ prefix) x h = ap (λ (t : Bool). is_return b && t) (all_without prefix x h) ∙ and_false (is_return b)
 
--- a carriage return at the end goes
+-- a carriage return at the end is removed
 returns_go : (prefix : List ℕ) → without_returns (prefix ++ 13 ∷ []) ≡ without_returns prefix
 returns_go [] = refl
 returns_go (b ∷ prefix) = rw (all_with_return prefix, returns_go prefix) refl
 
--- another byte at the end stays, and what stands before it
+-- a last byte other than a carriage return is kept, with the bytes before it
 returns_stay : (prefix : List ℕ) (x : ℕ) → is_return x ≡ false → without_returns (prefix ++ x ∷ []) ≡ prefix ++ x ∷ []
 returns_stay [] x h = rw h refl
 returns_stay (b ∷ prefix) x h = rw (all_without (b ∷ prefix) x h, returns_stay prefix x h) refl
@@ -64,7 +64,7 @@ lines_next_of : (b : ℕ) (bytes : List ℕ) → let n = prefix_len is_before_fe
 lines_next_of b [] = by_feed b [] refl (eqb b 10) refl
 lines_next_of b (c ∷ bytes) = by_feed b (c ∷ bytes) (ap (onto_first b) (lines_next_of c bytes)) (eqb b 10) refl
 
--- the first line, and those behind its line feed
+-- the first line, and the lines after its line feed
 pub lines_next : (bytes : List ℕ) → 1 ≤ length bytes → let n = prefix_len is_before_feed bytes in lines_of bytes ≡ take n bytes ∷ lines_of (drop 1 (drop n bytes))
 lines_next [] h = absurd (omega arith)
 lines_next (b ∷ bytes) h = lines_next_of b bytes
@@ -83,7 +83,7 @@ returns_after (b ∷ prefix) rest h = by_all (list_all is_return (b ∷ (prefix 
     by_all true e others = absurd cc
     by_all false e others = others cc
 
--- what stands at the end of a line is one
+-- a suffix of a line is a line
 pub suffix_line : (prefix rest : List ℕ) → IsLine (prefix ++ rest) → IsLine rest
 suffix_line prefix rest h = (all_after is_before_feed prefix rest h.0, returns_after prefix rest h.1)
 
@@ -95,7 +95,7 @@ none_all (b ∷ line) e = by_first (is_return b) refl (none_all line)
     by_first false f others = rw (e, f) refl
     by_first true f others = let left : list_all is_return line ≡ false = rw f at e in rw (e, f) (others left)
 
--- the carriage returns at the end go at once
+-- the carriage returns at the end are removed at once
 pub returns_once : (line : List ℕ) → without_returns (without_returns line) ≡ without_returns line
 returns_once [] = refl
 returns_once (b ∷ line) = by_all (list_all is_return (b ∷ line)) refl (returns_once line)

@@ -1,4 +1,4 @@
--- Numbers: what is read is written so, and what is written is read.
+-- Decimal numbers: reading and printing are inverse.
 use Rattle.std.proofs.Common.{◌≡◌, ℕ, zero, suc, ◌+◌, ◌*◌, ◌^◌, ◌-◌, ◌<◌, true, false, ◌&&◌, not, eqb, leb, ltb, List, [], ◌∷◌, length, get_or, Some, decimal, refl, sym, ap, subst, inl, inr, arith, rules}
 use Rattle.std.specs.List.{fold}
 use Rattle.std.proofs.lemmas.Bool.{and_parts, eq-eqb, le-leb, ltb-true, lt-ltb}

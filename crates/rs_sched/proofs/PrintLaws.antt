@@ -1,4 +1,4 @@
--- What is printed of a valid list is a schedule of it.
+-- The printed lines of a valid list are a schedule of it.
 use Rattle.std.proofs.Common.{◌≡◌, ℕ, ◌+◌, ◌^◌, ◌/◌, ◌%◌, ◌<◌, ◌≤◌, Bool, true, false, ◌&&◌, ◌||◌, ◌⊎◌, not, eqb, leb, ltb, List, [], ◌∷◌, ◌++◌, length, Some, None, codes, decimal, refl, ap, ◌∙◌, subst, inl, inr, arith, append_assoc}
 use Rattle.std.specs.Prelude.{flat_map}
 use Rattle.std.specs.List.{list_all}
@@ -95,7 +95,7 @@ small n h = omega arith
 site_seen : (n : ℕ) → IsSiteNo n → Seen (number_field n)
 site_seen n h = seen_number n (omega (arith, h.1))
 
--- the same as a record, from which the bytes can be told
+-- the same as a record, so that the bytes can be inferred from its type
 record IsSeen (bytes : List ℕ) : Type 0 where
   all : Seen bytes
 
@@ -138,7 +138,7 @@ line_is (events.Noise site bytes) h text =
     let hex : IsSeen (hex_of bytes) = record { all = seen_hex bytes } in
     line (then (then (then (word (codes "noise") refl) (site_field site h.0)) (word (codes " ") refl)) hex)
 
--- a line and its line feed in front
+-- a line with its line feed, then other lines
 line_prefix : (line rest : List ℕ) → list_all is_before_feed line ≡ true → lines_of (line ++ 10 ∷ rest) ≡ line ∷ lines_of rest
 line_prefix [] rest all = refl
 line_prefix (b ∷ line) rest all =

@@ -1,4 +1,4 @@
--- All lines: what is read is a schedule, what is a schedule is read, and a refusal says the first bad line and its cause.
+-- All lines: they are read exactly if they are a schedule, and a fault reports the first bad line and its first cause.
 use Rattle.std.proofs.Common.{◌≡◌, ℕ, ◌+◌, ◌≤◌, Bool, true, false, cond, not, eqb, ltb, List, [], ◌∷◌, ◌++◌, length, Option, Some, None, Result, Ok, Err, IsTrue, refl, sym, ap, subst, inl, inr, arith}
 use Rattle.std.specs.List.{list_all}
 use Rattle.std.proofs.lemmas.Bool.{ltb-true, ltb-false, and_from}
@@ -43,19 +43,19 @@ pub lines_feedless : (bytes : List ℕ) → Feedless (lines_of bytes)
 lines_feedless [] = tt
 lines_feedless (b ∷ bytes) = feedless_by b bytes (eqb b 10) refl (lines_feedless bytes)
 
--- ---- behind a state
+-- ---- after a state
 
 -- the number of sites that are known is at most 16
 abbrev pub Few : Option ℕ → Type 0
 Few None = Unit {0}
 Few (Some sites) = sites ≤ 16
 
--- the events of a front of what may come behind this state
+-- the events are a prefix of those valid after this state
 abbrev pub Continues : Option ℕ → List Event → Type 0
 Continues None given = IsBegun given
 Continues (Some sites) given = AreLater sites given
 
--- all that may come
+-- the events are valid after this state, and complete
 abbrev pub Completes : Option ℕ → List Event → Type 0
 Completes None given = IsValid given
 Completes (Some sites) given = AreLater sites given
@@ -64,7 +64,7 @@ abbrev pub known : Option ℕ → List Event → Option ℕ
 known None given = sites_of given
 known (Some sites) given = Some sites
 
--- an event was read behind this state
+-- an event was read after this state
 pub record Follows (sites : Option ℕ) (line : List ℕ) (event : Event) : Type 0 where
   pub written : line ≡ line_of event
   pub few : Few (sites_after sites event)
@@ -205,11 +205,11 @@ pub events_again : (bytes : List ℕ) (given : List Event) → IsSchedule bytes 
 unfolding events_of
 events_again bytes given h = rw (not_ltb 16777216 (length bytes) h.short) (lines_again (lines_of bytes) None 0 given h.valid h.lines)
 
--- Bytes are a schedule in one way.
+-- Bytes are a schedule of at most one list.
 pub schedule_once : (bytes : List ℕ) (given others : List Event) → IsSchedule bytes given → IsSchedule bytes others → given ≡ others
 schedule_once bytes given others h k = let e = events_again bytes given h in let f = events_again bytes others k in cc
 
--- ---- what a refusal says
+-- ---- what a fault reports
 
 -- one of the lines is bad
 record BadAmong (sites : Option ℕ) (before : ℕ) (lines : List (List ℕ)) (at : ℕ) (why : Why) : Type 0 where
@@ -225,7 +225,7 @@ record BadAmong (sites : Option ℕ) (before : ℕ) (lines : List (List ℕ)) (a
   not_right : ¬ IsRightLine (known sites given) (without_returns line)
   cause : IsCause (known sites given) (without_returns line) why
 
--- no event stands in them, and one was to come
+-- all lines are comments, and an event was required
 record NoneAmong (sites : Option ℕ) (before : ℕ) (lines : List (List ℕ)) (at : ℕ) (why : Why) : Type 0 where
   unknown : sites ≡ None
   comments : AreLines lines []
@@ -243,7 +243,7 @@ end_failed None before fault e =
     let is : fault ≡ faults.BadLine (before + 1) whys.NoSites = cc in
     none (before + 1) whys.NoSites is made
 
--- a comment stands in front
+-- a comment, then lines that fail
 comment_failed : (sites : Option ℕ) (before : ℕ) (line : List ℕ) (lines : List (List ℕ)) (fault : SchedFault) → IsTrue (is_comment (without_returns line)) → Failed sites (before + 1) lines fault → Failed sites before (line ∷ lines) fault
 comment_failed sites before line lines fault comment (bad at why is h) = bad at why is (record {
   prefix = line ∷ h.prefix;
@@ -269,7 +269,7 @@ known_none : (sites : Option ℕ) (line : List ℕ) (event : Event) → Few site
 known_none None line event few right e unknown = let first = first_is line event e in let same = ap (sites_after None) first.is in cc
 known_none (Some sites) line event few right e unknown = cc
 
--- an event stands in front
+-- an event, then lines that fail
 event_failed : (sites : Option ℕ) (before : ℕ) (line : List ℕ) (lines : List (List ℕ)) (event : Event) (fault : SchedFault) → (sites_after sites event ≡ None → ⊥) → Follows sites (without_returns line) event
     → Failed (sites_after sites event) (before + 1) lines fault → Failed sites before (line ∷ lines) fault
 event_failed sites before line lines event fault some follows (bad at why is h) = bad at why is (record {
@@ -367,7 +367,7 @@ fault_of bytes at why short (none k w is h) =
     let made : IsFault bytes k w = inr (inr (record { short = short; comments = h.comments; numbered = omega (arith, h.numbered); cause = h.cause })) in
     subst (λ (n : ℕ). IsFault bytes n why) same (subst (IsFault bytes k) also made)
 
--- A refusal says the first bad line, and the first cause that fits it.
+-- A fault reports the first bad line, and the first cause that fits it.
 pub fault_is : (bytes : List ℕ) (at : ℕ) (why : Why) → events_of bytes ≡ Err (faults.BadLine at why) → IsFault bytes at why
 unfolding events_of
 fault_is bytes at why e = by_length (ltb 16777216 (length bytes)) refl e
@@ -379,7 +379,7 @@ fault_is bytes at why e = by_length (ltb 16777216 (length bytes)) refl e
         inl (record { long = ltb-true _ _ l; numbered = sym same; cause = sym also })
     by_length false l e = fault_of bytes at why (ltb-false 16777216 (length bytes) l) (lines_failed (lines_of bytes) None 0 (faults.BadLine at why) tt (lines_feedless bytes) e)
 
--- ---- the clauses of the call
+-- ---- the clauses of `parse_schedule`
 
 pub parse_found : (bytes : List ℕ) (result : Result (List Event) SchedFault) → GivesSchedule result (events_of bytes) → IfOk result (λ given. IsSchedule bytes given)
 parse_found bytes (Ok given) e = events_are bytes given e

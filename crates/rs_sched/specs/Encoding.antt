@@ -1,5 +1,5 @@
--- How an event is written as a line: one line for each event. Fields are parted by one space; numbers are decimal,
--- without sign or leading zero; bytes are in lower-case digits of base 16, or `-` where there are none.
+-- The line of an event. Fields are separated by one space; numbers are decimal, without sign or leading zero; bytes are
+-- in lower-case hexadecimal, or `-` if there are none.
 use Rattle.std.specs.Prelude.{◌≡◌, ℕ, ◌+◌, ◌/◌, ◌%◌, ◌^◌, ◌<◌, ◌≤◌, Bool, List, [], ◌∷◌, ◌++◌, flat_map, length, decimal, codes, Option, Some, None, IsTrue, nat_lt, not, ◌==◌, if◌then◌else◌}
 use Rattle.std.specs.List.{list_all}
 use Rattle.rs_base.specs.Ident.{is_ident}
@@ -11,7 +11,7 @@ use Rattle.rs_sched.specs.declared.word.Word.{Word}
 use Rattle.rs_sched.specs.declared.word.Word.TheVariants as words
 use Rattle.rs_sched.specs.Lines.{without_returns}
 
--- the word that a line begins with
+-- the text of a keyword
 abbrev pub encoding : Word → List ℕ
 encoding words.Sites = codes "sites"
 encoding words.Ask = codes "ask"
@@ -34,7 +34,7 @@ abbrev pub hex_of : List ℕ → List ℕ
 hex_of [] = codes "-"
 hex_of (b ∷ bytes) = flat_map hex_byte (b ∷ bytes)
 
--- a blank and a number
+-- a space and a number
 abbrev pub number_field : ℕ → List ℕ
 number_field n = codes " " ++ decimal n
 
@@ -60,11 +60,11 @@ line_of (events.Restart site) = codes "restart" ++ number_field site
 line_of (events.Settle count) = settle_line count
 line_of (events.Noise site bytes) = codes "noise" ++ number_field site ++ codes " " ++ hex_of bytes
 
--- no line feed in it, and no carriage return at its end
+-- the bytes have no line feed, and no carriage return at the end
 abbrev pub IsLine : List ℕ → Type 0
 IsLine line = IsTrue (list_all (λ b. not (b == 10)) line) × (without_returns line ≡ line)
 
--- the text of an ask: at most 8,192 bytes of UTF-8, of one line
+-- the text of an ask: one line of UTF-8 of at most 8,192 bytes
 pub record IsAskText (text : List ℕ) : Type 0 where
   pub short : length text ≤ 8192
   pub utf8 : IsTrue (is_utf8 text)
@@ -83,7 +83,7 @@ pub record IsOrigin (origin : Origin) : Type 0 where
 abbrev pub is_byte : ℕ → Bool
 is_byte b = nat_lt b 256
 
--- the fields are ones that a line may give; of the text of an ask nothing is said
+-- each field is in range, except the text of an ask, which may be any
 abbrev pub HasFields : Event → Type 0
 HasFields (events.Sites n) = IsSiteNo n
 HasFields (events.Ask origin text) = IsOrigin origin

@@ -1,4 +1,4 @@
--- What a function of this crate gives, against what reading gives. Want of memory says nothing of what was read.
+-- A function's result agrees with the reader's. On out of memory nothing is claimed of the result.
 use Rattle.std.specs.Prelude.{◌≡◌, ℕ, List, Result, Ok, Err}
 use Rattle.rs_base.specs.declared.fault.ReadFault.{ReadFault}
 use Rattle.rs_base.specs.declared.fault.ReadFault.TheVariants as reads
@@ -11,7 +11,7 @@ use Rattle.rs_sched.specs.declared.fault.LineFault.{LineFault}
 use Rattle.rs_sched.specs.declared.fault.LineFault.TheVariants as lines
 use Rattle.rs_sched.specs.Faults.{IsFault}
 
--- fields that are not those of the word
+-- a malformed field makes the fields bad
 abbrev pub of_read : ReadFault → LineFault
 of_read reads.Malformed = lines.Bad whys.BadFields
 of_read reads.NoMemory = lines.NoMemory

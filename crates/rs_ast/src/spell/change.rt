@@ -1,4 +1,4 @@
-//! What INSERT and UPDATE put into rows.
+//! Tokens of the values of INSERT and the assignments of UPDATE.
 
 ghost use Rattle.std.specs.Prelude.{◌≡◌, ◌++◌, OnOk};
 ghost use Rattle.rs_ast.specs.Spelled as spec;

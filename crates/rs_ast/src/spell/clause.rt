@@ -1,4 +1,4 @@
-//! What WHERE asks of a row.
+//! Tokens of predicates.
 
 ghost use Rattle.std.specs.Prelude.{◌≡◌, ◌++◌, OnOk};
 ghost use Rattle.rs_ast.specs.Spelled as spec;

@@ -1,10 +1,10 @@
-//! Names and columns.
+//! Tokens of names and columns.
 
 ghost use Rattle.std.specs.Prelude.{◌≡◌, ◌++◌, OnOk};
 ghost use Rattle.rs_ast.specs.Spelled as spec;
 
 use crate::column::{ColDef, ColRef};
-use crate::spell::{Spell, ident, symbol, number, word};
+use crate::spell::{Spell, ident, number, symbol, word};
 use crate::token::{Symbol, Tokens};
 use rs_base::{Ident, Kind, NameText, NoMemory, SiteNo};
 use std::alloc::Global;

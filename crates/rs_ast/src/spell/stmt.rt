@@ -1,4 +1,4 @@
-//! Statements.
+//! Tokens of statements.
 
 ghost use Rattle.std.specs.Prelude.{◌≡◌, [], ◌∷◌, ◌++◌, flat_map, take, OnOk, IsTrue};
 ghost use Rattle.rs_base.specs.Ident.{is_ident};
@@ -10,13 +10,13 @@ use crate::clause::Clause;
 use crate::column::ColDef;
 use crate::select::Select;
 use crate::spell::clause::condition;
-use crate::spell::{Spell, comma_list, ident, symbol, number, tuple, word};
+use crate::spell::{Spell, comma_list, ident, number, symbol, tuple, word};
 use crate::stmt::{Dml, Stmt};
 use crate::token::{Symbol, Tokens};
 use rs_base::{Ident, NameText, NoMemory, SiteNo, Value};
 use std::alloc::Global;
 
-/// The two words that a statement begins with.
+/// Appends the two words that a statement begins with.
 fn words(first: &[u8], second: &[u8], out: &mut Tokens) -> Result<(), NoMemory>
     requires first { IsTrue (is_ident first.now) }
     requires second { IsTrue (is_ident second.now) }

@@ -1,9 +1,9 @@
-//! Values and parameters.
+//! Tokens of values and parameters.
 
 ghost use Rattle.std.specs.Prelude.{◌≡◌, ◌++◌, OnOk};
 ghost use Rattle.rs_ast.specs.Spelled as spec;
 
-use crate::spell::{Spell, ident, symbol, number};
+use crate::spell::{Spell, ident, number, symbol};
 use crate::token::{Symbol, Token, Tokens};
 use rs_base::{Ident, NoMemory, Value};
 use std::alloc::Global;

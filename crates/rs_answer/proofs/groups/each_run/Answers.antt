@@ -36,7 +36,7 @@ returns-in_err-push_group c =
     = c.run_length.ensures ∙ ap (λ (row : List Value). prefix_len (alike_to column_indexes row) rest) c.as_slice.ensures in
     let some : 0 < length rest = omega arith in
     let cut = run_cut column_indexes c.first-item.result rest c.run_length.result some c.first-item.is prefix c.loop-rest.invariant.1 in
-    let left : grouped_by column_indexes rest ≡ c.split_at.result.0.now ∷ grouped_by column_indexes c.split_at.result.1.now = rw (c.split_at.ensures.prefix, c.split_at.ensures.back) cut in
+    let left : grouped_by column_indexes rest ≡ c.split_at.result.0.now ∷ grouped_by column_indexes c.split_at.result.1.now = rw (c.split_at.ensures.front, c.split_at.ensures.back) cut in
     let sums : (group_overflows c.args.items.now c.split_at.result.0.now || any_overflows c.args.items.now (grouped_by column_indexes c.split_at.result.1.now)) ≡ any_overflows c.args.items.now (grouped_by column_indexes c.args.rows.now)
     = sym (ap (any_overflows c.args.items.now) left) ∙ c.loop-rest.invariant.0.sums in
     grind (arith, common_steps)
@@ -50,7 +50,7 @@ loop-rest-preserved c =
     = c.run_length.ensures ∙ ap (λ (row : List Value). prefix_len (alike_to column_indexes row) rest) c.as_slice.ensures in
     let some : 0 < length rest = omega arith in
     let cut = run_cut column_indexes c.first-item.result rest c.run_length.result some c.first-item.is prefix c.loop-rest.invariant.1 in
-    let left : grouped_by column_indexes rest ≡ c.split_at.result.0.now ∷ grouped_by column_indexes c.split_at.result.1.now = rw (c.split_at.ensures.prefix, c.split_at.ensures.back) cut in
+    let left : grouped_by column_indexes rest ≡ c.split_at.result.0.now ∷ grouped_by column_indexes c.split_at.result.1.now = rw (c.split_at.ensures.front, c.split_at.ensures.back) cut in
     let groups = grouped_by column_indexes c.args.rows.now in
     let so_far = subst (λ (left : List (List (List Value))). Progress items c.loop-rest.given.items left groups) left c.loop-rest.invariant.0 in (
       progress_more items c.loop-rest.given.items c.split_at.result.0.now (grouped_by column_indexes c.split_at.result.1.now) groups so_far c.push_group.new.rows.items c.in_ok-push_group.ensures.0 c.in_ok-push_group.ensures.1,
