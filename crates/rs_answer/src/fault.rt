@@ -4,7 +4,7 @@ use rs_base::NoMemory;
 use std::alloc::{AllocError, AllocFailed};
 
 /// A sum isn't an integer of 64 bits, or an allocation failed.
-#[derive(Clone, Copy, Debug, PartialEq, Eq)]
+#[derive(Clone, Copy)]
 pub enum AnswerFault {
     Overflow,
     NoMemory,

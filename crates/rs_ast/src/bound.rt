@@ -8,7 +8,7 @@ use rs_base::Value;
 use sqlite_items::Items;
 
 /// The right operand of a comparison: the value at a column index, a constant, or a parameter.
-#[derive(Debug, Drop)]
+#[derive(Drop)]
 pub enum BoundSide {
     Place(u16),
     Lit(Value),
@@ -16,7 +16,7 @@ pub enum BoundSide {
 }
 
 /// A comparison of the value at the column index `left` with an operand.
-#[derive(Debug, Drop)]
+#[derive(Drop)]
 pub struct BoundCmp {
     pub left: u16,
     pub op: Op,
@@ -30,7 +30,7 @@ pub type BoundClause = Items<BoundCmp>;
 pub type BoundClauses = Items<BoundClause>;
 
 /// A term: the value at a column index, a constant, or a parameter.
-#[derive(Debug, Drop)]
+#[derive(Drop)]
 pub enum BoundTerm {
     Place(u16),
     Lit(Value),
@@ -44,7 +44,7 @@ pub type BoundRow = Items<BoundTerm>;
 pub type BoundRows = Items<BoundRow>;
 
 /// An assignment to a column of the table: a term, or two terms that are added, subtracted or multiplied.
-#[derive(Debug, Drop)]
+#[derive(Drop)]
 pub struct BoundSet {
     pub column: u8,
     pub first: BoundTerm,

@@ -4,7 +4,7 @@ use rs_base::{Ident, Value};
 use sqlite_items::Items;
 
 /// An arithmetic operator.
-#[derive(Clone, Copy, Debug, PartialEq, Eq)]
+#[derive(Clone, Copy)]
 pub enum Arith {
     Add,
     Sub,
@@ -12,7 +12,7 @@ pub enum Arith {
 }
 
 /// A term: a column of the row, a constant, or a parameter.
-#[derive(Debug, Drop)]
+#[derive(Drop)]
 pub enum Term {
     Col(Ident),
     Lit(Value),
@@ -26,14 +26,14 @@ pub type TermRow = Items<Term>;
 pub type TermRows = Items<TermRow>;
 
 /// An expression: a term, or two terms that are added, subtracted or multiplied.
-#[derive(Debug, Drop)]
+#[derive(Drop)]
 pub struct Expr {
     pub first: Term,
     pub more: Option<(Arith, Term)>,
 }
 
 /// An assignment of an expression to a column.
-#[derive(Debug, Drop)]
+#[derive(Drop)]
 pub struct Set {
     pub column: Ident,
     pub expr: Expr,

@@ -5,7 +5,7 @@ use rs_base::{Ident, Value};
 use sqlite_items::Items;
 
 /// A comparison operator.
-#[derive(Clone, Copy, Debug, PartialEq, Eq)]
+#[derive(Clone, Copy)]
 pub enum Op {
     Eq,
     Ne,
@@ -16,7 +16,7 @@ pub enum Op {
 }
 
 /// The right operand of a comparison: a column, a constant, or a parameter.
-#[derive(Debug, Drop)]
+#[derive(Drop)]
 pub enum Operand {
     Col(ColRef),
     Lit(Value),
@@ -24,7 +24,7 @@ pub enum Operand {
 }
 
 /// A comparison of a column with an operand.
-#[derive(Debug, Drop)]
+#[derive(Drop)]
 pub struct Cmp {
     pub left: ColRef,
     pub op: Op,
@@ -35,7 +35,7 @@ pub struct Cmp {
 pub type Cmps = Items<Cmp>;
 
 /// A disjunction of comparisons.
-#[derive(Debug, Drop)]
+#[derive(Drop)]
 pub struct Clause {
     pub any: Cmps,
 }

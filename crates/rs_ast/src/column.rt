@@ -4,7 +4,7 @@ use rs_base::{Ident, Kind};
 use sqlite_items::Items;
 
 /// A column definition.
-#[derive(Clone, Copy, Debug, PartialEq, Eq)]
+#[derive(Clone, Copy)]
 pub struct ColDef {
     pub name: Ident,
     pub kind: Kind,
@@ -14,7 +14,7 @@ pub struct ColDef {
 pub type ColDefs = Items<ColDef>;
 
 /// A reference to a column: `column`, or `table.column`, where `table` is a table's alias if it has one.
-#[derive(Clone, Copy, Debug, PartialEq, Eq)]
+#[derive(Clone, Copy)]
 pub struct ColRef {
     pub table: Option<Ident>,
     pub column: Ident,

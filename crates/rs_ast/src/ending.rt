@@ -6,7 +6,7 @@ ghost use Rattle.rs_ast.specs.Printed as spec;
 use crate::token::{Symbol, Token};
 
 /// What a text ends with, as far as it decides the space before the next token.
-#[derive(Clone, Copy, Debug, PartialEq, Eq)]
+#[derive(Clone, Copy)]
 pub enum Ending {
     /// The text is empty.
     Start,

@@ -4,7 +4,7 @@ use rs_base::{Ident, Kind, SiteNo, Swn, Txn};
 use sqlite_items::Items;
 
 /// A column of a table, with the number of its distinct values.
-#[derive(Clone, Copy, Debug, PartialEq, Eq)]
+#[derive(Clone, Copy)]
 pub struct Column {
     pub name: Ident,
     pub kind: Kind,
@@ -15,7 +15,7 @@ pub struct Column {
 pub type Columns = Items<Column>;
 
 /// An index: its name, the ordinal of its column in the table, from 0, and the transaction that created it.
-#[derive(Clone, Copy, Debug, PartialEq, Eq)]
+#[derive(Clone, Copy)]
 pub struct IndexOf {
     pub name: Ident,
     pub column: u8,
@@ -27,7 +27,7 @@ pub type IndexOfs = Items<IndexOf>;
 
 /// A table: its name, the transaction that created it, the site that stores it (`place`), its columns and indexes, and the
 /// number of its rows.
-#[derive(Debug, Drop)]
+#[derive(Drop)]
 pub struct Entry {
     pub name: Swn,
     pub made: Txn,

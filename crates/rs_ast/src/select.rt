@@ -6,7 +6,7 @@ use rs_base::{Ident, NameText};
 use sqlite_items::Items;
 
 /// An item of the select list: a column, `COUNT(*)`, or an aggregate over a column.
-#[derive(Clone, Copy, Debug, PartialEq, Eq)]
+#[derive(Clone, Copy)]
 pub enum Item {
     Col(ColRef),
     Count,
@@ -19,14 +19,14 @@ pub enum Item {
 pub type SelectItems = Items<Item>;
 
 /// A sort expression of ORDER BY: a column, or an item of the select list by its ordinal, from 1.
-#[derive(Clone, Copy, Debug, PartialEq, Eq)]
+#[derive(Clone, Copy)]
 pub enum KeyBy {
     Col(ColRef),
     Place(u32),
 }
 
 /// A sort key, ascending or descending.
-#[derive(Clone, Copy, Debug, PartialEq, Eq)]
+#[derive(Clone, Copy)]
 pub struct Key {
     pub by: KeyBy,
     pub desc: bool,
@@ -36,7 +36,7 @@ pub struct Key {
 pub type Keys = Items<Key>;
 
 /// A table of FROM, with its alias, if one is given.
-#[derive(Clone, Copy, Debug, PartialEq, Eq)]
+#[derive(Clone, Copy)]
 pub struct TableRef {
     pub name: NameText,
     pub alias: Option<Ident>,
@@ -46,7 +46,7 @@ pub struct TableRef {
 pub type TableRefs = Items<TableRef>;
 
 /// A query. Without items (`*`) it selects each column of its tables.
-#[derive(Debug, Drop)]
+#[derive(Drop)]
 pub struct Select {
     pub distinct: bool,
     pub items: Option<SelectItems>,

@@ -6,7 +6,7 @@ use sqlite_items::Items;
 pub type Places = Items<u16>;
 
 /// A bound item of the select list: the value at a column index, or an aggregate over a group's rows.
-#[derive(Clone, Copy, Debug, PartialEq, Eq)]
+#[derive(Clone, Copy)]
 pub enum ShapeItem {
     Col(u16),
     Count,
@@ -19,7 +19,7 @@ pub enum ShapeItem {
 pub type ShapeItems = Items<ShapeItem>;
 
 /// A sort key: the ordinal of an item, from 0, ascending or descending.
-#[derive(Clone, Copy, Debug, PartialEq, Eq)]
+#[derive(Clone, Copy)]
 pub struct ShapeKey {
     pub item: u16,
     pub desc: bool,
@@ -29,7 +29,7 @@ pub struct ShapeKey {
 pub type ShapeKeys = Items<ShapeKey>;
 
 /// The part of a query that is applied to its joined rows. It is grouped if it has an aggregate or a GROUP BY.
-#[derive(Debug, Drop)]
+#[derive(Drop)]
 pub struct Shape {
     pub distinct: bool,
     pub items: ShapeItems,

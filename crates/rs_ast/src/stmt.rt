@@ -8,7 +8,7 @@ use rs_base::{Ident, NameText, Row, SiteNo};
 use sqlite_items::Items;
 
 /// A statement on the rows of tables.
-#[derive(Debug, Drop)]
+#[derive(Drop)]
 pub enum Dml {
     Select(Select),
     Insert {
@@ -33,7 +33,7 @@ pub type Dmls = Items<Dml>;
 pub type Idents = Items<Ident>;
 
 /// A statement.
-#[derive(Debug, Drop)]
+#[derive(Drop)]
 pub enum Stmt {
     CreateTable {
         name: NameText,

@@ -8,7 +8,7 @@ use sqlite_items::Items;
 use std::alloc::Global;
 
 /// A symbol of one or two characters.
-#[derive(Clone, Copy, Debug, PartialEq, Eq)]
+#[derive(Clone, Copy)]
 pub enum Symbol {
     Open,
     Close,
@@ -29,7 +29,7 @@ pub enum Symbol {
 }
 
 /// A token: a word in lower case, a number, a text literal without its quotes, or a symbol.
-#[derive(Debug, Drop)]
+#[derive(Drop)]
 pub enum Token {
     Word(Ident),
     Number(u64),

@@ -15,7 +15,7 @@ use std::marker::Model;
 /// An identifier: a lower-case ASCII letter and at most 23 lower-case letters, digits or `_`.
 ///
 /// It is a fixed array, so a name takes no heap memory.
-#[derive(Clone, Copy, Debug)]
+#[derive(Clone, Copy)]
 pub struct Ident {
     bytes: [u8; 24],
     len: usize,

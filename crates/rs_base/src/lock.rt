@@ -6,7 +6,7 @@ use sqlite_items::Items;
 
 /// What is locked: a table at the site that stores it, the entry of a name at its birth site, a user's program, or all
 /// synonyms of a user.
-#[derive(Clone, Copy, Debug, PartialEq, Eq, PartialOrd, Ord)]
+#[derive(Clone, Copy, PartialEq, Eq, PartialOrd, Ord)]
 pub enum Resource {
     Table(Swn),
     Birth(Swn),
@@ -16,7 +16,7 @@ pub enum Resource {
 }
 
 /// The mode of a lock: shared for reading, or exclusive for writing.
-#[derive(Clone, Copy, Debug, PartialEq, Eq, PartialOrd, Ord)]
+#[derive(Clone, Copy, PartialEq, Eq, PartialOrd, Ord)]
 pub enum Mode {
     Read,
     Write,

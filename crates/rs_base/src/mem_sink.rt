@@ -13,7 +13,7 @@ use std::marker::Model;
 
 /// A sink into memory. The writes numbered in a list, from 1, fail; every other write appends all its bytes, or fails on
 /// out of memory. The counts of writes and of failed writes stay at `u64::MAX` once they reach it.
-#[derive(Debug, Drop)]
+#[derive(Drop)]
 pub struct MemSink {
     inner: SureSink,
     calls: u64,

@@ -13,7 +13,7 @@ use std::marker::Model;
 
 /// A source over a copy of bytes in memory. The reads numbered in a list, from 1, fail; every other read succeeds. The
 /// counts of reads and of failed reads stay at `u64::MAX` once they reach it.
-#[derive(Debug, Drop)]
+#[derive(Drop)]
 pub struct MemSource {
     inner: SureSource,
     calls: u64,

@@ -7,7 +7,7 @@ use crate::ident::Ident;
 use crate::site_no::SiteNo;
 
 /// A name as a statement writes it: `creator@creator_site.object@birth`, where only the object is required.
-#[derive(Clone, Copy, Debug, PartialEq, Eq)]
+#[derive(Clone, Copy)]
 pub struct NameText {
     pub creator: Option<Ident>,
     pub creator_site: Option<SiteNo>,
@@ -17,7 +17,7 @@ pub struct NameText {
 
 /// A system-wide name (Lindsay 1981): the creator, the creator's site, the object, and its birth site, where it was
 /// created. It never changes, wherever the object is moved. Names are ordered by these fields.
-#[derive(Clone, Copy, Debug, PartialEq, Eq, PartialOrd, Ord)]
+#[derive(Clone, Copy, PartialEq, Eq, PartialOrd, Ord)]
 pub struct Swn {
     pub creator: Ident,
     pub creator_site: SiteNo,

@@ -5,7 +5,7 @@ use crate::site_no::SiteNo;
 use sqlite_items::Items;
 
 /// A site, or a client by its port.
-#[derive(Clone, Copy, Debug, PartialEq, Eq, PartialOrd, Ord)]
+#[derive(Clone, Copy, PartialEq, Eq, PartialOrd, Ord)]
 pub enum Peer {
     Site(SiteNo),
     Client(u16),

@@ -13,7 +13,7 @@ use sqlite_items::Items;
 use std::alloc::Global;
 
 /// The cause of a denial. A denied execution is committed and changed nothing.
-#[derive(Clone, Copy, Debug, PartialEq, Eq)]
+#[derive(Clone, Copy)]
 pub enum Denial {
     NoTable,
     NoColumn,
@@ -34,7 +34,7 @@ pub enum Denial {
 }
 
 /// The answer of one statement.
-#[derive(Debug, Drop)]
+#[derive(Drop)]
 pub enum Answer {
     /// The statement was carried out.
     Ok,
@@ -47,7 +47,7 @@ pub enum Answer {
 pub type Answers = Items<Answer>;
 
 /// The reason of a failure. A failed execution isn't in the history and never will be.
-#[derive(Clone, Copy, Debug, PartialEq, Eq)]
+#[derive(Clone, Copy)]
 pub enum Reason {
     /// A lock wait at a site ended, since another held the lock.
     LockBudget {
@@ -69,7 +69,7 @@ pub enum Reason {
 pub type Lines = Items<Bytes>;
 
 /// The reply to a request.
-#[derive(Debug, Drop)]
+#[derive(Drop)]
 pub enum Reply {
     /// The execution is committed; one answer per statement.
     Done(Answers),

@@ -12,7 +12,7 @@ use std::alloc::Global;
 use std::marker::Model;
 
 /// A source over a copy of bytes in memory. Contracts see it as the list of the bytes left.
-#[derive(Debug, Drop)]
+#[derive(Drop)]
 pub struct SureSource {
     bytes: Bytes,
     at: usize,
@@ -59,7 +59,7 @@ impl Source for SureSource {
 }
 
 /// A sink into memory. Contracts see it as the list of the bytes written.
-#[derive(Debug, Drop)]
+#[derive(Drop)]
 pub struct SureSink {
     bytes: Bytes,
 }

@@ -4,7 +4,7 @@ use crate::ident::Ident;
 use crate::site_no::SiteNo;
 
 /// A transaction: the site that coordinates it, that site's epoch, and a number within the epoch.
-#[derive(Clone, Copy, Debug, PartialEq, Eq, PartialOrd, Ord)]
+#[derive(Clone, Copy, PartialEq, Eq, PartialOrd, Ord)]
 pub struct Txn {
     pub site: SiteNo,
     pub epoch: u32,
@@ -12,7 +12,7 @@ pub struct Txn {
 }
 
 /// An enlistment, the part of a transaction at one site: the site, its epoch, and a number within the epoch.
-#[derive(Clone, Copy, Debug, PartialEq, Eq, PartialOrd, Ord)]
+#[derive(Clone, Copy, PartialEq, Eq, PartialOrd, Ord)]
 pub struct Enlist {
     pub site: SiteNo,
     pub epoch: u32,
@@ -20,7 +20,7 @@ pub struct Enlist {
 }
 
 /// A request: the site that is asked, the user, the epoch that the user names, and the user's number for it.
-#[derive(Clone, Copy, Debug, PartialEq, Eq, PartialOrd, Ord)]
+#[derive(Clone, Copy, PartialEq, Eq, PartialOrd, Ord)]
 pub struct Origin {
     pub site: SiteNo,
     pub user: Ident,

@@ -16,7 +16,7 @@ use thiserror::Error;
 
 /// A text value: at most 255 bytes of UTF-8 without control characters (bytes below 0x20, and 0x7F). It is one pointer
 /// to the heap, so that a value, an integer or a text, takes two machine words and not four: tables hold many integers.
-#[derive(Debug, Drop)]
+#[derive(Drop)]
 pub struct Txt {
     bytes: Box<Vec<u8>>,
 }

@@ -10,7 +10,7 @@ use sqlite_items::Items;
 use std::alloc::Global;
 
 /// A value. Each integer is below each text; integers are ordered by value, texts by their bytes. It takes two machine words.
-#[derive(Debug, PartialEq, Eq, PartialOrd, Ord, Drop)]
+#[derive(PartialEq, Eq, PartialOrd, Ord, Drop)]
 pub enum Value {
     Int(i64),
     Text(Txt),
@@ -19,7 +19,7 @@ pub enum Value {
 const _: () = prove!(size_of::<Value>() == 16);
 
 /// The type of a column.
-#[derive(Clone, Copy, Debug, PartialEq, Eq)]
+#[derive(Clone, Copy)]
 pub enum Kind {
     Int,
     Text,

@@ -4,7 +4,7 @@ use rs_base::{Ident, Kind};
 use sqlite_items::Items;
 
 /// A column that a statement may name: its table's alias, its name, and its kind.
-#[derive(Clone, Copy, Debug, PartialEq, Eq)]
+#[derive(Clone, Copy)]
 pub struct ScopeColumn {
     pub table: Ident,
     pub name: Ident,
@@ -15,7 +15,7 @@ pub struct ScopeColumn {
 pub type Scope = Items<ScopeColumn>;
 
 /// A declared parameter, and the kind of its value, if it has one.
-#[derive(Clone, Copy, Debug, PartialEq, Eq)]
+#[derive(Clone, Copy)]
 pub struct Param {
     pub name: Ident,
     pub kind: Option<Kind>,

@@ -7,7 +7,7 @@ use rs_ast::{ColDefs, Dml};
 use rs_base::{Ident, NameText};
 
 /// A supported statement.
-#[derive(Debug, Drop)]
+#[derive(Drop)]
 pub enum Stmt {
     CreateTable {
         name: NameText,

@@ -12,7 +12,7 @@ use rs_rows::StoredRows;
 use std::alloc::Global;
 
 /// A change of the database. That of a missing table changes nothing.
-#[derive(Debug, Drop)]
+#[derive(Drop)]
 pub enum Change {
     Nothing,
     PutTable { name: Swn, table: Table },
@@ -25,7 +25,7 @@ pub enum Change {
 }
 
 /// What an execution changes, and what it answers.
-#[derive(Debug, Drop)]
+#[derive(Drop)]
 pub struct Effect {
     pub change: Change,
     pub outcome: Outcome,

@@ -21,7 +21,7 @@ use sqlite_items::Items;
 use std::alloc::Global;
 
 /// A table: its name, its columns, and its rows in order of insertion.
-#[derive(Debug, Drop)]
+#[derive(Drop)]
 pub struct PlainTable {
     pub name: Swn,
     pub columns: Columns,

@@ -9,7 +9,7 @@ use rs_rows::StoredRows;
 
 /// A table: the transaction that created it, the site that stores it, its columns, its indexes in order of creation, and
 /// its rows in order of insertion.
-#[derive(Debug, Drop)]
+#[derive(Drop)]
 pub struct Table {
     pub made: Txn,
     pub place: SiteNo,

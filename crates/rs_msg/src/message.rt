@@ -6,7 +6,7 @@ use rs_base::{Bytes, Ident, Origin};
 pub const ASK_LIMIT: usize = 8192;
 
 /// A request from a client to a site, or the same request for a further part of its reply.
-#[derive(Debug, Drop)]
+#[derive(Drop)]
 pub struct Ask {
     /// The user that asks.
     pub user: Ident,
@@ -21,7 +21,7 @@ pub struct Ask {
 }
 
 /// A part of a reply, from a site to a client.
-#[derive(Debug, Drop)]
+#[derive(Drop)]
 pub struct ReplyPart {
     /// The request that is answered.
     pub origin: Origin,
@@ -34,7 +34,7 @@ pub struct ReplyPart {
 }
 
 /// A datagram's message: kind 1 asks for a part of a reply, and kind 2 is one.
-#[derive(Debug, Drop)]
+#[derive(Drop)]
 pub enum Message {
     Ask(Ask),
     Reply(ReplyPart),

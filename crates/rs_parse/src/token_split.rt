@@ -4,7 +4,7 @@ use rs_ast::Tokens;
 use sqlite_items::Items;
 
 /// A text's tokens, the byte offset at which each begins, and the byte offset at which the split ends.
-#[derive(Debug, Drop)]
+#[derive(Drop)]
 pub struct Split {
     pub tokens: Tokens,
     pub starts: Items<usize>,

@@ -9,7 +9,7 @@ pub type Swns = Items<Swn>;
 
 /// A statement on the rows of tables, its columns bound to column indexes. A query has, for each of its tables in order,
 /// its name, its alias, and its number of columns.
-#[derive(Debug, Drop)]
+#[derive(Drop)]
 pub enum Bound {
     Select {
         names: Swns,

@@ -7,7 +7,7 @@ use rs_base::Value;
 use std::marker::Model;
 
 /// Borrowed rows: their values, one row after the other, and the number of values of each row.
-#[derive(Debug, Drop)]
+#[derive(Drop)]
 pub struct RowRun<'a> {
     values: &'a [Value],
     widths: &'a [usize],

@@ -10,7 +10,7 @@ use std::marker::Model;
 
 /// Rows in order of insertion: their values, one row after the other, the number of values of each row, and their
 /// encoded size.
-#[derive(Debug, Drop)]
+#[derive(Drop)]
 pub struct StoredRows {
     values: Vec<Value>,
     widths: Vec<usize>,

@@ -16,7 +16,7 @@ use std::alloc::Global;
 const MOST_READ: usize = 16_777_217;
 
 /// The kind of text that a run writes.
-#[derive(Clone, Copy, Debug, PartialEq, Eq)]
+#[derive(Clone, Copy)]
 pub enum Finding {
     /// The report of its source.
     Reported,
@@ -27,7 +27,7 @@ pub enum Finding {
 }
 
 /// What a run has to write.
-#[derive(Debug, Drop)]
+#[derive(Drop)]
 pub struct Owed {
     pub finding: Finding,
     pub text: Bytes,

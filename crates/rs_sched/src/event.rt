@@ -4,7 +4,7 @@ use rs_base::{Bytes, Origin, SiteNo};
 use sqlite_items::Items;
 
 /// One event of a schedule.
-#[derive(Debug, Drop)]
+#[derive(Drop)]
 pub enum Event {
     /// Opens sites 1 to this one on empty disks.
     Sites(SiteNo),

@@ -3,7 +3,7 @@
 use rs_base::{Bytes, Peer};
 
 /// One input of a site.
-#[derive(Debug, Drop)]
+#[derive(Drop)]
 pub enum Input {
     /// A datagram, and the peer that sent it.
     Datagram(Peer, Bytes),

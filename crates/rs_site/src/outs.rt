@@ -8,7 +8,7 @@ use sqlite_items::Items;
 use std::alloc::Global;
 
 /// One part of a printed reply to a peer: the request, the part's number, counted from 0, and the reply.
-#[derive(Debug, Drop)]
+#[derive(Drop)]
 pub struct Told {
     pub to: Peer,
     pub origin: Origin,
@@ -19,7 +19,7 @@ pub struct Told {
 pub type Tolds = Items<Told>;
 
 /// A committed execution: its transaction, its request, and the request's text.
-#[derive(Debug, Drop)]
+#[derive(Drop)]
 pub struct Decided {
     pub txn: Txn,
     pub origin: Origin,
@@ -29,7 +29,7 @@ pub struct Decided {
 pub type Decideds = Items<Decided>;
 
 /// The output of a step: datagrams to sites, replies, and committed executions.
-#[derive(Debug, Drop)]
+#[derive(Drop)]
 pub struct Outs {
     pub sends: Datagrams,
     pub replies: Tolds,

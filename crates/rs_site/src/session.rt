@@ -15,7 +15,7 @@ use std::collections::BTreeMap;
 use std::marker::Model;
 
 /// A user's session: the number of the last accepted request, 0 at opening, and its reply.
-#[derive(Debug, Drop)]
+#[derive(Drop)]
 pub struct Session {
     pub last: u64,
     pub reply: Option<Reply>,

@@ -9,7 +9,7 @@ use rs_site::{Decideds, Site};
 use sqlite_items::Items;
 
 /// A reply, and the request that it answers, as it was asked.
-#[derive(Debug, Drop)]
+#[derive(Drop)]
 pub struct Given {
     pub origin: Origin,
     pub reply: Reply,

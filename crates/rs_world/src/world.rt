@@ -17,7 +17,7 @@ use sqlite_items::Items;
 use std::alloc::Global;
 
 /// A datagram as it was sent to a site.
-#[derive(Debug, Drop)]
+#[derive(Drop)]
 pub struct Datagram {
     pub from: Peer,
     pub to: SiteNo,
