@@ -4,7 +4,7 @@ use Rattle.std.specs.Prelude.{String, IfSome}
 use Rattle.std.specs.Io.KnownBytes.{Appends, Consumes, IsAtEnd}
 use Rattle.std.specs.declared.alloc.Global.{Global}
 use Rattle.std.proofs.lemmas.List.{take_all, take_at, append-nil}
-use Rattle.rs_base.specs.Streams.{AppendsPrefix}
+use Rattle.rs_stream.specs.Streams.{AppendsPrefix}
 use Rattle.rs_sched.specs.declared.event.Event.{Event}
 use Rattle.rs_world.specs.declared.report.Report.{Report}
 use Rattle.rs_world.specs.Answered.{EachAskIsAnswered}

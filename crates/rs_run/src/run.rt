@@ -3,13 +3,14 @@
 ghost use Rattle.std.specs.Prelude.{◌≡◌, ◌≢◌, ◌≤◌, ◌⊎◌, codes, IfOk, IfErr, IsErrOf, IsTrue, ◌↔◌};
 ghost use Rattle.std.specs.Io.KnownBytes.{Appends, IsAtEnd, Keeps};
 ghost use Rattle.rs_base.specs.Faults.{Rises, CountsFault};
-ghost use Rattle.rs_base.specs.Streams.{ConsumesAtMost};
+ghost use Rattle.rs_stream.specs.Streams.{ConsumesAtMost};
 ghost use Rattle.rs_run.specs.Refusal.{refusal_text};
 ghost use Rattle.rs_run.specs.Run as spec;
 
 use crate::replay::report_text;
 use crate::source::{Refusal, SourceFault};
-use rs_base::{Bytes, Fault, NoMemory, Sink, Source, print_number, read_to_end, write_whole};
+use rs_base::{Bytes, Fault, NoMemory, print_number};
+use rs_stream::{Sink, Source, read_to_end, write_whole};
 use std::alloc::Global;
 
 /// The largest number of bytes read: one more than a source has.

@@ -6,7 +6,7 @@ use Rattle.rs_base.specs.declared.peer.Peer.{Peer}
 use Rattle.rs_base.specs.declared.txn.Origin.{Origin}
 use Rattle.rs_base.specs.declared.reply.Reply.{Reply}
 use Rattle.rs_base.specs.declared.reply.Reply.TheVariants as replies
-use Rattle.rs_base.specs.Printing.{printed_origin, printed_class}
+use Rattle.rs_print.specs.Replies.{printed_origin, printed_class}
 use Rattle.rs_mean.specs.declared.built.Stmt.{Stmt}
 use Rattle.rs_site.specs.Statement.{statement_of}
 use Rattle.rs_site.specs.declared.session.Session.{Session}

@@ -9,7 +9,7 @@ use Rattle.std.specs.Prelude.{flat_map}
 use Rattle.std.specs.List.{range_with_len}
 use Rattle.rs_base.specs.declared.txn.Origin.{Origin}
 use Rattle.rs_base.specs.declared.reply.Reply.{Reply}
-use Rattle.rs_base.specs.Printing.{printed_reply}
+use Rattle.rs_print.specs.Replies.{printed_reply}
 use Rattle.rs_msg.proofs.Sizes.{reply_fits}
 use Rattle.rs_msg.specs.declared.message.Message.{Message}
 use Rattle.rs_msg.specs.Limits.{IsOriginWithin, IsWithin}

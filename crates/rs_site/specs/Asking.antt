@@ -5,7 +5,7 @@ use Rattle.rs_base.specs.declared.txn.Txn.{Txn}
 use Rattle.rs_base.specs.declared.txn.Origin.{Origin}
 use Rattle.rs_base.specs.declared.reply.Reply.{Reply}
 use Rattle.rs_base.specs.declared.reply.Reply.TheVariants as replies
-use Rattle.rs_base.specs.Printing.{printed_reply}
+use Rattle.rs_print.specs.Replies.{printed_reply}
 use Rattle.rs_mean.specs.declared.built.Stmt.{Stmt}
 use Rattle.rs_site.specs.Statement.{statement_of, offset_replied}
 use Rattle.rs_mean.specs.declared.execution.Execution.{Execution}

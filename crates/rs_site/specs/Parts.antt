@@ -2,7 +2,7 @@
 use Rattle.std.specs.Prelude.{ℕ, ◌*◌, ◌&&◌, nat_lt, List, length, take, drop, Option, Some, None, if◌then◌else◌}
 use Rattle.std.specs.Int.{div_ceil}
 use Rattle.rs_base.specs.declared.txn.Origin.{Origin}
-use Rattle.rs_base.specs.Printing.{printed_reply}
+use Rattle.rs_print.specs.Replies.{printed_reply}
 use Rattle.rs_msg.specs.declared.message.Message.{Message}
 use Rattle.rs_msg.specs.declared.message.Message.TheVariants as messages
 use Rattle.rs_site.specs.declared.outs.Told.{Told}

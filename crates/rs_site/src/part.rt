@@ -6,7 +6,8 @@ ghost use Rattle.rs_site.specs.Sessions.{session_of};
 
 use crate::outs::{Outs, no_outs, reply_with};
 use crate::site::Site;
-use rs_base::{Bytes, NoMemory, Origin, Peer, Reply, print_reply};
+use rs_base::{Bytes, NoMemory, Origin, Peer, Reply};
+use rs_print::print_reply;
 use std::alloc::Global;
 
 /// The size of each part of a reply but the last, in bytes.

@@ -6,8 +6,9 @@ ghost use Rattle.rs_site.specs.Parts as spec;
 
 use crate::outs::Told;
 use crate::part::PART_SIZE;
-use rs_base::{Bytes, NoMemory, Origin, print_reply};
+use rs_base::{Bytes, NoMemory, Origin};
 use rs_msg::{Message, ReplyPart};
+use rs_print::print_reply;
 use std::alloc::Global;
 
 /// Counts the parts of a text.

@@ -2,7 +2,8 @@
 use Rattle.std.specs.Prelude.{ℕ, List, ◌++◌, flat_map, length, decimal, codes}
 use Rattle.std.specs.List.{enumerate_from}
 use Rattle.rs_base.specs.declared.name.Swn.{Swn}
-use Rattle.rs_base.specs.Printing.{printed_row, printed_txn, printed_swn, printed_origin, printed_reply}
+use Rattle.rs_base.specs.Printing.{printed_swn}
+use Rattle.rs_print.specs.Replies.{printed_row, printed_txn, printed_origin, printed_reply}
 use Rattle.rs_mean.specs.declared.table.Table.{Table}
 use Rattle.rs_site.specs.declared.outs.Decided.{Decided}
 use Rattle.rs_world.specs.declared.report.Given.{Given}

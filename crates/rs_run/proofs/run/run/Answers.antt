@@ -1,5 +1,5 @@
 use Rattle.std.proofs.Common.{List, ℕ, subst}
-use Rattle.rs_base.specs.Streams.{AppendsPrefix}
+use Rattle.rs_stream.specs.Streams.{AppendsPrefix}
 use Rattle.rs_run.proofs.RunLaws.{writes_prefix, complete_status, refused_status}
 use Rattle.rs_run.proofs.run.run.Goals as goal
 
