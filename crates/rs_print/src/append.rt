@@ -6,7 +6,6 @@ ghost use Rattle.rs_base.specs.Printing.{printed_value};
 ghost use Rattle.rs_print.specs.Replies as spec;
 
 pub use rs_base::append::{number, site, swn, value};
-
 use rs_base::{
     Answer, Bytes, Denial, Enlist, NoMemory, Origin, Reason, Reply, Resource, Row, SiteNo, Txn,
     Value,

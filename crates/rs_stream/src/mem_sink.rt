@@ -5,9 +5,9 @@ ghost use Rattle.std.specs.Io.KnownBytes.{WriteAppends};
 ghost use Rattle.rs_base.specs.Faults.{CountsFault};
 ghost use Rattle.rs_stream.specs.MemStreams.{raised, fails_next, faults_after};
 
-use rs_base::{Fault, NoMemory};
 use crate::sink::Sink;
 use crate::sure::SureSink;
+use rs_base::{Fault, NoMemory};
 use std::alloc::Global;
 use std::marker::Model;
 

@@ -5,9 +5,9 @@ ghost use Rattle.std.specs.Io.KnownBytes.{ReadConsumes};
 ghost use Rattle.rs_base.specs.Faults.{CountsFailed};
 ghost use Rattle.rs_stream.specs.MemStreams.{raised, fails_next, faults_after};
 
-use rs_base::{Failed, NoMemory};
 use crate::source::Source;
 use crate::sure::SureSource;
+use rs_base::{Failed, NoMemory};
 use std::alloc::Global;
 use std::marker::Model;
 

@@ -5,9 +5,8 @@ ghost use Rattle.std.specs.Io.KnownBytes.{Consumes, IsAtEnd};
 ghost use Rattle.rs_base.specs.Faults.{CountsFault};
 ghost use Rattle.rs_stream.specs.Streams.{ConsumesAtMost};
 
-use rs_base::Bytes;
-use rs_base::Fault;
 use crate::source::Source;
+use rs_base::{Bytes, Fault};
 use std::alloc::Global;
 
 /// Reads until the source ends or `limit` bytes were read, whichever is first. It reads no byte beyond those that it

@@ -5,9 +5,9 @@ ghost use Rattle.std.specs.Io.KnownBytes.{ReadConsumes, WriteAppends};
 ghost use Rattle.rs_base.specs.Faults.{CountsFailed, CountsFault};
 ghost use Rattle.rs_stream.specs.MemStreams.{faults_after};
 
-use rs_base::{Failed, Fault};
 use crate::sink::Sink;
 use crate::source::Source;
+use rs_base::{Failed, Fault};
 use std::io::{Read, Write};
 
 /// A source over a reader of std. Each error of the reader is a fault, an interrupted read too. The count of faults

@@ -4,10 +4,9 @@ ghost use Rattle.std.specs.Prelude.{◌≡◌, ◌<◌, ◌≤◌, [], ◌++◌,
 ghost use Rattle.std.specs.Io.KnownBytes.{ReadConsumes, WriteAppends};
 ghost use Rattle.rs_base.specs.Faults.{CountsFailed, CountsFault};
 
-use rs_base::Bytes;
-use rs_base::{Failed, Fault, NoMemory};
 use crate::sink::Sink;
 use crate::source::Source;
+use rs_base::{Bytes, Failed, Fault, NoMemory};
 use std::alloc::Global;
 use std::marker::Model;
 

@@ -5,8 +5,8 @@ ghost use Rattle.std.specs.Io.KnownBytes.{Appends};
 ghost use Rattle.rs_base.specs.Faults.{CountsFault};
 ghost use Rattle.rs_stream.specs.Streams.{AppendsPrefix};
 
-use rs_base::Fault;
 use crate::sink::Sink;
+use rs_base::Fault;
 
 /// Writes all of `bytes`. If a write fails, a prefix of them was written.
 pub fn write_whole<K: Sink>(sink: &mut K, bytes: &[u8]) -> Result<(), Fault>
