@@ -61,7 +61,11 @@ fn items_shown(
     }
 }
 
-fn column_indexes(alloc: Global, scope: &[ScopeColumn], columns: &[ColRef]) -> Result<Places, NoMemory>
+fn column_indexes(
+    alloc: Global,
+    scope: &[ScopeColumn],
+    columns: &[ColRef],
+) -> Result<Places, NoMemory>
     ensures { IfOk result (λ bound. bound ≡ map (index_named scope.now) columns.now) }
 {
     let mut column_indexes = with_room(alloc, columns.len())?;
@@ -86,7 +90,9 @@ fn shows_column(column_index: u16, item: &ShapeItem) -> bool
 fn position_of(shown: &[ShapeItem], column_index: u16) -> Option<usize>
     ensures { result ≡ position (spec.shows_column column_index) shown.now }
 {
-    shown.iter().position(|item| shows_column(column_index, item))
+    shown
+        .iter()
+        .position(|item| shows_column(column_index, item))
 }
 
 /// Returns the first item that is the column of this index.
