@@ -1,3 +1,2 @@
-mod printing;
 mod streams;
 mod values;

@@ -5,8 +5,6 @@ mod fields;
 mod laws;
 mod put;
 mod read;
-#[cfg(test)]
-mod tests;
 
 pub use fields::Fields;
 pub use laws::{

@@ -5,8 +5,6 @@ mod laws;
 mod message;
 mod put;
 mod read;
-#[cfg(test)]
-mod tests;
 
 pub use laws::{
     ask_fits, each_message, one_encoding, read_is_encoded, reply_fits, written_is_read,

@@ -4,8 +4,6 @@
 mod laws;
 mod reading;
 mod resolving;
-#[cfg(test)]
-mod tests;
 
 pub use laws::{
     different_texts, each_name_is_read, plain_is_synonym, printed_is_text, read_is_printed,

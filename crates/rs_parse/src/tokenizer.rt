@@ -33,6 +33,3 @@ pub fn split(alloc: Global, text: &[u8]) -> Result<Split, NoMemory>
         starts.push(offset)?;
     }
 }
-
-#[cfg(test)]
-mod tests;

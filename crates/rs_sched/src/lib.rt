@@ -13,8 +13,6 @@ mod lines;
 mod number;
 mod print;
 mod reader;
-#[cfg(test)]
-mod tests;
 mod word;
 
 pub use event::{Event, Events};
