@@ -22,8 +22,6 @@ mod size;
 mod source;
 mod std_stream;
 mod sure;
-#[cfg(test)]
-mod tests;
 mod txn;
 mod txt;
 mod value;

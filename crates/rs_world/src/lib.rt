@@ -8,8 +8,6 @@ mod queue;
 mod report;
 mod sites;
 mod taking;
-#[cfg(test)]
-mod tests;
 mod world;
 
 pub use print::print_report;

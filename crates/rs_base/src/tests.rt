@@ -1,3 +1,0 @@
-mod printing;
-mod streams;
-mod values;
