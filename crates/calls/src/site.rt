@@ -2,8 +2,8 @@
 
 use crate::made::{ident, origin};
 use crate::transcript::Transcript;
-use anyhow::{Context, Result, ensure};
-use rs_base::{Bytes, NoMemory, Peer, Reply, SiteNo};
+use anyhow::{Context, Result, bail, ensure};
+use rs_base::{Bytes, NoMemory, Peer, Reply, SiteNo, one_item};
 use rs_msg::{ASK_LIMIT, Ask, Message, decode, encode};
 use rs_site::{Input, Outs, Site, Told};
 use std::alloc::Global;
@@ -31,9 +31,11 @@ const ASKS: [Asked<'static>; 9] = [
 
 pub fn calls(out: &mut Transcript) -> Result<()> {
     asks(out)?;
+    parts(out)?;
     noise(out)?;
     first_part(out)?;
-    further_part(out)
+    further_part(out)?;
+    last_part(out)
 }
 
 fn opened(alloc: Global) -> Result<Site, NoMemory> {
@@ -92,6 +94,42 @@ fn asks(out: &mut Transcript) -> Result<()> {
     Ok(())
 }
 
+/// Returns an INSERT of 100 rows.
+fn insert_of_many(alloc: Global) -> Result<Bytes, NoMemory> {
+    let mut text = Bytes::from_slice(alloc, b"INSERT INTO t VALUES (1000000000)")?;
+    for _ in 1..100 {
+        text.extend(b", (1000000000)")?;
+    }
+    Ok(text)
+}
+
+/// Opens a site, and asks it for 10,000 rows of 11 printed bytes.
+fn with_long_reply(alloc: Global) -> Result<Site> {
+    let mut site = opened(alloc)?;
+    let insert = insert_of_many(alloc)?;
+    let query = b"SELECT u.a FROM t u, t v".as_slice();
+    for (number, text) in [(1, CREATE), (2, insert.as_slice()), (3, query)] {
+        let _replied = site.step(alloc, &datagram(alloc, (1, number, 0, text))?)?;
+    }
+    Ok(site)
+}
+
+// A part has 30,000 bytes.
+fn parts(out: &mut Transcript) -> Result<()> {
+    let mut site = with_long_reply(out.alloc)?;
+    for part in [1, 3, 4] {
+        let came = site.step(out.alloc, &datagram(out.alloc, (1, 3, part, b""))?)?;
+        out.word("Site::step, part")?;
+        out.number(u64::from(part))?;
+        out.returned()?;
+        for told in came.replies.as_slice() {
+            out.number(u64::from(told.part))?;
+        }
+        out.end()?;
+    }
+    Ok(())
+}
+
 fn long_noise(alloc: Global) -> Result<Input, NoMemory> {
     let mut bytes = Bytes::new(alloc);
     for _ in 0..32_769 {
@@ -127,7 +165,7 @@ fn first_part(out: &mut Transcript) -> Result<()> {
     let mut bytes = Bytes::new(out.alloc);
     encode(out.alloc, &message, &mut bytes)?;
     let Message::Reply(read) = decode(out.alloc, bytes.as_slice())? else {
-        anyhow::bail!("another message");
+        bail!("another message");
     };
     out.word("Told::message =")?;
     out.bytes(read.origin.user.as_bytes())?;
@@ -147,6 +185,36 @@ fn further_part(out: &mut Transcript) -> Result<()> {
         Some(_) => "a message",
         None => "none",
     })?;
+    out.end()?;
+    Ok(())
+}
+
+/// Returns the last part of a reply that shows a line of 40,000 bytes.
+fn told_of_long_line(alloc: Global) -> Result<Told> {
+    let mut line = Bytes::new(alloc);
+    for _ in 0..40_000 {
+        line.push(b'x')?;
+    }
+    Ok(Told {
+        to: Peer::Client(7),
+        origin: origin(1, b"ann", 3)?,
+        part: 1,
+        reply: Reply::Shown(one_item(alloc, line)?),
+    })
+}
+
+fn last_part(out: &mut Transcript) -> Result<()> {
+    out.word("Told::message, last part =")?;
+    match told_of_long_line(out.alloc)?.message(out.alloc)? {
+        Some(Message::Reply(message)) => {
+            out.number(u64::from(message.part))?;
+            out.word("of")?;
+            out.number(u64::from(message.parts))?;
+            out.word("bytes")?;
+            out.number(message.bytes.len() as u64)?;
+        }
+        _ => out.word("another message")?,
+    }
     out.end()?;
     Ok(())
 }
