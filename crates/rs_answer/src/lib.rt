@@ -12,5 +12,3 @@ mod groups;
 mod items;
 pub mod laws;
 mod sorting;
-#[cfg(test)]
-mod tests;

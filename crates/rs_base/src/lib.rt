@@ -14,8 +14,6 @@ mod reply;
 mod room;
 mod site_no;
 mod size;
-#[cfg(test)]
-mod tests;
 mod txn;
 mod txt;
 mod value;

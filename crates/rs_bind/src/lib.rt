@@ -22,8 +22,6 @@ mod select_denials;
 mod shape;
 mod statements;
 mod terms;
-#[cfg(test)]
-mod tests;
 
 pub use changes::{bind_delete, bind_insert, bind_update};
 pub use definitions::column_defs;

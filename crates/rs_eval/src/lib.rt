@@ -13,6 +13,3 @@ pub use filling::fill;
 pub use integers::compute;
 pub use joined::{MAX_JOINED, joined_rows};
 pub use setting::{set_row, term_value};
-
-#[cfg(test)]
-mod tests;

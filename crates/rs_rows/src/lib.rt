@@ -3,8 +3,6 @@
 
 mod row_run;
 mod stored_rows;
-#[cfg(test)]
-mod tests;
 
 pub use row_run::RowRun;
 pub use stored_rows::StoredRows;

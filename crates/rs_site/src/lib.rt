@@ -22,6 +22,3 @@ pub use outs::{Decided, Decideds, Outs, Told, Tolds};
 pub use part_laws::{has_each_part, part_fits, part_is_within, parts_are_text};
 pub use session::{Session, Sessions};
 pub use site::Site;
-
-#[cfg(test)]
-mod tests;

@@ -8,8 +8,6 @@ mod queue;
 mod report;
 mod sites;
 mod stepping;
-#[cfg(test)]
-mod tests;
 mod world;
 
 pub use print::print_report;
