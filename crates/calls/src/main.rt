@@ -13,7 +13,7 @@ mod site;
 mod transcript;
 
 use anyhow::Result;
-use rs_base::{StdSink, write_whole};
+use rs_stream::{StdSink, write_whole};
 use std::alloc::Global;
 use transcript::Transcript;
 

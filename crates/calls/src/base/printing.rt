@@ -5,9 +5,9 @@ use crate::transcript::Transcript;
 use anyhow::Result;
 use rs_base::{
     Answer, Answers, Bytes, Denial, Enlist, Ident, Lines, NoMemory, Reason, Reply, Resource, Row,
-    Rows, SiteNo, Txn, Value, print_number, print_origin, print_row, print_swn, print_txn,
-    print_value,
+    Rows, SiteNo, Txn, Value, print_number, print_swn, print_value,
 };
+use rs_print::{print_origin, print_row, print_txn};
 use sqlite_items::Items;
 use std::alloc::Global;
 

@@ -2,7 +2,8 @@
 
 use crate::transcript::Transcript;
 use anyhow::Result;
-use rs_base::{Bytes, Fault, MemSource, NoMemory, Source, StdSource, SureSource, read_to_end};
+use rs_base::{Bytes, Fault, NoMemory};
+use rs_stream::{MemSource, Source, StdSource, SureSource, read_to_end};
 use std::io::{Error, ErrorKind, Read};
 
 const TEXT: &[u8] = b"abcdefgh";

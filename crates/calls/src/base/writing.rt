@@ -2,7 +2,8 @@
 
 use crate::transcript::Transcript;
 use anyhow::Result;
-use rs_base::{MemSink, NoMemory, Sink, StdSink, SureSink, write_whole};
+use rs_base::NoMemory;
+use rs_stream::{MemSink, Sink, StdSink, SureSink, write_whole};
 use std::io::{Error, ErrorKind, Write};
 
 pub fn calls(out: &mut Transcript) -> Result<()> {

@@ -9,8 +9,11 @@ use rs_base::{Denial, NoMemory};
 use rs_plan::{Bound, Swns};
 
 /// Writes the bound statement, or why it is denied.
-pub fn told(out: &mut Transcript, told: &Result<Bound, Denial>) -> Result<(), NoMemory> {
-    match told {
+pub fn bound_or_denied(
+    out: &mut Transcript,
+    bound_or_denied: &Result<Bound, Denial>,
+) -> Result<(), NoMemory> {
+    match bound_or_denied {
         Ok(bound) => {
             statement(out, bound)?;
             out.end()
