@@ -25,8 +25,8 @@ pub struct IndexOf {
 /// The indexes of a table.
 pub type IndexOfs = Items<IndexOf>;
 
-/// A table: its name, the transaction that created it, the site that stores it (`place`), its columns and indexes, and the
-/// number of its rows.
+/// A table: its name, the transaction that created it, the site that stores it (`place`), its columns and indexes, and
+/// the number of its rows.
 #[derive(Drop)]
 pub struct Entry {
     pub name: Swn,

@@ -37,7 +37,8 @@ fn u64_of(bytes: &[u8; 8]) -> u64
 fn groups(bytes: &[u8], limit: u64) -> Option<(u64, &[u8])>
     ensures within { IfSome result (λ found. found.0 ≤ limit) }
     ensures found { IfSome result (λ found. Takes IsGroups bytes.now found.1.now found.0) }
-    ensures none { IfNone result ((n : ℕ) (encoding rest : List ℕ) → n ≤ limit → IsGroups encoding n → bytes.now ≡ encoding ++ rest → ⊥) }
+    ensures none { IfNone result ((n : ℕ) (encoding rest : List ℕ)
+        → n ≤ limit → IsGroups encoding n → bytes.now ≡ encoding ++ rest → ⊥) }
 {
     let (first, rest) = bytes.split_first()?;
     let first = u64::from(*first);
@@ -101,7 +102,8 @@ impl<'a> Fields<'a> {
     /// Takes a big-endian number of four bytes. Returns `None` exactly if fewer than four are left.
     pub fn take_u32(&mut self) -> Option<u32>
         ensures found { IfSome result (λ n. self.old ≡ to_be_bytes w32 n ++ self.new) }
-        ensures none { IfNone result ((n : ℕ) (rest : List ℕ) → self.old ≡ to_be_bytes w32 n ++ rest → ⊥) }
+        ensures none { IfNone result ((n : ℕ) (rest : List ℕ)
+            → self.old ≡ to_be_bytes w32 n ++ rest → ⊥) }
         ensures short { IfNone result (length self.old < 4) }
         ensures stays { IfNone result (self.new ≡ self.old) }
         ensures read { IfSome result (λ n. reader.u32_at self.old ≡ Some (n, self.new)) }
@@ -115,7 +117,8 @@ impl<'a> Fields<'a> {
     /// Takes a big-endian number of eight bytes. Returns `None` exactly if fewer than eight are left.
     pub fn take_u64(&mut self) -> Option<u64>
         ensures found { IfSome result (λ n. self.old ≡ to_be_bytes w64 n ++ self.new) }
-        ensures none { IfNone result ((n : ℕ) (rest : List ℕ) → self.old ≡ to_be_bytes w64 n ++ rest → ⊥) }
+        ensures none { IfNone result ((n : ℕ) (rest : List ℕ)
+            → self.old ≡ to_be_bytes w64 n ++ rest → ⊥) }
         ensures short { IfNone result (length self.old < 8) }
         ensures stays { IfNone result (self.new ≡ self.old) }
         ensures read { IfSome result (λ n. reader.u64_at self.old ≡ Some (n, self.new)) }

@@ -99,5 +99,6 @@ pub fn length_of_int()
 
 /// Proves the length in bytes of a text's encoding.
 pub fn length_of_text()
-    ensures { (bytes text : List ℕ) → IsText bytes text → length bytes ≡ count_size (length text) + length text }
+    ensures { (bytes text : List ℕ) → IsText bytes text
+        → length bytes ≡ count_size (length text) + length text }
 {}

@@ -49,8 +49,8 @@ impl<'a> Fields<'a> {
         self.take_int().ok_or(ReadFault::Malformed)
     }
 
-    /// Reads a text and copies its bytes. Fails with `Malformed`, consuming nothing, if no text begins the bytes, and with
-    /// `NoMemory`, the text consumed, if the allocation fails. Linear in the text's length.
+    /// Reads a text and copies its bytes. Fails with `Malformed`, consuming nothing, if no text begins the bytes, and
+    /// with `NoMemory`, the text consumed, if the allocation fails. Linear in the text's length.
     pub fn read_text(&mut self, alloc: Global) -> Result<Bytes, ReadFault>
         ensures read { Reads (reader.text_at self.old) result self.new }
         ensures stays { IsErrOf result ReadFault.Malformed → self.new ≡ self.old }

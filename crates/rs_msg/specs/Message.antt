@@ -1,8 +1,8 @@
 -- The encoding of messages: the byte 0x52, a byte for the kind, the fields, and nothing after them.
 --     1 Ask      user (a text), epoch (four bytes), number (eight), part (four), text (a text)
 --     2 Reply    origin, part (four bytes), parts (four), bytes (a text)
--- where an origin is its site (a byte), user (a text), epoch (four bytes) and number (eight). Numbers are big-endian, and
--- a text is the count of its bytes, then the bytes. A message beyond the limits has no encoding.
+-- where an origin is its site (a byte), user (a text), epoch (four bytes) and number (eight). Numbers are big-endian,
+-- and a text is the count of its bytes, then the bytes. A message beyond the limits has no encoding.
 use Rattle.std.specs.Prelude.{◌≡◌, ℕ, List, ◌∷◌, ◌++◌}
 use Rattle.std.specs.Int.{w32, w64, to_be_bytes}
 use Rattle.rs_base.specs.declared.txn.Origin.{Origin}

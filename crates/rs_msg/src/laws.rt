@@ -14,7 +14,8 @@ ghost use Rattle.rs_msg.specs.Written.{message_bytes};
 /// Proves that a message has one encoding, and that bytes encode one message, which is within its limits.
 pub fn one_encoding()
     ensures encoding { (a b : List ℕ) (m : Message) → IsMessage a m → IsMessage b m → a ≡ b }
-    ensures message { (bytes : List ℕ) (m n : Message) → IsMessage bytes m → IsMessage bytes n → m ≡ n }
+    ensures message { (bytes : List ℕ) (m n : Message)
+        → IsMessage bytes m → IsMessage bytes n → m ≡ n }
     ensures within { (bytes : List ℕ) (m : Message) → IsMessage bytes m → IsWithin m }
 {}
 
@@ -40,5 +41,6 @@ pub fn ask_fits()
 
 /// Proves that a part of a reply with at most 30,000 bytes fits a datagram.
 pub fn reply_fits()
-    ensures { (reply : ReplyPart) → IsReplyWithin reply → length reply.bytes ≤ 30000 → length (message_bytes (messages.Reply reply)) ≤ 32768 }
+    ensures { (reply : ReplyPart) → IsReplyWithin reply → length reply.bytes ≤ 30000
+        → length (message_bytes (messages.Reply reply)) ≤ 32768 }
 {}

@@ -83,7 +83,8 @@ fn put_message(out: &mut Bytes, message: &Message) -> Result<(), NoMemory>
 /// of memory nothing changes. Linear in the message's length.
 pub fn encode(alloc: Global, message: &Message, out: &mut Bytes) -> Result<(), NoMemory>
     ensures ok { OnOk result (out.new ≡ out.old ++ written.message_bytes message.now) }
-    ensures encoded { HasRoom message.now → OnOk result (IsMessage (written.message_bytes message.now) message.now) }
+    ensures encoded { HasRoom message.now
+        → OnOk result (IsMessage (written.message_bytes message.now) message.now) }
     ensures err { OnErr result (out.new ≡ out.old) }
 {
     let mut whole = Bytes::with_room(alloc, ROOM)?;

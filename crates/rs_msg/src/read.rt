@@ -129,7 +129,8 @@ fn read_whole(alloc: Global, bytes: &[u8]) -> Result<Message, ReadFault>
 /// `NoMemory` if an allocation fails. Linear in the datagram's length.
 pub fn decode(alloc: Global, bytes: &[u8]) -> Result<Message, ReadFault>
     ensures found { IfOk result (λ message. IsMessage bytes.now message) }
-    ensures only { (message : Message) → IsMessage bytes.now message → Gives (λ m. m) result (Some message) }
+    ensures only { (message : Message)
+        → IsMessage bytes.now message → Gives (λ m. m) result (Some message) }
     ensures exact { Gives (λ message. message) result (reader.message_of bytes.now) }
 {
     read_whole(alloc, bytes)

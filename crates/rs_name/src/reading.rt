@@ -47,7 +47,8 @@ fn len_before(separator: u8, bytes: &[u8]) -> usize
 /// Splits the bytes at the first separator, which belongs to neither part.
 #[tactic(auto, unfolding(crate::specs::Reader::separated))]
 fn separated(separator: u8, bytes: &[u8]) -> Option<(&[u8], &[u8])>
-    ensures found { IfSome result (λ parts. spec.separated separator bytes.now ≡ Some (parts.0.now, parts.1.now)) }
+    ensures found { IfSome result (λ parts.
+        spec.separated separator bytes.now ≡ Some (parts.0.now, parts.1.now)) }
     ensures none { IfNone result (spec.separated separator bytes.now ≡ None) }
 {
     let (prefix, rest) = bytes.split_at(len_before(separator, bytes));
@@ -82,8 +83,8 @@ fn swn_of(bytes: &[u8]) -> Option<Swn>
 }
 
 /// Parses a system-wide name, `creator@creator_site.object@birth`: identifiers of at most 24 bytes, and sites from 1 to
-/// 16 in decimal without leading zeros. Returns `None` exactly if the bytes are the text of no name. Linear in the text's
-/// length.
+/// 16 in decimal without leading zeros. Returns `None` exactly if the bytes are the text of no name. Linear in the
+/// text's length.
 pub fn parse_swn(bytes: &[u8]) -> Option<Swn>
     ensures found { IfSome result (λ name. IsSwnText bytes.now name) }
     ensures only { (name : Swn) → IsSwnText bytes.now name → result ≡ Some name }

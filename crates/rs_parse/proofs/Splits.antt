@@ -1,5 +1,5 @@
--- Properties of every split: a start for each token, ascending starts before its end, and an end within the text, which is
--- the text's end exactly if the split is whole.
+-- Properties of every split: a start for each token, ascending starts before its end, and an end within the text, which
+-- is the text's end exactly if the split is whole.
 use Rattle.std.proofs.Common.{◌≡◌, ℕ, zero, suc, ◌+◌, ◌-◌, ◌<◌, ◌≤◌, Bool, true, false, cond, List, [], ◌∷◌, length, get_or, Option, Some, None, refl, ap, arith, subst}
 use Rattle.std.specs.List.{slice_get, All, AllPairs}
 use Rattle.std.proofs.lemmas.List.Elements.{All-nil, All-cons, All-weaker}

@@ -1,5 +1,5 @@
--- The result of a reader of tokens: the value that begins the tokens, with the tokens after it; or a fault, with the tokens
--- from the first one that can't belong to such a value.
+-- The result of a reader of tokens: the value that begins the tokens, with the tokens after it; or a fault, with the
+-- tokens from the first one that can't belong to such a value.
 --     read >>= f          reads on, after what was read
 --     Reads read r new    a function's result and its cursor agree with the reader's, unless an allocation failed
 use Rattle.std.specs.Prelude.{◌≡◌, ℕ, zero, suc, Bool, List, [], ◌∷◌, length, Option, Some, None, Result, Ok, Err, if◌then◌else◌}

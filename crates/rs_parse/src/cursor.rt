@@ -1,5 +1,5 @@
-//! A cursor over tokens, and the readers of single tokens. A reader that fails with `Malformed` stays at the token that it
-//! refuses.
+//! A cursor over tokens, and the readers of single tokens. A reader that fails with `Malformed` stays at the token that
+//! it refuses.
 
 ghost use Rattle.std.specs.Prelude.{◌≡◌, length};
 ghost use Rattle.rs_parse.specs.Read.{Reads, begins};

@@ -67,15 +67,15 @@ fn read(alloc: Global, text: &[u8]) -> Result<Stmt, ParseFault>
     }
 }
 
-/// Parses the text of a statement, with or without a semicolon at its end. Words are read in either case. A statement has
-/// at most 16 columns, select items, GROUP BY columns, sort keys, parameters, values of a tuple or of an EXECUTE, and
-/// assignments, a query at most 6 tables, and a program at most 8 statements; a word has at most 24 bytes, a text literal
-/// at most 255, and a number is at most `2 ^ 63 - 1`.
+/// Parses the text of a statement, with or without a semicolon at its end. Words are read in either case. A statement
+/// has at most 16 columns, select items, GROUP BY columns, sort keys, parameters, values of a tuple or of an EXECUTE,
+/// and assignments, a query at most 6 tables, and a program at most 8 statements; a word has at most 24 bytes, a text
+/// literal at most 255, and a number is at most `2 ^ 63 - 1`.
 ///
-/// `Syntax` reports that no request has this text, with the byte offset, from 0, of the first token such that no request
-/// begins with the tokens up to it; or of the first byte at which no token begins, if that is reached before; or the
-/// text's length, if some request begins with all of the tokens but they are no request. On out of memory nothing is
-/// reported of the text. Linear in the text's length.
+/// `Syntax` reports that no request has this text, with the byte offset, from 0, of the first token such that no
+/// request begins with the tokens up to it; or of the first byte at which no token begins, if that is reached before;
+/// or the text's length, if some request begins with all of the tokens but they are no request. On out of memory
+/// nothing is reported of the text. Linear in the text's length.
 pub fn parse(alloc: Global, text: &[u8]) -> Result<Stmt, ParseFault>
     // The text is that of the statement that is returned.
     ensures found { IfOk result (λ stmt. Spells text.now stmt) }

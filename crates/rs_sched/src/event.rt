@@ -16,8 +16,8 @@ pub enum Event {
     Lose(u64),
     /// Ticks a site this number of times, from 1 to 1,000.
     Tick(SiteNo, u32),
-    /// Stops a site. The second field is the number of its disk's writes since the last sync that are kept, and the third
-    /// the number of bytes that are kept of the next write.
+    /// Stops a site. The second field is the number of its disk's writes since the last sync that are kept, and the
+    /// third the number of bytes that are kept of the next write.
     Stop(SiteNo, u64, u64),
     /// Makes a site's disk fail at a later call. The second field is the number of that call, from 1, and the site stops
     /// there as by `Stop` with the last two fields.
@@ -26,7 +26,7 @@ pub enum Event {
     Restart(SiteNo),
     /// Delivers datagrams, the lowest number first: until there are none, or at most this number.
     Settle(Option<u64>),
-    /// Delivers any bytes to a site as a datagram.
+    /// Delivers these bytes to a site as a datagram.
     Noise(SiteNo, Bytes),
 }
 

@@ -66,7 +66,8 @@ impl<'a> EventLines<'a> {
         }
     }
 
-    /// Returns the number of lines read: the line number of the last event, or of the last line once the end was reached.
+    /// Returns the number of lines read: the line number of the last event, or of the last line once the end was
+    /// reached.
     pub fn line(&self) -> u64
         ensures value { result ≡ self.now.before }
         ensures within { result ≤ 2 ^ 63 }
@@ -111,8 +112,8 @@ impl<'a> EventLines<'a> {
     /// Returns the next event, or `None` at the end of the lines.
     ///
     /// Empty lines and comments are skipped. `BadLine` reports the next line that is neither, from 1, if it is no event
-    /// there, and the first cause that fits it. After an error the reader is after that line. On out of memory nothing is
-    /// reported of the line. Linear in the length of the lines that are read.
+    /// there, and the first cause that fits it. After an error the reader is after that line. On out of memory nothing
+    /// is reported of the line. Linear in the length of the lines that are read.
     #[tactic(auto, unfolding(crate::specs::Next::next_of, crate::specs::Next::passed_of))]
     pub fn next(&mut self, alloc: Global) -> Result<Option<Event>, SchedFault>
         ensures event { spec.GivesNext result (spec.next_of self.old) self.new }

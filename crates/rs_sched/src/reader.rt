@@ -42,13 +42,14 @@ fn read(alloc: Global, bytes: &[u8]) -> Result<Events, SchedFault>
 /// Parses a schedule of at most 16,777,216 bytes: one event on each line, except on empty lines and those that begin
 /// with `#`.
 ///
-/// `BadLine` reports the first bad line, from 1, and the first cause that fits it, or line 0 if there are too many bytes.
-/// On out of memory nothing is reported of the bytes. Linear in their number.
+/// `BadLine` reports the first bad line, from 1, and the first cause that fits it, or line 0 if there are too many
+/// bytes. On out of memory nothing is reported of the bytes. Linear in their number.
 pub fn parse_schedule(alloc: Global, bytes: &[u8]) -> Result<Events, SchedFault>
     // The bytes are a schedule of the events that are returned.
     ensures found { IfOk result (λ given. IsSchedule bytes.now given) }
     // A schedule is read, unless an allocation fails.
-    ensures only { (given : List Event) → IsSchedule bytes.now given → GivesSchedule result (Ok given) }
+    ensures only { (given : List Event)
+        → IsSchedule bytes.now given → GivesSchedule result (Ok given) }
     // A fault reports the first bad line, and the first cause that fits it.
     ensures fault { IfErr result (λ fault. ReportsFault bytes.now fault) }
     // The events or the fault are those of the reader in specs/.
