@@ -4,7 +4,7 @@ ghost use Rattle.std.specs.Prelude.{◌≡◌, ◌≤◌, length, IfOk};
 
 mod shown;
 
-use crate::made::{dml, ident, name, site};
+use crate::arguments::{dml, ident, name, site};
 use crate::transcript::Transcript;
 use anyhow::{Result, bail};
 use rs_ast::{Clauses, ColDef, Column, Dml, Entry};
@@ -63,7 +63,7 @@ fn param(text: &[u8]) -> Result<Param> {
 fn bound(alloc: Global, text: &str) -> Result<Result<Bound, Denial>> {
     let heading = heading(alloc)?;
     let params = [param(b"t")?, param(b"n")?];
-    let told = match dml(alloc, text.as_bytes())? {
+    let outcome = match dml(alloc, text.as_bytes())? {
         Dml::Delete { clauses, .. } => bind_delete(alloc, clauses.as_slice(), &heading, &params)?,
         Dml::Insert { rows, .. } => bind_insert(alloc, rows.as_slice(), &heading, &params)?,
         Dml::Update { sets, clauses, .. } => bind_update(
@@ -77,15 +77,15 @@ fn bound(alloc: Global, text: &str) -> Result<Result<Bound, Denial>> {
             bind_select(alloc, &query, std::slice::from_ref(&heading), &params)?
         }
     };
-    Ok(told)
+    Ok(outcome)
 }
 
 fn statements(out: &mut Transcript) -> Result<()> {
     for text in STATEMENTS {
-        let told = bound(out.alloc, text)?;
+        let outcome = bound(out.alloc, text)?;
         out.word(text)?;
         out.returned()?;
-        shown::told(out, &told)?;
+        shown::outcome(out, &outcome)?;
     }
     Ok(())
 }
@@ -136,7 +136,7 @@ fn bound_delete(alloc: Global, clauses: Clauses) -> Result<Result<Bound, Denial>
         name: NameText::plain(t),
         clauses,
     };
-    let told = bind(
+    let outcome = bind(
         alloc,
         &stmt,
         &[name],
@@ -144,16 +144,16 @@ fn bound_delete(alloc: Global, clauses: Clauses) -> Result<Result<Bound, Denial>
         &[t, n],
         Some(&[Value::Int(7), Value::Int(8)]),
     )?;
-    Ok(told)
+    Ok(outcome)
 }
 
 fn over_entries(out: &mut Transcript, text: &str) -> Result<()> {
     let clauses = clauses(out.alloc, text)?;
-    let told = bound_delete(out.alloc, clauses)?;
+    let outcome = bound_delete(out.alloc, clauses)?;
     out.word("bind")?;
     out.word(text)?;
     out.returned()?;
-    shown::told(out, &told)?;
+    shown::outcome(out, &outcome)?;
     Ok(())
 }
 

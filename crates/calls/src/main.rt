@@ -3,14 +3,15 @@
 #![tactic(auto)]
 
 mod answer;
+mod arguments;
 mod base;
 mod bind;
 mod eval;
-mod made;
 mod mean;
 mod rows;
 mod site;
 mod transcript;
+mod world;
 
 use anyhow::Result;
 use rs_base::{StdSink, write_whole};
@@ -27,6 +28,7 @@ fn calls(alloc: Global) -> Result<Transcript> {
     answer::calls(&mut out)?;
     mean::calls(&mut out)?;
     site::calls(&mut out)?;
+    world::calls(&mut out)?;
     Ok(out)
 }
 

@@ -1,6 +1,6 @@
 //! Calls of rs_mean: statements over plain tables.
 
-use crate::made::{dml, ident, integer_and_text, integers, name, origin, site};
+use crate::arguments::{dml, ident, integer_and_text, integers, name, origin, site};
 use crate::transcript::Transcript;
 use anyhow::Result;
 use rs_ast::{Column, Columns};
@@ -70,8 +70,8 @@ fn answer(out: &mut Transcript, text: &str) -> Result<()> {
     tables.push(first_table(alloc)?)?;
     tables.push(second_table(alloc)?)?;
     let dml = dml(alloc, text.as_bytes())?;
-    let told = answer_plain(alloc, tables.as_slice(), &dml, ident(b"bob")?, site(2)?)?;
-    let reply = match told {
+    let outcome = answer_plain(alloc, tables.as_slice(), &dml, ident(b"bob")?, site(2)?)?;
+    let reply = match outcome {
         Ok(answer) => Reply::Done(one_item(alloc, answer)?),
         Err(cause) => Reply::Denied(cause),
     };

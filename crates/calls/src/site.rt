@@ -1,6 +1,6 @@
 //! Calls of rs_site.
 
-use crate::made::{ident, origin};
+use crate::arguments::{ident, origin};
 use crate::transcript::Transcript;
 use anyhow::{Context, Result, bail, ensure};
 use rs_base::{Bytes, NoMemory, Peer, Reply, SiteNo, one_item};
@@ -60,8 +60,8 @@ fn datagram(alloc: Global, asked: Asked<'_>) -> Result<Input> {
 
 /// Writes the replies, and the number of committed executions.
 fn outs(out: &mut Transcript, outs: &Outs) -> Result<(), NoMemory> {
-    for told in outs.replies.as_slice() {
-        out.reply(&told.origin, &told.reply)?;
+    for part in outs.replies.as_slice() {
+        out.reply(&part.origin, &part.reply)?;
     }
     out.word("committed")?;
     out.number(outs.decided.len() as u64)?;
@@ -77,8 +77,8 @@ fn ask(out: &mut Transcript, site: &mut Site, asked: Asked<'_>) -> Result<()> {
     out.number(u64::from(part))?;
     out.quoted(text)?;
     out.end()?;
-    let came = site.step(out.alloc, &datagram(out.alloc, asked)?)?;
-    outs(out, &came)?;
+    let outcome = site.step(out.alloc, &datagram(out.alloc, asked)?)?;
+    outs(out, &outcome)?;
     Ok(())
 }
 
@@ -118,12 +118,12 @@ fn with_long_reply(alloc: Global) -> Result<Site> {
 fn parts(out: &mut Transcript) -> Result<()> {
     let mut site = with_long_reply(out.alloc)?;
     for part in [1, 3, 4] {
-        let came = site.step(out.alloc, &datagram(out.alloc, (1, 3, part, b""))?)?;
+        let outcome = site.step(out.alloc, &datagram(out.alloc, (1, 3, part, b""))?)?;
         out.word("Site::step, part")?;
         out.number(u64::from(part))?;
         out.returned()?;
-        for told in came.replies.as_slice() {
-            out.number(u64::from(told.part))?;
+        for replied in outcome.replies.as_slice() {
+            out.number(u64::from(replied.part))?;
         }
         out.end()?;
     }
@@ -140,17 +140,17 @@ fn long_noise(alloc: Global) -> Result<Input, NoMemory> {
 
 fn noise(out: &mut Transcript) -> Result<()> {
     let mut site = opened(out.alloc)?;
-    let came = site.step(out.alloc, &long_noise(out.alloc)?)?;
+    let outcome = site.step(out.alloc, &long_noise(out.alloc)?)?;
     out.word("Site::step, 32769 bytes,")?;
-    outs(out, &came)?;
-    let came = site.step(out.alloc, &Input::Tick)?;
+    outs(out, &outcome)?;
+    let outcome = site.step(out.alloc, &Input::Tick)?;
     out.word("Site::step, a tick,")?;
-    outs(out, &came)?;
+    outs(out, &outcome)?;
     Ok(())
 }
 
 /// Returns a part of the reply to ann's third request that its text is no request.
-fn told(part: u32) -> Result<Told> {
+fn syntax_reply(part: u32) -> Result<Told> {
     Ok(Told {
         to: Peer::Client(7),
         origin: origin(1, b"ann", 3)?,
@@ -161,7 +161,7 @@ fn told(part: u32) -> Result<Told> {
 
 /// Shows the message of the first part, as it is read from its bytes.
 fn first_part(out: &mut Transcript) -> Result<()> {
-    let message = told(0)?.message(out.alloc)?.context("no message")?;
+    let message = syntax_reply(0)?.message(out.alloc)?.context("no message")?;
     let mut bytes = Bytes::new(out.alloc);
     encode(out.alloc, &message, &mut bytes)?;
     let Message::Reply(read) = decode(out.alloc, bytes.as_slice())? else {
@@ -181,7 +181,7 @@ fn first_part(out: &mut Transcript) -> Result<()> {
 fn further_part(out: &mut Transcript) -> Result<()> {
     out.word("Told::message, part 1")?;
     out.returned()?;
-    out.word(match told(1)?.message(out.alloc)? {
+    out.word(match syntax_reply(1)?.message(out.alloc)? {
         Some(_) => "a message",
         None => "none",
     })?;
@@ -190,7 +190,7 @@ fn further_part(out: &mut Transcript) -> Result<()> {
 }
 
 /// Returns the last part of a reply that shows a line of 40,000 bytes.
-fn told_of_long_line(alloc: Global) -> Result<Told> {
+fn part_of_long_line(alloc: Global) -> Result<Told> {
     let mut line = Bytes::new(alloc);
     for _ in 0..40_000 {
         line.push(b'x')?;
@@ -205,7 +205,7 @@ fn told_of_long_line(alloc: Global) -> Result<Told> {
 
 fn last_part(out: &mut Transcript) -> Result<()> {
     out.word("Told::message, last part =")?;
-    match told_of_long_line(out.alloc)?.message(out.alloc)? {
+    match part_of_long_line(out.alloc)?.message(out.alloc)? {
         Some(Message::Reply(message)) => {
             out.number(u64::from(message.part))?;
             out.word("of")?;

@@ -1,4 +1,4 @@
-//! Reading from sources: some reads fail, the reading stops at a limit, or takes many pieces.
+//! Reading from sources: some reads fail, the reading stops at a limit, or needs many pieces.
 
 use crate::transcript::Transcript;
 use anyhow::Result;
@@ -31,7 +31,7 @@ fn read<S: Source>(out: &mut Transcript, source: &mut S, limit: usize) -> Result
     out.end()
 }
 
-// The reads of so short a source are one that gives all of it, and one that is at the end.
+// So short a source is read twice: once for all of its bytes, and once at its end.
 fn failing_reads(out: &mut Transcript) -> Result<()> {
     for fail in [[0, 0], [1, 0], [5, 2], [3, 4]] {
         out.word("MemSource::new, failing")?;

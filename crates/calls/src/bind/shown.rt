@@ -9,8 +9,8 @@ use rs_base::{Denial, NoMemory};
 use rs_plan::{Bound, Swns};
 
 /// Writes the bound statement, or why it is denied.
-pub fn told(out: &mut Transcript, told: &Result<Bound, Denial>) -> Result<(), NoMemory> {
-    match told {
+pub fn outcome(out: &mut Transcript, outcome: &Result<Bound, Denial>) -> Result<(), NoMemory> {
+    match outcome {
         Ok(bound) => {
             statement(out, bound)?;
             out.end()
