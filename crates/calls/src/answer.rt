@@ -3,7 +3,7 @@
 use crate::arguments::integers;
 use crate::transcript::Transcript;
 use anyhow::Result;
-use rs_answer::{answer_rows, compare_answers, count_answer, counts_alone};
+use rs_answer::{answer_rows, compare_answers, count_answer, is_count_only};
 use rs_ast::{Shape, ShapeItem, ShapeKey};
 use rs_base::{NoMemory, Rows, Value};
 use sqlite_items::Items;
@@ -145,9 +145,9 @@ fn answer(out: &mut Transcript, query: Query<'_>) -> Result<()> {
 // A query that only counts answers the same from its joined rows and from their number.
 fn counts(out: &mut Transcript) -> Result<()> {
     let shape = shape_of(out.alloc, COUNT)?;
-    out.word("counts_alone")?;
+    out.word("is_count_only")?;
     out.returned()?;
-    out.yes_or_no(counts_alone(&shape))?;
+    out.yes_or_no(is_count_only(&shape))?;
     out.end()?;
     let rows = count_answer(out.alloc, 4)?;
     out.word("count_answer 4")?;

@@ -63,7 +63,7 @@ fn param(text: &[u8]) -> Result<Param> {
 fn bound(alloc: Global, text: &str) -> Result<Result<Bound, Denial>> {
     let heading = heading(alloc)?;
     let params = [param(b"t")?, param(b"n")?];
-    let outcome = match dml(alloc, text.as_bytes())? {
+    let bound_or_denied = match dml(alloc, text.as_bytes())? {
         Dml::Delete { clauses, .. } => bind_delete(alloc, clauses.as_slice(), &heading, &params)?,
         Dml::Insert { rows, .. } => bind_insert(alloc, rows.as_slice(), &heading, &params)?,
         Dml::Update { sets, clauses, .. } => bind_update(
@@ -77,15 +77,15 @@ fn bound(alloc: Global, text: &str) -> Result<Result<Bound, Denial>> {
             bind_select(alloc, &query, std::slice::from_ref(&heading), &params)?
         }
     };
-    Ok(outcome)
+    Ok(bound_or_denied)
 }
 
 fn statements(out: &mut Transcript) -> Result<()> {
     for text in STATEMENTS {
-        let outcome = bound(out.alloc, text)?;
+        let bound_or_denied = bound(out.alloc, text)?;
         out.word(text)?;
         out.returned()?;
-        shown::outcome(out, &outcome)?;
+        shown::bound_or_denied(out, &bound_or_denied)?;
     }
     Ok(())
 }
@@ -136,7 +136,7 @@ fn bound_delete(alloc: Global, clauses: Clauses) -> Result<Result<Bound, Denial>
         name: NameText::plain(t),
         clauses,
     };
-    let outcome = bind(
+    let bound_or_denied = bind(
         alloc,
         &stmt,
         &[name],
@@ -144,16 +144,16 @@ fn bound_delete(alloc: Global, clauses: Clauses) -> Result<Result<Bound, Denial>
         &[t, n],
         Some(&[Value::Int(7), Value::Int(8)]),
     )?;
-    Ok(outcome)
+    Ok(bound_or_denied)
 }
 
 fn over_entries(out: &mut Transcript, text: &str) -> Result<()> {
     let clauses = clauses(out.alloc, text)?;
-    let outcome = bound_delete(out.alloc, clauses)?;
+    let bound_or_denied = bound_delete(out.alloc, clauses)?;
     out.word("bind")?;
     out.word(text)?;
     out.returned()?;
-    shown::outcome(out, &outcome)?;
+    shown::bound_or_denied(out, &bound_or_denied)?;
     Ok(())
 }
 

@@ -8,13 +8,15 @@ mod base;
 mod bind;
 mod eval;
 mod mean;
+mod print;
 mod rows;
 mod site;
+mod stream;
 mod transcript;
 mod world;
 
 use anyhow::Result;
-use rs_base::{StdSink, write_whole};
+use rs_stream::{StdSink, write_whole};
 use std::alloc::Global;
 use transcript::Transcript;
 
@@ -22,6 +24,8 @@ use transcript::Transcript;
 fn calls(alloc: Global) -> Result<Transcript> {
     let mut out = Transcript::new(alloc);
     base::calls(&mut out)?;
+    stream::calls(&mut out)?;
+    print::calls(&mut out)?;
     rows::calls(&mut out)?;
     bind::calls(&mut out)?;
     eval::calls(&mut out)?;

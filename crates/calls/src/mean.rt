@@ -70,8 +70,8 @@ fn answer(out: &mut Transcript, text: &str) -> Result<()> {
     tables.push(first_table(alloc)?)?;
     tables.push(second_table(alloc)?)?;
     let dml = dml(alloc, text.as_bytes())?;
-    let outcome = answer_plain(alloc, tables.as_slice(), &dml, ident(b"bob")?, site(2)?)?;
-    let reply = match outcome {
+    let answered = answer_plain(alloc, tables.as_slice(), &dml, ident(b"bob")?, site(2)?)?;
+    let reply = match answered {
         Ok(answer) => Reply::Done(one_item(alloc, answer)?),
         Err(cause) => Reply::Denied(cause),
     };

@@ -30,7 +30,7 @@ fn sizes(out: &mut Transcript, call: &str, stored: &StoredRows) -> Result<(), No
 
 /// Writes the first rows of a run, and how many are left.
 fn first_rows(out: &mut Transcript, run: RowRun<'_>, count: usize) -> Result<(), NoMemory> {
-    let mut rest = run.again();
+    let mut rest = run.view();
     for _ in 0..count {
         match rest.split_first() {
             Some((row, others)) => {

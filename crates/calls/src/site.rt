@@ -60,8 +60,8 @@ fn datagram(alloc: Global, asked: Asked<'_>) -> Result<Input> {
 
 /// Writes the replies, and the number of committed executions.
 fn outs(out: &mut Transcript, outs: &Outs) -> Result<(), NoMemory> {
-    for part in outs.replies.as_slice() {
-        out.reply(&part.origin, &part.reply)?;
+    for sent in outs.replies.as_slice() {
+        out.reply(&sent.origin, &sent.reply)?;
     }
     out.word("committed")?;
     out.number(outs.decided.len() as u64)?;
@@ -122,8 +122,8 @@ fn parts(out: &mut Transcript) -> Result<()> {
         out.word("Site::step, part")?;
         out.number(u64::from(part))?;
         out.returned()?;
-        for replied in outcome.replies.as_slice() {
-            out.number(u64::from(replied.part))?;
+        for sent in outcome.replies.as_slice() {
+            out.number(u64::from(sent.part))?;
         }
         out.end()?;
     }
@@ -150,7 +150,7 @@ fn noise(out: &mut Transcript) -> Result<()> {
 }
 
 /// Returns a part of the reply to ann's third request that its text is no request.
-fn syntax_reply(part: u32) -> Result<Told> {
+fn reply_part(part: u32) -> Result<Told> {
     Ok(Told {
         to: Peer::Client(7),
         origin: origin(1, b"ann", 3)?,
@@ -161,7 +161,7 @@ fn syntax_reply(part: u32) -> Result<Told> {
 
 /// Shows the message of the first part, as it is read from its bytes.
 fn first_part(out: &mut Transcript) -> Result<()> {
-    let message = syntax_reply(0)?.message(out.alloc)?.context("no message")?;
+    let message = reply_part(0)?.message(out.alloc)?.context("no message")?;
     let mut bytes = Bytes::new(out.alloc);
     encode(out.alloc, &message, &mut bytes)?;
     let Message::Reply(read) = decode(out.alloc, bytes.as_slice())? else {
@@ -181,7 +181,7 @@ fn first_part(out: &mut Transcript) -> Result<()> {
 fn further_part(out: &mut Transcript) -> Result<()> {
     out.word("Told::message, part 1")?;
     out.returned()?;
-    out.word(match syntax_reply(1)?.message(out.alloc)? {
+    out.word(match reply_part(1)?.message(out.alloc)? {
         Some(_) => "a message",
         None => "none",
     })?;

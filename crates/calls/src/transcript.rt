@@ -1,9 +1,10 @@
 //! What the calls return, as lines of words.
 
 use rs_base::{
-    Bytes, Denial, Fault, NoMemory, Origin, Reply, Row, Swn, Value, print_number, print_reply,
-    print_row, print_swn, print_value,
+    Bytes, Denial, Fault, NoMemory, Origin, Reply, Row, Swn, Value, print_number, print_swn,
+    print_value,
 };
+use rs_print::{print_reply, print_row};
 use std::alloc::Global;
 use std::cmp::Ordering;
 

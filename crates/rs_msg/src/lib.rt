@@ -1,15 +1,13 @@
-//! The messages of sites and clients: how each is spelled in a datagram, and read again.
+//! The messages between sites and clients, and their encoding as datagrams.
 #![tactic(auto)]
 
 mod laws;
 mod message;
 mod put;
 mod read;
-#[cfg(test)]
-mod tests;
 
 pub use laws::{
-    ask_fits, each_message, one_spelling, read_is_spelled, reply_fits, written_is_read,
+    ask_fits, each_message, one_encoding, read_is_encoded, reply_fits, written_is_read,
 };
 pub use message::{ASK_LIMIT, Ask, Message, ReplyPart};
 pub use put::encode;

@@ -1,11 +1,9 @@
-//! System-wide names: what a written name stands for, and the text of a name.
+//! System-wide names: resolving written names, and parsing and printing.
 #![tactic(auto)]
 
 mod laws;
 mod reading;
 mod resolving;
-#[cfg(test)]
-mod tests;
 
 pub use laws::{
     different_texts, each_name_is_read, plain_is_synonym, printed_is_text, read_is_printed,

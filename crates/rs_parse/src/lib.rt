@@ -1,4 +1,4 @@
-//! From a text to a statement.
+//! The parser of statements: tokenizing a text, and parsing its tokens by recursive descent.
 #![tactic(auto)]
 
 mod changes;
@@ -23,6 +23,3 @@ pub use laws::{
     fault_once, printed_is_read, spelled_has_no_fault, spelled_or_faulty, statement_once,
 };
 pub use parser::{ParseFault, parse};
-
-#[cfg(test)]
-mod tests;

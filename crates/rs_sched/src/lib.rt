@@ -1,4 +1,4 @@
-//! Schedules: what happens to a world of sites, as lines of text.
+//! Schedules: the events of a simulated network of sites, as lines of text.
 #![tactic(auto)]
 
 mod event;
@@ -13,8 +13,6 @@ mod lines;
 mod number;
 mod print;
 mod reader;
-#[cfg(test)]
-mod tests;
 mod word;
 
 pub use event::{Event, Events};

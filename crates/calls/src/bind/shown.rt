@@ -9,8 +9,11 @@ use rs_base::{Denial, NoMemory};
 use rs_plan::{Bound, Swns};
 
 /// Writes the bound statement, or why it is denied.
-pub fn outcome(out: &mut Transcript, outcome: &Result<Bound, Denial>) -> Result<(), NoMemory> {
-    match outcome {
+pub fn bound_or_denied(
+    out: &mut Transcript,
+    bound_or_denied: &Result<Bound, Denial>,
+) -> Result<(), NoMemory> {
+    match bound_or_denied {
         Ok(bound) => {
             statement(out, bound)?;
             out.end()
