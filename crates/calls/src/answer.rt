@@ -1,6 +1,6 @@
 //! Calls of rs_answer.
 
-use crate::made::integers;
+use crate::arguments::integers;
 use crate::transcript::Transcript;
 use anyhow::Result;
 use rs_answer::{answer_rows, compare_answers, count_answer, is_count_only};

@@ -4,7 +4,7 @@ ghost use Rattle.std.specs.Prelude.{◌≡◌, ◌≤◌, length, IfOk};
 
 mod shown;
 
-use crate::made::{dml, ident, name, site};
+use crate::arguments::{dml, ident, name, site};
 use crate::transcript::Transcript;
 use anyhow::{Result, bail};
 use rs_ast::{Clauses, ColDef, Column, Dml, Entry};

@@ -3,14 +3,17 @@
 #![tactic(auto)]
 
 mod answer;
+mod arguments;
 mod base;
 mod bind;
 mod eval;
-mod made;
 mod mean;
+mod print;
 mod rows;
 mod site;
+mod stream;
 mod transcript;
+mod world;
 
 use anyhow::Result;
 use rs_stream::{StdSink, write_whole};
@@ -21,12 +24,15 @@ use transcript::Transcript;
 fn calls(alloc: Global) -> Result<Transcript> {
     let mut out = Transcript::new(alloc);
     base::calls(&mut out)?;
+    stream::calls(&mut out)?;
+    print::calls(&mut out)?;
     rows::calls(&mut out)?;
     bind::calls(&mut out)?;
     eval::calls(&mut out)?;
     answer::calls(&mut out)?;
     mean::calls(&mut out)?;
     site::calls(&mut out)?;
+    world::calls(&mut out)?;
     Ok(out)
 }
 

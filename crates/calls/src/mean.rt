@@ -1,6 +1,6 @@
 //! Calls of rs_mean: statements over plain tables.
 
-use crate::made::{dml, ident, integer_and_text, integers, name, origin, site};
+use crate::arguments::{dml, ident, integer_and_text, integers, name, origin, site};
 use crate::transcript::Transcript;
 use anyhow::Result;
 use rs_ast::{Column, Columns};

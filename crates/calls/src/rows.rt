@@ -1,6 +1,6 @@
 //! Calls of rs_rows.
 
-use crate::made::{integer_and_text, integers};
+use crate::arguments::{integer_and_text, integers};
 use crate::transcript::Transcript;
 use anyhow::Result;
 use rs_base::{NoMemory, Row, Value};

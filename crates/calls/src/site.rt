@@ -1,6 +1,6 @@
 //! Calls of rs_site.
 
-use crate::made::{ident, origin};
+use crate::arguments::{ident, origin};
 use crate::transcript::Transcript;
 use anyhow::{Context, Result, bail, ensure};
 use rs_base::{Bytes, NoMemory, Peer, Reply, SiteNo, one_item};
@@ -77,8 +77,8 @@ fn ask(out: &mut Transcript, site: &mut Site, asked: Asked<'_>) -> Result<()> {
     out.number(u64::from(part))?;
     out.quoted(text)?;
     out.end()?;
-    let came = site.step(out.alloc, &datagram(out.alloc, asked)?)?;
-    outs(out, &came)?;
+    let outcome = site.step(out.alloc, &datagram(out.alloc, asked)?)?;
+    outs(out, &outcome)?;
     Ok(())
 }
 
@@ -118,11 +118,11 @@ fn with_long_reply(alloc: Global) -> Result<Site> {
 fn parts(out: &mut Transcript) -> Result<()> {
     let mut site = with_long_reply(out.alloc)?;
     for part in [1, 3, 4] {
-        let came = site.step(out.alloc, &datagram(out.alloc, (1, 3, part, b""))?)?;
+        let outcome = site.step(out.alloc, &datagram(out.alloc, (1, 3, part, b""))?)?;
         out.word("Site::step, part")?;
         out.number(u64::from(part))?;
         out.returned()?;
-        for sent in came.replies.as_slice() {
+        for sent in outcome.replies.as_slice() {
             out.number(u64::from(sent.part))?;
         }
         out.end()?;
@@ -140,12 +140,12 @@ fn long_noise(alloc: Global) -> Result<Input, NoMemory> {
 
 fn noise(out: &mut Transcript) -> Result<()> {
     let mut site = opened(out.alloc)?;
-    let came = site.step(out.alloc, &long_noise(out.alloc)?)?;
+    let outcome = site.step(out.alloc, &long_noise(out.alloc)?)?;
     out.word("Site::step, 32769 bytes,")?;
-    outs(out, &came)?;
-    let came = site.step(out.alloc, &Input::Tick)?;
+    outs(out, &outcome)?;
+    let outcome = site.step(out.alloc, &Input::Tick)?;
     out.word("Site::step, a tick,")?;
-    outs(out, &came)?;
+    outs(out, &outcome)?;
     Ok(())
 }
 

@@ -1,6 +1,6 @@
 //! Orders of values, names, transactions and requests.
 
-use crate::made::{name, origin, site, text};
+use crate::arguments::{name, origin, site, text};
 use crate::transcript::Transcript;
 use anyhow::Result;
 use rs_base::{

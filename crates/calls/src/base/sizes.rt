@@ -1,6 +1,6 @@
 //! The sizes of integers and rows.
 
-use crate::made::{integer_and_text, integers};
+use crate::arguments::{integer_and_text, integers};
 use crate::transcript::Transcript;
 use anyhow::Result;
 use rs_base::{NoMemory, Value, count_of, row_size};

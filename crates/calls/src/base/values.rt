@@ -1,6 +1,6 @@
 //! Sites, identifiers, texts and values.
 
-use crate::made::{integers, text};
+use crate::arguments::{integers, text};
 use crate::transcript::Transcript;
 use anyhow::Result;
 use rs_base::{Ident, Kind, NoMemory, SiteNo, Txt, TxtFault, copy_row};

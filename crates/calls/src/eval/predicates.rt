@@ -1,6 +1,6 @@
 //! Comparisons and predicates, with parameters and with their values.
 
-use crate::made::integer_and_text;
+use crate::arguments::integer_and_text;
 use crate::transcript::Transcript;
 use anyhow::Result;
 use rs_ast::{BoundClause, BoundClauses, BoundCmp, BoundSide, Op};

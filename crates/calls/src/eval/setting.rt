@@ -1,6 +1,6 @@
 //! Integers that are computed, and rows whose columns are set.
 
-use crate::made::integers;
+use crate::arguments::integers;
 use crate::transcript::Transcript;
 use anyhow::Result;
 use rs_ast::{Arith, BoundSet, BoundSets, BoundTerm};

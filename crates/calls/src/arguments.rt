@@ -1,4 +1,4 @@
-//! Identifiers, sites, names and rows that calls are made with.
+//! Arguments of the calls: identifiers, sites, names, requests, rows and statements.
 
 use anyhow::{Context, Result, bail};
 use rs_ast::{Dml, Stmt};

@@ -1,20 +1,17 @@
-//! Reading from sources: some reads fail, the reading stops at a limit, or takes many pieces.
+//! Reading from sources: some reads fail, the reading stops at a limit, or needs many pieces.
 
 use crate::transcript::Transcript;
 use anyhow::Result;
-use rs_base::{Bytes, Fault, NoMemory};
+use rs_base::NoMemory;
 use rs_stream::{MemSource, Source, StdSource, SureSource, read_to_end};
 use std::io::{Error, ErrorKind, Read};
 
 const TEXT: &[u8] = b"abcdefgh";
 
-const LONG: [u8; 10000] = [7; 10000];
-
 pub fn calls(out: &mut Transcript) -> Result<()> {
     failing_reads(out)?;
     limits(out)?;
     pieces(out)?;
-    second_piece_fails(out)?;
     readers_of_std(out)?;
     broken_reader(out)?;
     Ok(())
@@ -32,7 +29,7 @@ fn read<S: Source>(out: &mut Transcript, source: &mut S, limit: usize) -> Result
     out.end()
 }
 
-// The reads of so short a source are one that gives all of it, and one that is at the end.
+// So short a source is read twice: once for all of its bytes, and once at its end.
 fn failing_reads(out: &mut Transcript) -> Result<()> {
     for fail in [[0, 0], [1, 0], [5, 2], [3, 4]] {
         out.word("MemSource::new, failing")?;
@@ -55,38 +52,40 @@ fn limits(out: &mut Transcript) -> Result<()> {
     Ok(())
 }
 
-/// Writes how many bytes were read, and whether they are a prefix of the long source.
-fn prefix(out: &mut Transcript, read: &Result<Bytes, Fault>) -> Result<(), NoMemory> {
+/// Reads up to a limit of a long source, and writes how many bytes were read, and whether they are a prefix of it.
+fn read_long<S: Source>(
+    out: &mut Transcript,
+    source: &mut S,
+    limit: usize,
+    long: &[u8],
+) -> Result<(), NoMemory> {
+    out.word("read_to_end")?;
+    out.number(limit as u64)?;
     out.returned()?;
-    match read {
+    match read_to_end(out.alloc, source, limit) {
         Ok(bytes) => {
             out.number(bytes.len() as u64)?;
-            out.word(if LONG.starts_with(bytes.as_slice()) {
+            out.word(if long.starts_with(bytes.as_slice()) {
                 "of its bytes"
             } else {
                 "other bytes"
-            })
+            })?;
         }
-        Err(fault) => out.fault(*fault),
+        Err(fault) => out.fault(fault)?,
     }
+    out.end()
 }
 
 fn pieces(out: &mut Transcript) -> Result<()> {
+    let long = vec![in out.alloc; 7u8; 10000]?;
     for limit in [4095, 4096, 4097, 9999, 10000, 10001] {
-        out.word("read_to_end of 10000 bytes")?;
-        out.number(limit as u64)?;
-        let mut source = SureSource::new(out.alloc, &LONG)?;
-        prefix(out, &read_to_end(out.alloc, &mut source, limit))?;
-        out.end()?;
+        let mut source = SureSource::new(out.alloc, long.as_slice())?;
+        out.word("SureSource::new of 10000 bytes")?;
+        read_long(out, &mut source, limit, long.as_slice())?;
     }
-    Ok(())
-}
-
-fn second_piece_fails(out: &mut Transcript) -> Result<()> {
-    out.word("read_to_end of 10000 bytes, failing 2")?;
-    let mut source = MemSource::new(out.alloc, &LONG, &[2])?;
-    prefix(out, &read_to_end(out.alloc, &mut source, 20000))?;
-    out.end()?;
+    let mut source = MemSource::new(out.alloc, long.as_slice(), &[2])?;
+    out.word("MemSource::new of 10000 bytes, failing 2")?;
+    read_long(out, &mut source, 20000, long.as_slice())?;
     Ok(())
 }
 

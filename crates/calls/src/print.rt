@@ -1,11 +1,11 @@
-//! Values, names and replies as they are printed.
+//! Calls of rs_print, and copies of replies.
 
-use crate::made::{integer_and_text, name, origin, site};
+use crate::arguments::{ident, integer_and_text, name, origin, site};
 use crate::transcript::Transcript;
 use anyhow::Result;
 use rs_base::{
-    Answer, Answers, Bytes, Denial, Enlist, Ident, Lines, NoMemory, Reason, Reply, Resource, Row,
-    Rows, SiteNo, Txn, Value, print_number, print_swn, print_value,
+    Answer, Answers, Bytes, Denial, Enlist, Lines, NoMemory, Reason, Reply, Resource, Row, Rows,
+    SiteNo, Txn, Value, print_number, print_swn, print_value,
 };
 use rs_print::{print_origin, print_row, print_txn};
 use sqlite_items::Items;
@@ -105,12 +105,12 @@ fn waited_for(out: &mut Transcript, what: Resource) -> Result<()> {
 }
 
 fn locks(out: &mut Transcript) -> Result<()> {
-    let object = name(b"ann", 1, b"b")?;
-    let user: Ident = object.creator;
-    waited_for(out, Resource::Table(object))?;
-    waited_for(out, Resource::Birth(object))?;
-    waited_for(out, Resource::Program(user, object.object))?;
-    waited_for(out, Resource::Synonyms(user))
+    let ann = ident(b"ann")?;
+    let b = ident(b"b")?;
+    waited_for(out, Resource::Table(name(b"ann", 1, b"b")?))?;
+    waited_for(out, Resource::Birth(name(b"ann", 1, b"b")?))?;
+    waited_for(out, Resource::Program(ann, b))?;
+    waited_for(out, Resource::Synonyms(ann))
 }
 
 fn silent_sites(out: &mut Transcript) -> Result<()> {
