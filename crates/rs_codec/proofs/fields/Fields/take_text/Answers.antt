@@ -11,7 +11,7 @@ returns-then-rest-len-clause-none c =
 
 pub returns-clause-found : goal.returns-clause-found
 returns-clause-found c =
-    rw (sym c.self.view_is) (takes_text c.self.inside.left.now c.in_ok-len.rest.now c.split_at.result.0.now c.split_at.result.1.now c.in_ok-len.len c.in_ok-len.ensures.found c.if-rest-len.false c.split_at.ensures.prefix c.split_at.ensures.back)
+    rw (sym c.self.view_is) (takes_text c.self.inside.left.now c.in_ok-len.rest.now c.split_at.result.0.now c.split_at.result.1.now c.in_ok-len.len c.in_ok-len.ensures.found c.if-rest-len.false c.split_at.ensures.front c.split_at.ensures.back)
 
 pub returns-in_err-len-clause-end : goal.returns-in_err-len-clause-end
 returns-in_err-len-clause-end c =
@@ -24,4 +24,4 @@ returns-then-rest-len-clause-end c =
 pub returns-clause-read : goal.returns-clause-read
 returns-clause-read c =
     rw (sym c.self.view_is) ((text_read c.self.inside.left.now c.split_at.result.1.now c.split_at.result.0.now).0
-    (takes_text c.self.inside.left.now c.in_ok-len.rest.now c.split_at.result.0.now c.split_at.result.1.now c.in_ok-len.len c.in_ok-len.ensures.found c.if-rest-len.false c.split_at.ensures.prefix c.split_at.ensures.back))
+    (takes_text c.self.inside.left.now c.in_ok-len.rest.now c.split_at.result.0.now c.split_at.result.1.now c.in_ok-len.len c.in_ok-len.ensures.found c.if-rest-len.false c.split_at.ensures.front c.split_at.ensures.back))
