@@ -1,4 +1,4 @@
--- How often elements are in a list, said of whether the list has them, and of whether two of its elements are equal.
+-- The number of times that elements are in a list, by whether the list has them and whether two of its elements are equal.
 use Rattle.std.proofs.Common.{◌≡◌, ◌≢◌, ℕ, ◌<◌, ◌≤◌, List, [], ◌∷◌, Bool, true, false, cond, zero, suc, length, get_or, map, sym, ap, ◌∙◌, subst, arith, ⊎_elim}
 use Rattle.std.specs.List.{filter, AllPairs, AllByRecursion, Contains}
 use Rattle.std.proofs.lemmas.Bool.{cases_Bool}
@@ -24,14 +24,14 @@ module _ {X : Type 0} (same : X → X → Bool) (is : Decides same) where
   pub times_from_Contains : (z : X) (xs : List X) → Contains xs z → 0 < times same z xs
   times_from_Contains z xs has = times_at z xs has.0 has.1 has.2
 
-  behind : (z x : X) (xs : List X) → Contains xs z → Contains (x ∷ xs) z
-  behind z x xs has = (suc has.0, omega (arith, has.1), has.2)
+  suffix : (z x : X) (xs : List X) → Contains xs z → Contains (x ∷ xs) z
+  suffix z x xs has = (suc has.0, omega (arith, has.1), has.2)
 
   pub Contains-from_times : (z : X) (xs : List X) → 0 < times same z xs → Contains xs z
   Contains-from_times z [] h = absurd (omega (arith, h))
   Contains-from_times z (x ∷ xs) h =
       ⊎_elim (λ (e : same z x ≡ true). (0, omega arith, sym (is.exact z x e)))
-      (λ (e : same z x ≡ false). let here : one_like same z x ≡ 0 = ap (λ b. cond b 1 0) e in behind z x xs (Contains-from_times z xs (omega (arith, h, here))))
+      (λ (e : same z x ≡ false). let here : one_like same z x ≡ 0 = ap (λ b. cond b 1 0) e in suffix z x xs (Contains-from_times z xs (omega (arith, h, here))))
       (cases_Bool (same z x))
 
   -- each element of a list is in it
@@ -56,7 +56,7 @@ module _ {X : Type 0} (same : X → X → Bool) (is : Decides same) where
   absent z [] h = tt
   absent z (x ∷ xs) h = ((λ e. absurd (omega (arith, h, one_for z x (sym e)))), absent z xs (omega (arith, h)))
 
-  -- where each is there at most once, a fact of any two different ones is a fact of any two
+  -- if each is there at most once, a fact of any two different ones is a fact of any two
   pub pairs_apart : {Y : Type 0} (R : Y → Y → Type 0) (f : X → Y) → ((v w : X) → v ≢ w → R (f v) (f w)) → (xs : List X) → ((z : X) → times same z xs ≤ 1) → AllPairs R (map f xs)
   pairs_apart R f differ [] once = λ i j d low high. absurd (omega arith)
   pairs_apart R f differ (x ∷ xs) once =

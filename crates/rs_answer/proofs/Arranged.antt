@@ -11,10 +11,10 @@ use Rattle.std.proofs.lemmas.List.Sums.{sum_by-cons}
 use Rattle.std.proofs.lemmas.Map.Lookups.{CmpEqualImpliesEq}
 use Rattle.rs_answer.specs.Sorting.{put_in_order, sorted_by}
 
-turned_twice : (r : Ordering) → ordering_reverse (ordering_reverse r) ≡ r
-turned_twice Less = refl
-turned_twice Equal = refl
-turned_twice Greater = refl
+reversed_twice : (r : Ordering) → ordering_reverse (ordering_reverse r) ≡ r
+reversed_twice Less = refl
+reversed_twice Equal = refl
+reversed_twice Greater = refl
 
 -- ---- what every list in order has
 
@@ -29,14 +29,14 @@ Rising R (x ∷ xs) = NoneBelow R x xs × Rising R xs
 
 pub lt_as_gt : {X : Type 0} {R : X → X → Ordering} → IsTotalOrder R → (x y : X) → is_lt (R y x) ≡ is_gt (R x y)
 lt_as_gt {X} {R} o x y =
-    let turned : (r : Ordering) → is_lt (ordering_reverse r) ≡ is_gt r = λ r. elim r as (λ r. is_lt (ordering_reverse r) ≡ is_gt r) [ Less ↦ refl | Equal ↦ refl | Greater ↦ refl ] in
-    ap is_lt (o.antisymm y x) ∙ turned (R x y)
+    let reversed : (r : Ordering) → is_lt (ordering_reverse r) ≡ is_gt r = λ r. elim r as (λ r. is_lt (ordering_reverse r) ≡ is_gt r) [ Less ↦ refl | Equal ↦ refl | Greater ↦ refl ] in
+    ap is_lt (o.antisymm y x) ∙ reversed (R x y)
 
-none_below_from_places : {X : Type 0} (R : X → X → Ordering) (x : X) (xs : List X)
+none_below_from_indexes : {X : Type 0} (R : X → X → Ordering) (x : X) (xs : List X)
     → ((j : ℕ) (d : X) → j < length xs → is_gt (R x (get_or xs j d)) ≡ false) → NoneBelow R x xs
-none_below_from_places R x [] h = tt
-none_below_from_places R x (y ∷ ys) h =
-    (h 0 y (omega arith), none_below_from_places R x ys (λ j d l. h (suc j) d (omega arith)))
+none_below_from_indexes R x [] h = tt
+none_below_from_indexes R x (y ∷ ys) h =
+    (h 0 y (omega arith), none_below_from_indexes R x ys (λ j d l. h (suc j) d (omega arith)))
 
 sorted_rest : {X : Type 0} (R : X → X → Ordering) (x : X) (xs : List X) → IsSorted R (x ∷ xs) → IsSorted R xs
 sorted_rest R x xs up = λ k d low high. rw add-one (simp add-one at (up (suc k) d (omega arith) (omega arith)))
@@ -44,7 +44,7 @@ sorted_rest R x xs up = λ k d low high. rw add-one (simp add-one at (up (suc k)
 pub rising_from_sorted : {X : Type 0} {R : X → X → Ordering} → IsTotalOrder R → (xs : List X) → IsSorted R xs → Rising R xs
 rising_from_sorted o [] up = tt
 rising_from_sorted {X} {R} o (x ∷ xs) up = (
-  none_below_from_places R x xs (λ j d l. sym (lt_as_gt o x (get_or xs j d)) ∙ sorted_far (λ a b. is_lt (R a b)) (ranks_by o (λ x. x)) (x ∷ xs) up 0 (suc j) d (omega arith) (omega arith)),
+  none_below_from_indexes R x xs (λ j d l. sym (lt_as_gt o x (get_or xs j d)) ∙ sorted_far (λ a b. is_lt (R a b)) (ranks_by o (λ x. x)) (x ∷ xs) up 0 (suc j) d (omega arith) (omega arith)),
   rising_from_sorted o xs (sorted_rest R x xs up),
 )
 
@@ -87,7 +87,7 @@ first_not_below : {X : Type 0} (R : X → X → Ordering) (y x : X) (xs : List X
 first_not_below R y x xs e = not_below (is_gt (R y x)) (omega (arith, sum_by-cons (one_below R y) x xs, e))
 
 neither_above : (r s : Ordering) → r ≡ ordering_reverse s → is_gt r ≡ false → is_gt s ≡ false → r ≡ Equal
-neither_above Less s e f g = cc (ap ordering_reverse e, turned_twice s, g)
+neither_above Less s e f g = cc (ap ordering_reverse e, reversed_twice s, g)
 neither_above Equal s e f g = refl
 neither_above Greater s e f g = cc
 
@@ -113,8 +113,8 @@ module _ {X : Type 0} (R : X → X → Ordering) where
   put_permutes : (x : X) (xs : List X) → IsPermutation (x ∷ xs) (put_in_order R x xs)
   put_permutes x [] = IsPermutation-refl _
   put_permutes x (y ∷ ys) =
-      let turned : IsPermutation (x ∷ y ∷ ys) (y ∷ x ∷ ys) = IsPermutation-swap (x ∷ y ∷ ys) (y ∷ x ∷ ys) 0 1 (omega arith) (omega arith) refl in
-      let onward : IsPermutation (x ∷ y ∷ ys) (y ∷ put_in_order R x ys) = IsPermutation-trans _ (y ∷ x ∷ ys) _ turned (IsPermutation-cons y _ _ (put_permutes x ys)) in
+      let reversed : IsPermutation (x ∷ y ∷ ys) (y ∷ x ∷ ys) = IsPermutation-swap (x ∷ y ∷ ys) (y ∷ x ∷ ys) 0 1 (omega arith) (omega arith) refl in
+      let onward : IsPermutation (x ∷ y ∷ ys) (y ∷ put_in_order R x ys) = IsPermutation-trans _ (y ∷ x ∷ ys) _ reversed (IsPermutation-cons y _ _ (put_permutes x ys)) in
       elim (R x y) as (λ o. IsPermutation (x ∷ y ∷ ys) (match_ordering o (x ∷ y ∷ ys) (x ∷ y ∷ ys) (y ∷ put_in_order R x ys)))
       [ Less ↦ IsPermutation-refl _ | Equal ↦ IsPermutation-refl _ | Greater ↦ onward ]
 
@@ -138,15 +138,15 @@ module _ {X : Type 0} {R : X → X → Ordering} (total : IsTotalOrder R) where
   none_below_before x y [] e h = tt
   none_below_before x y (z ∷ zs) e h = (upto total x y z e h.0, none_below_before x y zs e h.1)
 
-  turned_above : (x y : X) → R x y ≡ Greater → is_gt (R y x) ≡ false
-  turned_above x y e = ap is_gt (total.antisymm y x ∙ ap ordering_reverse e)
+  reversed_above : (x y : X) → R x y ≡ Greater → is_gt (R y x) ≡ false
+  reversed_above x y e = ap is_gt (total.antisymm y x ∙ ap ordering_reverse e)
 
   put_rises : (x : X) (xs : List X) → Rising R xs → Rising R (put_in_order R x xs)
   put_rises x [] up = (tt, tt)
   put_rises x (y ∷ ys) up =
       let before : is_gt (R x y) ≡ false → Rising R (x ∷ y ∷ ys) = λ e. ((e, none_below_before x y ys e up.0), up) in
       let onward : R x y ≡ Greater → Rising R (y ∷ put_in_order R x ys) = λ e.
-      (all_put R (λ z. is_gt (R y z) ≡ false) x ys (turned_above x y e) up.0, put_rises x ys up.1) in
+      (all_put R (λ z. is_gt (R y z) ≡ false) x ys (reversed_above x y e) up.0, put_rises x ys up.1) in
       let at : (o : Ordering) → R x y ≡ o → Rising R (match_ordering o (x ∷ y ∷ ys) (x ∷ y ∷ ys) (y ∷ put_in_order R x ys)) =
       λ o. elim o as (λ o. R x y ≡ o → Rising R (match_ordering o (x ∷ y ∷ ys) (x ∷ y ∷ ys) (y ∷ put_in_order R x ys)))
       [ Less ↦ λ e. before (ap is_gt e) | Equal ↦ λ e. before (ap is_gt e) | Greater ↦ λ e. onward e ] in

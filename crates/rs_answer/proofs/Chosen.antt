@@ -1,4 +1,4 @@
--- The values at a place of rows, one row more: their sum, the least and the greatest.
+-- The values of a column over rows, one row more: their sum, the least and the greatest.
 use Rattle.std.proofs.Common.{◌≡◌, ℕ, ◌+◌, ◌<◌, List, [], ◌∷◌, ◌++◌, length, append-nil, take, get_or, Option, Some, None, refl, sym, ap, ◌∙◌, fold, slice_get, arith, ◌+ℤ◌}
 use Rattle.std.specs.List.{cons_option}
 use Rattle.std.proofs.lemmas.List.{take_more}
@@ -9,11 +9,11 @@ use Rattle.rs_base.specs.declared.value.Value.{Value}
 use Rattle.rs_answer.specs.Best.{better_of}
 use Rattle.rs_answer.specs.Items.{values_at, sum_of, least_of, greatest_of, lesser, greater}
 
-pub values_more : (place : ℕ) (rows : List (List Value)) (i : ℕ) (row : List Value) → i < length rows → row ≡ get_or rows i row
-    → values_at place (take (i + 1) rows) ≡ values_at place (take i rows) ++ values_at place (row ∷ [])
-values_more place rows i row within is =
-    ap (values_at place) (take_more rows i row within ∙ ap (λ r. take i rows ++ r ∷ []) (sym is))
-    ∙ filter_map-append (λ r. slice_get r place) (take i rows) (row ∷ [])
+pub values_more : (column_index : ℕ) (rows : List (List Value)) (i : ℕ) (row : List Value) → i < length rows → row ≡ get_or rows i row
+    → values_at column_index (take (i + 1) rows) ≡ values_at column_index (take i rows) ++ values_at column_index (row ∷ [])
+values_more column_index rows i row within is =
+    ap (values_at column_index) (take_more rows i row within ∙ ap (λ r. take i rows ++ r ∷ []) (sym is))
+    ∙ filter_map-append (λ r. slice_get r column_index) (take i rows) (row ∷ [])
 
 -- ---- the sum
 
@@ -41,20 +41,20 @@ greatest_is : (vs : List Value) → greatest_of vs ≡ best_of greater vs
 greatest_is [] = refl
 greatest_is (v ∷ vs) = refl
 
-pub least_more : (place : ℕ) (rows : List (List Value)) (i : ℕ) (row : List Value) → i < length rows → row ≡ get_or rows i row
-    → least_of (values_at place (take (i + 1) rows)) ≡ better_of lesser (least_of (values_at place (take i rows))) (slice_get row place)
-least_more place rows i row within is =
-    let before = values_at place (take i rows) in
-    ap least_of (values_more place rows i row within is)
-    ∙ least_is (before ++ values_at place (row ∷ []))
-    ∙ best_push lesser before (slice_get row place)
-    ∙ ap (λ best. better_of lesser best (slice_get row place)) (sym (least_is before))
+pub least_more : (column_index : ℕ) (rows : List (List Value)) (i : ℕ) (row : List Value) → i < length rows → row ≡ get_or rows i row
+    → least_of (values_at column_index (take (i + 1) rows)) ≡ better_of lesser (least_of (values_at column_index (take i rows))) (slice_get row column_index)
+least_more column_index rows i row within is =
+    let before = values_at column_index (take i rows) in
+    ap least_of (values_more column_index rows i row within is)
+    ∙ least_is (before ++ values_at column_index (row ∷ []))
+    ∙ best_push lesser before (slice_get row column_index)
+    ∙ ap (λ best. better_of lesser best (slice_get row column_index)) (sym (least_is before))
 
-pub greatest_more : (place : ℕ) (rows : List (List Value)) (i : ℕ) (row : List Value) → i < length rows → row ≡ get_or rows i row
-    → greatest_of (values_at place (take (i + 1) rows)) ≡ better_of greater (greatest_of (values_at place (take i rows))) (slice_get row place)
-greatest_more place rows i row within is =
-    let before = values_at place (take i rows) in
-    ap greatest_of (values_more place rows i row within is)
-    ∙ greatest_is (before ++ values_at place (row ∷ []))
-    ∙ best_push greater before (slice_get row place)
-    ∙ ap (λ best. better_of greater best (slice_get row place)) (sym (greatest_is before))
+pub greatest_more : (column_index : ℕ) (rows : List (List Value)) (i : ℕ) (row : List Value) → i < length rows → row ≡ get_or rows i row
+    → greatest_of (values_at column_index (take (i + 1) rows)) ≡ better_of greater (greatest_of (values_at column_index (take i rows))) (slice_get row column_index)
+greatest_more column_index rows i row within is =
+    let before = values_at column_index (take i rows) in
+    ap greatest_of (values_more column_index rows i row within is)
+    ∙ greatest_is (before ++ values_at column_index (row ∷ []))
+    ∙ best_push greater before (slice_get row column_index)
+    ∙ ap (λ best. better_of greater best (slice_get row column_index)) (sym (greatest_is before))

@@ -1,4 +1,4 @@
--- How often an element is in a list, by a test of equality: after a filter, after `once`, and in lists in order.
+-- The number of times that an element is in a list, by a test of equality: after a filter, after `once`, and in sorted lists.
 use Rattle.std.proofs.Common.{◌≡◌, ℕ, ◌+◌, ◌<◌, min, List, [], ◌∷◌, ◌++◌, Bool, true, false, not, cond, Ordering, Less, Equal, Greater, refl, sym, ap, ◌∙◌, subst, arith, ⊎_elim}
 use Rattle.std.specs.Cmp.{IsTotalOrder}
 use Rattle.std.specs.List.{sum_by, filter, dedup, dedup_from, AllByRecursion}
@@ -68,18 +68,18 @@ same_truth true c f g = sym (f refl)
 same_truth false true f g = g refl
 same_truth false false f g = refl
 
--- two tests of equality agree, also where the one has its arguments turned
+-- two tests of equality agree, also if the one has its arguments reversed
 pub tests_agree : {X : Type 0} (same alike : X → X → Bool) → Decides same → Decides alike → (x y : X) → same x y ≡ alike x y
 tests_agree {X} same alike is also x y =
     same_truth (same x y) (alike x y)
     (λ e. ap (alike x) (sym (is.exact x y e)) ∙ also.itself x)
     (λ e. ap (same x) (sym (also.exact x y e)) ∙ is.itself x)
 
-turned_decides : {X : Type 0} (same : X → X → Bool) → Decides same → Decides (λ x y. same y x)
-turned_decides same is = record { itself = is.itself; exact = λ x y e. sym (is.exact y x e) }
+reversed_decides : {X : Type 0} (same : X → X → Bool) → Decides same → Decides (λ x y. same y x)
+reversed_decides same is = record { itself = is.itself; exact = λ x y e. sym (is.exact y x e) }
 
 pub test_turns : {X : Type 0} (same : X → X → Bool) → Decides same → (x y : X) → same x y ≡ same y x
-test_turns same is x y = tests_agree same (λ x y. same y x) is (turned_decides same is) x y
+test_turns same is x y = tests_agree same (λ x y. same y x) is (reversed_decides same is) x y
 
 -- ---- after a filter
 
@@ -119,8 +119,8 @@ module _ {X : Type 0} (same : X → X → Bool) (is : Decides same) where
   times_once z (x ∷ xs) =
       let kept : times same z (filter (λ other. not (same x other)) (once same xs)) ≡ cond (not (same x z)) (times same z (once same xs)) 0
       = times_filter (λ other. not (same x other)) z (once same xs) in
-      let turned : same x z ≡ same z x = test_turns same is x z in
-      let here : cond (not (same x z)) (times same z (once same xs)) 0 ≡ cond (not (same z x)) (times same z (once same xs)) 0 = ap (λ b. cond (not b) (times same z (once same xs)) 0) turned in
+      let reversed : same x z ≡ same z x = test_turns same is x z in
+      let here : cond (not (same x z)) (times same z (once same xs)) 0 ≡ cond (not (same z x)) (times same z (once same xs)) 0 = ap (λ b. cond (not b) (times same z (once same xs)) 0) reversed in
       ap (λ n. one_like same z x + n) (kept ∙ here) ∙ once_step (same z x) (times same z xs) (times same z (once same xs)) (times_once z xs)
 
 pub all_filter : {X : Type 0} (P : X → Type 0) (p : X → Bool) (xs : List X) → AllByRecursion P xs → AllByRecursion P (filter p xs)
@@ -178,13 +178,13 @@ module _ {X : Type 0} {R : X → X → Ordering} (total : IsTotalOrder R) (exact
       IsPermutation-trans xs (sorted_by R xs) ys (sorted_by_permutes R xs)
       (subst (λ zs. IsPermutation zs ys) (sym (sorted_by_same xs ys h)) (IsPermutation-sym ys (sorted_by R ys) (sorted_by_permutes R ys)))
 
-  -- lists of the same elements, each as often, have the same elements once
+  -- lists of the same elements, each as often, have the same distinct elements
   pub once_permutes : (xs ys : List X) → IsPermutation xs ys → IsPermutation (once same xs) (once same ys)
   once_permutes xs ys same-items =
       permutation_from_counts (once same xs) (once same ys)
       (λ z. times_once same is z xs ∙ ap (min 1) (sym (times_permuted same z xs ys same-items)) ∙ sym (times_once same is z ys))
 
-  -- what stands behind x is not k, where x is above k
+  -- what follows x is not k, if x is above k
   pub others_after : {Y : Type 0} (key : Y → X) (k x : X) (ys : List Y) → is_gt (R k x) ≡ false → same k x ≡ false
       → AllByRecursion (λ y. is_gt (R x (key y)) ≡ false) ys → AllByRecursion (λ y. same k (key y) ≡ false) ys
   others_after key k x [] up differs all = tt
@@ -236,7 +236,7 @@ module _ {X : Type 0} {R : X → X → Ordering} (total : IsTotalOrder R) (exact
   times_dedup_whole z [] up = refl
   times_dedup_whole z (x ∷ xs) up = times_dedup z x xs up.0 up.1
 
-  -- of a list in order `dedup` leaves what is there once, in order
+  -- `dedup` of a sorted list leaves its distinct elements, sorted
   pub dedup_sorted : (xs : List X) → dedup same (sorted_by R xs) ≡ sorted_by R (once same xs)
   dedup_sorted xs =
       same_from_counts (dedup same (sorted_by R xs)) (sorted_by R (once same xs)) (dedup_rises_whole (sorted_by R xs) (sorted_by_rises total xs)) (sorted_by_rises total (once same xs))

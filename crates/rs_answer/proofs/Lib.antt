@@ -3,7 +3,7 @@ pub mod Apart
 pub mod Arranged
 pub mod Chosen
 pub mod Counted
-pub mod CountedAlone
+pub mod CountOnly
 pub mod Fitting
 pub mod ItemLawful
 pub mod Lawful

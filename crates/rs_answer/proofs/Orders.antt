@@ -14,7 +14,7 @@ use Rattle.rs_ast.specs.declared.shape.ShapeKey.{ShapeKey}
 use Rattle.rs_answer.specs.Groups.{group_cmp}
 use Rattle.rs_answer.specs.Sorting.{key_cmp, answer_cmp}
 
--- a chain of two answers is a tie only where both are
+-- a chain of two answers is a tie exactly if both are
 both_tie : (o p : Ordering) → ordering_then o p ≡ Equal → (o ≡ Equal) × (p ≡ Equal)
 both_tie Less p h = cc
 both_tie Equal p h = (refl, h)
@@ -35,23 +35,23 @@ options_exact h None (Some y) e = cc
 options_exact h (Some x) None e = cc
 options_exact h (Some x) (Some y) e = ap Some (h x y e)
 
--- ---- an order turned
+---- an order reversed
 
-turned_tie : (o : Ordering) → ordering_reverse o ≡ Equal → o ≡ Equal
-turned_tie Less h = cc
-turned_tie Equal h = refl
-turned_tie Greater h = cc
+reversed_tie : (o : Ordering) → ordering_reverse o ≡ Equal → o ≡ Equal
+reversed_tie Less h = cc
+reversed_tie Equal h = refl
+reversed_tie Greater h = cc
 
-turned_total : {K : Type 0} {R : K → K → Ordering} → IsTotalOrder R → IsTotalOrder (λ x y. ordering_reverse (R x y))
-turned_total o = record {
+reversed_total : {K : Type 0} {R : K → K → Ordering} → IsTotalOrder R → IsTotalOrder (λ x y. ordering_reverse (R x y))
+reversed_total o = record {
   antisymm = λ x y. ap ordering_reverse (o.antisymm x y);
   trans = λ x y z p q. sym (o.antisymm z x) ∙ o.trans z y x (o.antisymm z y ∙ q) (o.antisymm y x ∙ p);
-  congr = λ x y z p. ap ordering_reverse (o.congr x y z (turned_tie _ p));
+  congr = λ x y z p. ap ordering_reverse (o.congr x y z (reversed_tie _ p));
 }
 
-maybe_turned_total : {K : Type 0} {R : K → K → Ordering} (turns : Bool) → IsTotalOrder R → IsTotalOrder (λ x y. if turns then ordering_reverse (R x y) else R x y)
-maybe_turned_total true o = turned_total o
-maybe_turned_total false o = o
+maybe_reversed_total : {K : Type 0} {R : K → K → Ordering} (turns : Bool) → IsTotalOrder R → IsTotalOrder (λ x y. if turns then ordering_reverse (R x y) else R x y)
+maybe_reversed_total true o = reversed_total o
+maybe_reversed_total false o = o
 
 -- ---- values and rows
 
@@ -104,7 +104,7 @@ group_exact = lists_exact (options_exact value_exact)
 -- ---- answers
 
 key_total : (key : ShapeKey) → IsTotalOrder (key_cmp key)
-key_total key = maybe_turned_total key.desc (on_total (λ (row : List Value). slice_get row key.item) (options_total value_total))
+key_total key = maybe_reversed_total key.desc (on_total (λ (row : List Value). slice_get row key.item) (options_total value_total))
 
 pub answer_total : (keys : List ShapeKey) → IsTotalOrder (answer_cmp keys)
 answer_total [] = row_total

@@ -1,4 +1,4 @@
--- Rows that a stable sort has put in order of their groups' values are in the same groups, and these give the same rows.
+-- A stable sort by the group's values leaves the groups, and these give the same rows.
 use Rattle.std.proofs.Common.{◌≡◌, ◌≢◌, ℕ, ◌+◌, List, [], ◌∷◌, Bool, true, not, ◌&&◌, map, Option, Some, None, Ordering, Less, Equal, Greater, Result, Ok, Err, refl, sym, ap, ◌∙◌, subst, arith, is_lt}
 use Rattle.std.specs.List.{filter_map, cons_option, sum_by, AllByRecursion}
 use Rattle.std.specs.List.Sorted.{IsPermutation, IsStableByKey, ties}
@@ -31,35 +31,35 @@ pub all_from_every : {X : Type 0} (P : X → Type 0) → ((x : X) → P x) → (
 all_from_every P every [] = tt
 all_from_every P every (x ∷ xs) = (every x, all_from_every P every xs)
 
-module _ (places : List ℕ) (rows sorted : List (List Value)) (stable : IsStableByKey (group_values places) group_cmp rows sorted) where
+module _ (column_indexes : List ℕ) (rows sorted : List (List Value)) (stable : IsStableByKey (group_values column_indexes) group_cmp rows sorted) where
   below : List Value → List Value → Bool
-  below one other = is_lt (group_cmp (group_values places one) (group_values places other))
+  below one other = is_lt (group_cmp (group_values column_indexes one) (group_values column_indexes other))
 
-  tied : (row other : List Value) → ties below row other ≡ same_group (group_values places row) (group_values places other)
+  tied : (row other : List Value) → ties below row other ≡ same_group (group_values column_indexes row) (group_values column_indexes other)
   unfolding below
   tied row other =
-      let k = group_values places row in
-      let l = group_values places other in
+      let k = group_values column_indexes row in
+      let l = group_values column_indexes other in
       ap (λ o. not (is_lt (group_cmp k l)) && not (is_lt o)) (group_total.antisymm l k) ∙ tie_test (group_cmp k l)
 
-  members_stay : (row : List Value) → members_of places sorted (group_values places row) ≡ members_of places rows (group_values places row)
+  members_stay : (row : List Value) → members_of column_indexes sorted (group_values column_indexes row) ≡ members_of column_indexes rows (group_values column_indexes row)
   unfolding below
   members_stay row =
-      let alike : List Value → Bool = λ other. same_group (group_values places row) (group_values places other) in
+      let alike : List Value → Bool = λ other. same_group (group_values column_indexes row) (group_values column_indexes other) in
       sym (filter_agree (ties below row) alike (tied row) sorted) ∙ stable row ∙ filter_agree (ties below row) alike (tied row) rows
 
-  groups_stay : IsPermutation rows sorted → IsPermutation (grouped_by places rows) (grouped_by places sorted)
+  groups_stay : IsPermutation rows sorted → IsPermutation (grouped_by column_indexes rows) (grouped_by column_indexes sorted)
   groups_stay same =
-      let now = once same_group (map (group_values places) sorted) in
-      let agree : map (members_of places sorted) now ≡ map (members_of places rows) now
-      = map_agree (members_of places sorted) (members_of places rows) now
-      (all_once same_group _ (map (group_values places) sorted)
-      (all_map (λ v. members_of places sorted v ≡ members_of places rows v) (group_values places) sorted
-      (all_from_every (λ row. members_of places sorted (group_values places row) ≡ members_of places rows (group_values places row)) members_stay sorted))) in
-      let values : IsPermutation (once same_group (map (group_values places) rows)) now
-      = once_permutes group_total group_exact same_group group_decides (map (group_values places) rows) (map (group_values places) sorted) (IsPermutation-map (group_values places) rows sorted same) in
-      subst (λ groups. IsPermutation (grouped_by places rows) groups) (sym agree)
-      (IsPermutation-map (members_of places rows) (once same_group (map (group_values places) rows)) now values)
+      let now = once same_group (map (group_values column_indexes) sorted) in
+      let agree : map (members_of column_indexes sorted) now ≡ map (members_of column_indexes rows) now
+      = map_agree (members_of column_indexes sorted) (members_of column_indexes rows) now
+      (all_once same_group _ (map (group_values column_indexes) sorted)
+      (all_map (λ v. members_of column_indexes sorted v ≡ members_of column_indexes rows v) (group_values column_indexes) sorted
+      (all_from_every (λ row. members_of column_indexes sorted (group_values column_indexes row) ≡ members_of column_indexes rows (group_values column_indexes row)) members_stay sorted))) in
+      let values : IsPermutation (once same_group (map (group_values column_indexes) rows)) now
+      = once_permutes group_total group_exact same_group group_decides (map (group_values column_indexes) rows) (map (group_values column_indexes) sorted) (IsPermutation-map (group_values column_indexes) rows sorted same) in
+      subst (λ groups. IsPermutation (grouped_by column_indexes rows) groups) (sym agree)
+      (IsPermutation-map (members_of column_indexes rows) (once same_group (map (group_values column_indexes) rows)) now values)
 
 -- ---- the groups in another order give the same rows
 
@@ -109,17 +109,17 @@ permutes_to_itself xs ys e = subst (λ zs. IsPermutation xs zs) e (IsPermutation
 pub one_group : (shape : Shape) (joined rows : List (List Value)) → shape.grouped ≡ true → shape.group ≡ [] → rows ≡ joined → IsPermutation (groups_of shape joined) (rows ∷ [])
 one_group shape joined rows e none same =
     permutes_to_itself _ _
-    (cond-true shape.grouped (groups_by shape.group joined) (map (λ row. row ∷ []) joined) e ∙ ap (λ places. groups_by places joined) none ∙ ap (λ rows. rows ∷ []) (sym same))
+    (cond-true shape.grouped (groups_by shape.group joined) (map (λ row. row ∷ []) joined) e ∙ ap (λ column_indexes. groups_by column_indexes joined) none ∙ ap (λ rows. rows ∷ []) (sym same))
 
-pub by_places : (places : List ℕ) (rows : List (List Value)) → places ≢ [] → groups_by places rows ≡ grouped_by places rows
-by_places [] rows some = absurd (some refl)
-by_places (place ∷ places) rows some = refl
+pub by_column_indexes : (column_indexes : List ℕ) (rows : List (List Value)) → column_indexes ≢ [] → groups_by column_indexes rows ≡ grouped_by column_indexes rows
+by_column_indexes [] rows some = absurd (some refl)
+by_column_indexes (column_index ∷ column_indexes) rows some = refl
 
-pub run_groups : (shape : Shape) (joined sorted rows : List (List Value)) (places : List ℕ) → shape.grouped ≡ true → shape.group ≢ [] → IsPermutation joined sorted
-    → IsStableByKey (group_values shape.group) group_cmp joined sorted → rows ≡ sorted → places ≡ shape.group → IsPermutation (groups_of shape joined) (grouped_by places rows)
-run_groups shape joined sorted rows places e some same stable e_rows e_places =
+pub run_groups : (shape : Shape) (joined sorted rows : List (List Value)) (column_indexes : List ℕ) → shape.grouped ≡ true → shape.group ≢ [] → IsPermutation joined sorted
+    → IsStableByKey (group_values shape.group) group_cmp joined sorted → rows ≡ sorted → column_indexes ≡ shape.group → IsPermutation (groups_of shape joined) (grouped_by column_indexes rows)
+run_groups shape joined sorted rows column_indexes e some same stable e_rows e_indexes =
     let at : groups_of shape joined ≡ grouped_by shape.group joined
-    = cond-true shape.grouped (groups_by shape.group joined) (map (λ row. row ∷ []) joined) e ∙ by_places shape.group joined some in
-    let now : grouped_by shape.group sorted ≡ grouped_by places rows = ap (grouped_by shape.group) (sym e_rows) ∙ ap (λ places. grouped_by places rows) (sym e_places) in
+    = cond-true shape.grouped (groups_by shape.group joined) (map (λ row. row ∷ []) joined) e ∙ by_column_indexes shape.group joined some in
+    let now : grouped_by shape.group sorted ≡ grouped_by column_indexes rows = ap (grouped_by shape.group) (sym e_rows) ∙ ap (λ column_indexes. grouped_by column_indexes rows) (sym e_indexes) in
     subst (λ groups. IsPermutation (groups_of shape joined) groups) now
     (subst (λ groups. IsPermutation groups (grouped_by shape.group sorted)) (sym at) (groups_stay shape.group joined sorted stable same))

@@ -10,18 +10,18 @@ use Rattle.rs_answer.specs.Items.{all_of}
 pushed : {A : Type 0} → Option (List A) → Option A → Option (List A)
 pushed before found = option_and_then (λ vs. option_map (λ v. vs ++ v ∷ []) found) before
 
-pushed_behind : {A : Type 0} (v : A) (before : Option (List A)) (found : Option A) → option_map (λ more. v ∷ more) (pushed before found) ≡ pushed (option_map (λ more. v ∷ more) before) found
+pushed_after : {A : Type 0} (v : A) (before : Option (List A)) (found : Option A) → option_map (λ more. v ∷ more) (pushed before found) ≡ pushed (option_map (λ more. v ∷ more) before) found
 unfolding pushed
-pushed_behind v None found = refl
-pushed_behind v (Some vs) None = refl
-pushed_behind v (Some vs) (Some w) = refl
+pushed_after v None found = refl
+pushed_after v (Some vs) None = refl
+pushed_after v (Some vs) (Some w) = refl
 
 all_of_push : {A : Type 0} (os : List (Option A)) (found : Option A) → all_of (os ++ found ∷ []) ≡ pushed (all_of os) found
 unfolding pushed
 all_of_push [] None = refl
 all_of_push [] (Some v) = refl
 all_of_push (None ∷ os) found = refl
-all_of_push (Some v ∷ os) found = ap (option_map (λ more. v ∷ more)) (all_of_push os found) ∙ pushed_behind v (all_of os) found
+all_of_push (Some v ∷ os) found = ap (option_map (λ more. v ∷ more)) (all_of_push os found) ∙ pushed_after v (all_of os) found
 
 module _ {X A : Type 0} (f : X → Option A) (xs : List X) (i : ℕ) (d x : X) (within : i < length xs) (is : x ≡ get_or xs i d) where
   all_of_more : all_of (map f (take (i + 1) xs)) ≡ pushed (all_of (map f (take i xs))) (f x)

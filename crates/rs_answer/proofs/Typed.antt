@@ -1,4 +1,4 @@
--- The kinds of what rows answer, from those of the joined rows.
+-- The kinds of answered values, from those of the joined rows.
 use Rattle.std.proofs.Common.{◌≡◌, ℕ, List, [], ◌∷◌, Bool, true, false, cond, Option, Some, None, length, pos, map, fold, slice_get, refl, sym, ap, ap₂, ◌∙◌, subst, ⊎_elim}
 use Rattle.std.specs.List.{AllByRecursion, cons_option}
 use Rattle.std.specs.Option.{option_map, option_and_then}
@@ -34,58 +34,58 @@ both_found (Some value) None row e = absurd cc
 both_found (Some value) (Some others) row e = (value, others, refl, refl, cc)
 
 module _ (columns : List Kind) where
-  -- the value is of the kind of the column at this place
+  -- the value has the kind of the column at this index
   abbrev IsOfColumn : ℕ → Value → Type 0
-  IsOfColumn place value = slice_get columns place ≡ Some (kind_of value)
+  IsOfColumn column_index value = slice_get columns column_index ≡ Some (kind_of value)
 
   abbrev AreTyped : List (List Value) → Type 0
   AreTyped rows = AllByRecursion (HasKinds columns) rows
 
-  -- ---- the values at a place
+  ---- the values of a column
 
-  at_place : (row : List Value) (place : ℕ) (value : Value) → HasKinds columns row → slice_get row place ≡ Some value → IsOfColumn place value
-  at_place row place value typed found =
-      ap (λ (known : List Kind). slice_get known place) (sym typed) ∙ slice_get-map kind_of row place ∙ ap (option_map kind_of) found
+  at_column_index : (row : List Value) (column_index : ℕ) (value : Value) → HasKinds columns row → slice_get row column_index ≡ Some value → IsOfColumn column_index value
+  at_column_index row column_index value typed found =
+      ap (λ (known : List Kind). slice_get known column_index) (sym typed) ∙ slice_get-map kind_of row column_index ∙ ap (option_map kind_of) found
 
-  first_typed : (place : ℕ) (members : List (List Value)) (value : Value) → AreTyped members → first_at place members ≡ Some value → IsOfColumn place value
-  first_typed place [] value typed e = absurd cc
-  first_typed place (row ∷ members) value typed e = at_place row place value typed.0 e
+  first_typed : (column_index : ℕ) (members : List (List Value)) (value : Value) → AreTyped members → first_at column_index members ≡ Some value → IsOfColumn column_index value
+  first_typed column_index [] value typed e = absurd cc
+  first_typed column_index (row ∷ members) value typed e = at_column_index row column_index value typed.0 e
 
-  values_typed : (place : ℕ) (members : List (List Value)) → AreTyped members → AllByRecursion (IsOfColumn place) (values_at place members)
-  values_typed place [] typed = tt
-  values_typed place (row ∷ members) typed =
-      put_found (IsOfColumn place) (slice_get row place) (values_at place members) (λ value found. at_place row place value typed.0 found) (values_typed place members typed.1)
+  values_typed : (column_index : ℕ) (members : List (List Value)) → AreTyped members → AllByRecursion (IsOfColumn column_index) (values_at column_index members)
+  values_typed column_index [] typed = tt
+  values_typed column_index (row ∷ members) typed =
+      put_found (IsOfColumn column_index) (slice_get row column_index) (values_at column_index members) (λ value found. at_column_index row column_index value typed.0 found) (values_typed column_index members typed.1)
 
-  module _ (place : ℕ) where
+  module _ (column_index : ℕ) where
     -- one chosen of values is of their kind
     best_typed : (better : Value → Value → Value) → ((one other : Value) → (better one other ≡ one) ⊎ (better one other ≡ other)) → (first : Value) (given : List Value)
-        → IsOfColumn place first → AllByRecursion (IsOfColumn place) given → IsOfColumn place (fold better first given)
+        → IsOfColumn column_index first → AllByRecursion (IsOfColumn column_index) given → IsOfColumn column_index (fold better first given)
     best_typed better chosen first [] here all = here
     best_typed better chosen first (other ∷ given) here all =
-        let next : IsOfColumn place (better first other)
-        = ⊎_elim (λ e. subst (IsOfColumn place) (sym e) here) (λ e. subst (IsOfColumn place) (sym e) all.0) (chosen first other) in
+        let next : IsOfColumn column_index (better first other)
+        = ⊎_elim (λ e. subst (IsOfColumn column_index) (sym e) here) (λ e. subst (IsOfColumn column_index) (sym e) all.0) (chosen first other) in
         best_typed better chosen (better first other) given next all.1
 
-    least_typed : (given : List Value) (least : Value) → AllByRecursion (IsOfColumn place) given → least_of given ≡ Some least → IsOfColumn place least
+    least_typed : (given : List Value) (least : Value) → AllByRecursion (IsOfColumn column_index) given → least_of given ≡ Some least → IsOfColumn column_index least
     least_typed [] least all e = absurd cc
     least_typed (value ∷ given) least all e =
-        let is : fold lesser value given ≡ least = cc in subst (IsOfColumn place) is (best_typed lesser lesser_chosen value given all.0 all.1)
+        let is : fold lesser value given ≡ least = cc in subst (IsOfColumn column_index) is (best_typed lesser lesser_chosen value given all.0 all.1)
 
-    greatest_typed : (given : List Value) (greatest : Value) → AllByRecursion (IsOfColumn place) given → greatest_of given ≡ Some greatest → IsOfColumn place greatest
+    greatest_typed : (given : List Value) (greatest : Value) → AllByRecursion (IsOfColumn column_index) given → greatest_of given ≡ Some greatest → IsOfColumn column_index greatest
     greatest_typed [] greatest all e = absurd cc
     greatest_typed (value ∷ given) greatest all e =
-        let is : fold greater value given ≡ greatest = cc in subst (IsOfColumn place) is (best_typed greater greater_chosen value given all.0 all.1)
+        let is : fold greater value given ≡ greatest = cc in subst (IsOfColumn column_index) is (best_typed greater greater_chosen value given all.0 all.1)
 
   -- ---- items
 
   item_typed : (members : List (List Value)) (item : ShapeItem) (value : Value) → AreTyped members → item_value members item ≡ Some value → item_kind columns item ≡ Some (kind_of value)
-  item_typed members (items.Col place) value typed e = first_typed place members value typed e
+  item_typed members (items.Col column_index) value typed e = first_typed column_index members value typed e
   item_typed members items.Count value typed e =
       let is : values.Int (pos (length members)) ≡ value = cc in ap (λ (v : Value). Some (kind_of v)) is
-  item_typed members (items.Sum place) value typed e =
-      let is : values.Int (sum_of (values_at place members)) ≡ value = cc in ap (λ (v : Value). Some (kind_of v)) is
-  item_typed members (items.Min place) value typed e = least_typed place (values_at place members) value (values_typed place members typed) e
-  item_typed members (items.Max place) value typed e = greatest_typed place (values_at place members) value (values_typed place members typed) e
+  item_typed members (items.Sum column_index) value typed e =
+      let is : values.Int (sum_of (values_at column_index members)) ≡ value = cc in ap (λ (v : Value). Some (kind_of v)) is
+  item_typed members (items.Min column_index) value typed e = least_typed column_index (values_at column_index members) value (values_typed column_index members typed) e
+  item_typed members (items.Max column_index) value typed e = greatest_typed column_index (values_at column_index members) value (values_typed column_index members typed) e
 
   row_typed : (listed : List ShapeItem) (members : List (List Value)) (known : List Kind) (row : List Value) → AreTyped members
       → AreKindsOf (map (item_kind columns) listed) known → row_of listed members ≡ Some row → HasKinds known row
@@ -114,19 +114,19 @@ module _ (columns : List Kind) where
   alone_typed [] typed = tt
   alone_typed (row ∷ rows) typed = ((typed.0, tt), alone_typed rows typed.1)
 
-  members_typed : (places : List ℕ) (rows : List (List Value)) (given : List (List (Option Value))) → AreTyped rows → AllByRecursion AreTyped (map (members_of places rows) given)
-  members_typed places rows [] typed = tt
-  members_typed places rows (values ∷ given) typed =
-      (all_filter (HasKinds columns) (λ (row : List Value). same_group values (group_values places row)) rows typed, members_typed places rows given typed)
+  members_typed : (column_indexes : List ℕ) (rows : List (List Value)) (given : List (List (Option Value))) → AreTyped rows → AllByRecursion AreTyped (map (members_of column_indexes rows) given)
+  members_typed column_indexes rows [] typed = tt
+  members_typed column_indexes rows (values ∷ given) typed =
+      (all_filter (HasKinds columns) (λ (row : List Value). same_group values (group_values column_indexes row)) rows typed, members_typed column_indexes rows given typed)
 
-  by_typed : (places : List ℕ) (rows : List (List Value)) → AreTyped rows → AllByRecursion AreTyped (groups_by places rows)
+  by_typed : (column_indexes : List ℕ) (rows : List (List Value)) → AreTyped rows → AllByRecursion AreTyped (groups_by column_indexes rows)
   by_typed [] rows typed = (typed, tt)
-  by_typed (place ∷ places) rows typed = members_typed (place ∷ places) rows (once same_group (map (group_values (place ∷ places)) rows)) typed
+  by_typed (column_index ∷ column_indexes) rows typed = members_typed (column_index ∷ column_indexes) rows (once same_group (map (group_values (column_index ∷ column_indexes)) rows)) typed
 
-  groups_typed : (grouped : Bool) (places : List ℕ) (rows : List (List Value)) → AreTyped rows
-      → AllByRecursion AreTyped (cond grouped (groups_by places rows) (map (λ (row : List Value). row ∷ []) rows))
-  groups_typed true places rows typed = by_typed places rows typed
-  groups_typed false places rows typed = alone_typed rows typed
+  groups_typed : (grouped : Bool) (column_indexes : List ℕ) (rows : List (List Value)) → AreTyped rows
+      → AllByRecursion AreTyped (cond grouped (groups_by column_indexes rows) (map (λ (row : List Value). row ∷ []) rows))
+  groups_typed true column_indexes rows typed = by_typed column_indexes rows typed
+  groups_typed false column_indexes rows typed = alone_typed rows typed
 
 -- ---- the answer
 

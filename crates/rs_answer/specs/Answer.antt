@@ -18,7 +18,7 @@ same_row one other = is_eq (row_cmp one other)
 abbrev pub shown : Shape → List (List Value) → List (List Value)
 shown shape joined = filter_map (row_of shape.items) (groups_of shape joined)
 
--- the rows of a query: with DISTINCT each is kept once
+-- the rows of a query: distinct ones with DISTINCT
 abbrev pub query_rows : Shape → List (List Value) → List (List Value)
 query_rows shape joined = if shape.distinct then once same_row (shown shape joined) else shown shape joined
 

@@ -1,8 +1,8 @@
--- The better of values that may be there.
+-- The better of two optional values.
 use Rattle.std.specs.Prelude.{Option, Some, None}
 use Rattle.rs_base.specs.declared.value.Value.{Value}
 
--- of two values the one that is chosen, where both are there
+-- the chosen one of two values, if both are there
 abbrev pub better_of : (Value → Value → Value) → Option Value → Option Value → Option Value
 better_of better None found = found
 better_of better (Some best) None = Some best

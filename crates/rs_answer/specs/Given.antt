@@ -1,4 +1,4 @@
--- What groups give, where each of their sums is an integer of 64 bits.
+-- The rows of groups, if each of their sums is an integer of 64 bits.
 use Rattle.std.specs.Prelude.{◌≡◌, true, false, Bool, List, filter_map, Result, Ok, Err}
 use Rattle.std.specs.List.{list_any}
 use Rattle.rs_base.specs.declared.value.Value.{Value}
@@ -11,7 +11,7 @@ use Rattle.rs_answer.specs.Items.{row_of, item_overflows}
 abbrev pub group_overflows : List ShapeItem → List (List Value) → Bool
 group_overflows items members = list_any (item_overflows members) items
 
--- the same over one of the groups
+-- the same for one of the groups
 abbrev pub any_overflows : List ShapeItem → List (List (List Value)) → Bool
 any_overflows items groups = list_any (group_overflows items) groups
 
@@ -19,7 +19,7 @@ any_overflows items groups = list_any (group_overflows items) groups
 abbrev pub rows_of : List ShapeItem → List (List (List Value)) → List (List Value)
 rows_of items groups = filter_map (row_of items) groups
 
--- A result has the fact where no sum overflows, and is Overflow only where one does; memory may want at any time.
+-- A result has the fact if no sum overflows, and is Overflow only if one does; out of memory may come at any time.
 abbrev pub Gives : {T : Type 0} → Bool → (T → Type 0) → Result T AnswerFault → Type 0
 Gives overflows fact (Ok given) = (overflows ≡ false) × fact given
 Gives overflows fact (Err faults.Overflow) = overflows ≡ true

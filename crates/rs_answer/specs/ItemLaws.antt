@@ -1,4 +1,4 @@
--- What holds of what groups answer.
+-- Laws of aggregates.
 use Rattle.std.specs.Prelude.{◌≡◌, false, List, Some, All, Contains}
 use Rattle.std.specs.List.Sorted.{IsPermutation}
 use Rattle.std.specs.Ordering.{is_gt}

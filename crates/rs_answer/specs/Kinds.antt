@@ -1,4 +1,4 @@
--- The kinds of what rows answer.
+-- The kinds of answered values.
 use Rattle.std.specs.Prelude.{◌≡◌, List, map, Option, Some, slice_get}
 use Rattle.rs_base.specs.declared.value.Kind.{Kind}
 use Rattle.rs_base.specs.declared.value.Kind.TheVariants as kinds
@@ -11,13 +11,13 @@ use Rattle.rs_ast.specs.declared.shape.ShapeItem.TheVariants as items
 abbrev pub HasKinds : List Kind → List Value → Type 0
 HasKinds known row = map kind_of row ≡ known
 
--- the kind of what an item answers over columns of these kinds, if its column is there
+-- the kind of an item over columns of these kinds, if its column is there
 abbrev pub item_kind : List Kind → ShapeItem → Option Kind
-item_kind columns (items.Col place) = slice_get columns place
+item_kind columns (items.Col column_index) = slice_get columns column_index
 item_kind columns items.Count = Some kinds.Int
-item_kind columns (items.Sum place) = Some kinds.Int
-item_kind columns (items.Min place) = slice_get columns place
-item_kind columns (items.Max place) = slice_get columns place
+item_kind columns (items.Sum column_index) = Some kinds.Int
+item_kind columns (items.Min column_index) = slice_get columns column_index
+item_kind columns (items.Max column_index) = slice_get columns column_index
 
 -- these are the kinds of the items
 abbrev pub AreKindsOf : List (Option Kind) → List Kind → Type 0

@@ -9,24 +9,24 @@ use Rattle.rs_ast.specs.declared.shape.ShapeKey.{ShapeKey}
 
 -- ---- sorting by any order
 
--- the item before the first one that isn't below it
+-- inserts the item before the first one that isn't below it
 abbrev pub put_in_order : {A : Type 0} → (A → A → Ordering) → A → List A → List A
 put_in_order order item [] = item ∷ []
 put_in_order order item (other ∷ items) = match_ordering (order item other) (item ∷ other ∷ items) (item ∷ other ∷ items) (other ∷ put_in_order order item items)
 
--- the same items, each as often as it was there, rising; those that tie stay as they stood
+-- the same items, each as often, rising; those that tie keep their order
 abbrev pub sorted_by : {A : Type 0} → (A → A → Ordering) → List A → List A
 sorted_by order [] = []
 sorted_by order (item ∷ items) = put_in_order order item (sorted_by order items)
 
 -- ---- the order of an answer
 
-abbrev pub turned : ShapeKey → Ordering → Ordering
-turned key order = if key.desc then ordering_reverse order else order
+abbrev pub reversed : ShapeKey → Ordering → Ordering
+reversed key order = if key.desc then ordering_reverse order else order
 
--- two rows of an answer by one key: the item that it names, rising, or falling
+-- two rows of an answer by one key: the item that it names, rising or falling
 abbrev pub key_cmp : ShapeKey → List Value → List Value → Ordering
-key_cmp key one other = turned key (option_cmp value_cmp (slice_get one key.item) (slice_get other key.item))
+key_cmp key one other = reversed key (option_cmp value_cmp (slice_get one key.item) (slice_get other key.item))
 
 -- by the keys, and then by all columns, rising
 abbrev pub answer_cmp : List ShapeKey → List Value → List Value → Ordering

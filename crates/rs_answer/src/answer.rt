@@ -19,7 +19,7 @@ fn sorted_rows(alloc: Global, shape: &Shape, joined: Rows) -> Result<Rows, Answe
     Ok(rows_in_order(shape.keys.as_slice(), shape.distinct, rows)?)
 }
 
-/// The rows of a query, sorted by its keys and then by all columns; or Overflow, where a sum isn't an integer of 64 bits.
+/// Returns the rows of a query, sorted by its keys and then by all columns; `Overflow` exactly if a sum exceeds 64 bits.
 pub fn answer_rows(
     alloc: Global,
     shape: &Shape,

@@ -3,8 +3,8 @@
 use rs_base::NoMemory;
 use std::alloc::{AllocError, AllocFailed};
 
-/// A sum isn't an integer of 64 bits, or memory was wanting.
-#[derive(Clone, Copy, Debug, PartialEq, Eq)]
+/// A sum isn't an integer of 64 bits, or an allocation failed.
+#[derive(Clone, Copy)]
 pub enum AnswerFault {
     Overflow,
     NoMemory,

@@ -1,4 +1,4 @@
-//! The groups of joined rows, and the rows that they give.
+//! The groups of joined rows, and the rows of groups.
 
 ghost use Rattle.std.specs.Prelude.{◌≡◌, [], ◌∷◌, map, IfOk};
 ghost use Rattle.std.specs.List.{prefix_len};
@@ -16,12 +16,12 @@ use std::alloc::Global;
 use std::cmp::Ordering;
 use std::slice::from_ref;
 
-/// Two rows by the values of the columns by which rows are grouped.
-fn compare_groups(places: &[u16], one: &[Value], other: &[Value]) -> Ordering
-    ensures { result ≡ group_cmp (group_values places.now one.now) (group_values places.now other.now) }
+/// Orders two rows by the values of the columns to group by.
+fn compare_groups(column_indexes: &[u16], one: &[Value], other: &[Value]) -> Ordering
+    ensures { result ≡ group_cmp (group_values column_indexes.now one.now) (group_values column_indexes.now other.now) }
 {
-    for place in places {
-        let order = compare_at(*place, one, other);
+    for column_index in column_indexes {
+        let order = compare_at(*column_index, one, other);
         if order.is_ne() {
             return order;
         }
@@ -29,13 +29,13 @@ fn compare_groups(places: &[u16], one: &[Value], other: &[Value]) -> Ordering
     Ordering::Equal
 }
 
-/// How many rows at the front are of the group of a row.
-fn run_length(places: &[u16], first: &[Value], rows: &[Row]) -> usize
-    ensures { result ≡ prefix_len (λ row. same_group (group_values places.now first.now) (group_values places.now row)) rows.now }
+/// Returns the number of first rows in the group of a row.
+fn run_length(column_indexes: &[u16], first: &[Value], rows: &[Row]) -> usize
+    ensures { result ≡ prefix_len (λ row. same_group (group_values column_indexes.now first.now) (group_values column_indexes.now row)) rows.now }
 {
     let mut length = 0;
     for row in rows {
-        if compare_groups(places, first, row.as_slice()).is_ne() {
+        if compare_groups(column_indexes, first, row.as_slice()).is_ne() {
             return length;
         }
         length += 1;
@@ -43,7 +43,7 @@ fn run_length(places: &[u16], first: &[Value], rows: &[Row]) -> usize
     length
 }
 
-/// The rows, moved.
+/// Moves the rows.
 fn into_vec(alloc: Global, mut rows: Rows) -> Result<Vec<Row>, NoMemory>
     ensures { IfOk result (λ moved. moved.items ≡ rows) }
 {
@@ -55,22 +55,22 @@ fn into_vec(alloc: Global, mut rows: Rows) -> Result<Vec<Row>, NoMemory>
     Ok(moved)
 }
 
-/// The rows of each group together, the groups in order of their values, and the rows of each as they stood.
-fn rows_by_group(alloc: Global, places: &[u16], joined: Rows) -> Result<Vec<Row>, NoMemory>
-    ensures sorted { IfOk result (λ rows. IsSortedByKey (group_values places.now) group_cmp rows.items) }
+/// Returns the rows of each group together, the groups ordered by their values, and the rows of each in their old order.
+fn rows_by_group(alloc: Global, column_indexes: &[u16], joined: Rows) -> Result<Vec<Row>, NoMemory>
+    ensures sorted { IfOk result (λ rows. IsSortedByKey (group_values column_indexes.now) group_cmp rows.items) }
     ensures same { IfOk result (λ rows. IsPermutation joined rows.items) }
-    ensures stable { IfOk result (λ rows. IsStableByKey (group_values places.now) group_cmp joined rows.items) }
+    ensures stable { IfOk result (λ rows. IsStableByKey (group_values column_indexes.now) group_cmp joined rows.items) }
 {
     let mut rows = into_vec(alloc, joined)?;
     rows.sort_by(|one: &Row, other: &Row| compare_groups(
-        places,
+        column_indexes,
         one.as_slice(),
         other.as_slice(),
     ))?;
     Ok(rows)
 }
 
-/// What each row gives as a group of its own.
+/// Returns the row of each row as a group of its own.
 fn each_alone(alloc: Global, items: &[ShapeItem], rows: &[Row]) -> Result<Vec<Row>, AnswerFault>
     ensures { Gives (any_overflows items.now (map (λ row. row ∷ []) rows.now)) (λ given. given.items ≡ rows_of items.now (map (λ row. row ∷ []) rows.now)) result }
 {
@@ -81,7 +81,7 @@ fn each_alone(alloc: Global, items: &[ShapeItem], rows: &[Row]) -> Result<Vec<Ro
     Ok(given)
 }
 
-/// What all rows give as one group.
+/// Returns the row of all rows as one group.
 fn all_together(alloc: Global, items: &[ShapeItem], rows: &[Row]) -> Result<Vec<Row>, AnswerFault>
     ensures { Gives (any_overflows items.now (rows.now ∷ [])) (λ given. given.items ≡ rows_of items.now (rows.now ∷ [])) result }
 {
@@ -90,27 +90,27 @@ fn all_together(alloc: Global, items: &[ShapeItem], rows: &[Row]) -> Result<Vec<
     Ok(given)
 }
 
-/// What the groups give, where the rows are in order of their groups' values: each run of equal ones is a group.
+/// Returns the rows of the groups, if the rows are ordered by their groups' values: each run of equal ones is a group.
 fn each_run(
     alloc: Global,
     items: &[ShapeItem],
-    places: &[u16],
+    column_indexes: &[u16],
     rows: &[Row],
 ) -> Result<Vec<Row>, AnswerFault>
-    requires { IsSortedByKey (group_values places.now) group_cmp rows.now }
-    ensures { Gives (any_overflows items.now (grouped_by places.now rows.now)) (λ given. given.items ≡ rows_of items.now (grouped_by places.now rows.now)) result }
+    requires { IsSortedByKey (group_values column_indexes.now) group_cmp rows.now }
+    ensures { Gives (any_overflows items.now (grouped_by column_indexes.now rows.now)) (λ given. given.items ≡ rows_of items.now (grouped_by column_indexes.now rows.now)) result }
 {
     let mut given = Vec::new(alloc);
     let mut rest = rows;
     while let [first, ..] = rest {
-        let (run, others) = rest.split_at(run_length(places, first.as_slice(), rest));
+        let (run, others) = rest.split_at(run_length(column_indexes, first.as_slice(), rest));
         push_group(alloc, items, run, &mut given)?;
         rest = others;
     }
     Ok(given)
 }
 
-/// The rows that a query shows, in some order.
+/// Returns the rows that a query shows, in some order.
 pub(crate) fn shown_rows(
     alloc: Global,
     shape: &Shape,

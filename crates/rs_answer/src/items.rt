@@ -1,4 +1,4 @@
-//! What a group of rows answers in each column.
+//! The row of a group, item by item.
 
 ghost use Rattle.std.specs.Prelude.{◌≡◌, [], ◌∷◌, ◌++◌, ◌&&◌, pos, length, IfOk, slice_get, cond};
 ghost use Rattle.std.specs.Option.{option_copied, option_to_list};
@@ -11,44 +11,44 @@ use rs_ast::ShapeItem;
 use rs_base::{NoMemory, Row, Value, with_room};
 use std::alloc::Global;
 
-/// The value at a place of a row, if it is there.
-fn value_at(place: u16, row: &Row) -> Option<&Value>
-    ensures { option_copied result ≡ slice_get row.now place }
+/// Returns the value at a column index, if the row has one.
+fn value_at(column_index: u16, row: &Row) -> Option<&Value>
+    ensures { option_copied result ≡ slice_get row.now column_index }
 {
-    row.get(usize::from(place))
+    row.get(usize::from(column_index))
 }
 
-fn first_at(place: u16, members: &[Row]) -> Option<&Value>
-    ensures { option_copied result ≡ spec.first_at place members.now }
+fn first_at(column_index: u16, members: &[Row]) -> Option<&Value>
+    ensures { option_copied result ≡ spec.first_at column_index members.now }
 {
     match members {
         [] => None,
-        [row, ..] => value_at(place, row),
+        [row, ..] => value_at(column_index, row),
     }
 }
 
-/// What a row adds to the sum of the integers at a place.
-fn addend(place: u16, row: &Row) -> i64
-    ensures { result ≡ spec.sum_of (spec.values_at place (row.now ∷ [])) }
+/// Returns what a row adds to the sum of a column.
+fn addend(column_index: u16, row: &Row) -> i64
+    ensures { result ≡ spec.sum_of (spec.values_at column_index (row.now ∷ [])) }
 {
-    match value_at(place, row) {
+    match value_at(column_index, row) {
         Some(Value::Int(n)) => *n,
         Some(Value::Text(_)) | None => 0,
     }
 }
 
-/// The sum of the integers at a place, as large as it is: rows in memory can't take it out of 128 bits.
-fn sum_at(place: u16, members: &[Row]) -> i128
-    ensures { result ≡ spec.sum_of (spec.values_at place members.now) }
+/// Returns the sum of a column's integers: rows in memory can't exceed 128 bits.
+fn sum_at(column_index: u16, members: &[Row]) -> i128
+    ensures { result ≡ spec.sum_of (spec.values_at column_index members.now) }
 {
     let mut sum: i128 = 0;
     for row in members {
-        sum += i128::from(addend(place, row));
+        sum += i128::from(addend(column_index, row));
     }
     sum
 }
 
-/// The lesser of two values that may be there; of equal ones the first.
+/// Returns the lesser of two optional values; of equal ones the first.
 fn lesser<'a>(one: Option<&'a Value>, other: Option<&'a Value>) -> Option<&'a Value>
     ensures { option_copied result ≡ better_of spec.lesser (option_copied one.entry) (option_copied other.entry) }
 {
@@ -59,7 +59,7 @@ fn lesser<'a>(one: Option<&'a Value>, other: Option<&'a Value>) -> Option<&'a Va
     }
 }
 
-/// The greater of two values that may be there; of equal ones the first.
+/// Returns the greater of two optional values; of equal ones the first.
 fn greater<'a>(one: Option<&'a Value>, other: Option<&'a Value>) -> Option<&'a Value>
     ensures { option_copied result ≡ better_of spec.greater (option_copied one.entry) (option_copied other.entry) }
 {
@@ -70,22 +70,22 @@ fn greater<'a>(one: Option<&'a Value>, other: Option<&'a Value>) -> Option<&'a V
     }
 }
 
-fn least_at(place: u16, members: &[Row]) -> Option<&Value>
-    ensures { option_copied result ≡ spec.least_of (spec.values_at place members.now) }
+fn least_at(column_index: u16, members: &[Row]) -> Option<&Value>
+    ensures { option_copied result ≡ spec.least_of (spec.values_at column_index members.now) }
 {
     let mut least: Option<&Value> = None;
     for row in members {
-        least = lesser(least, value_at(place, row));
+        least = lesser(least, value_at(column_index, row));
     }
     least
 }
 
-fn greatest_at(place: u16, members: &[Row]) -> Option<&Value>
-    ensures { option_copied result ≡ spec.greatest_of (spec.values_at place members.now) }
+fn greatest_at(column_index: u16, members: &[Row]) -> Option<&Value>
+    ensures { option_copied result ≡ spec.greatest_of (spec.values_at column_index members.now) }
 {
     let mut greatest: Option<&Value> = None;
     for row in members {
-        greatest = greater(greatest, value_at(place, row));
+        greatest = greater(greatest, value_at(column_index, row));
     }
     greatest
 }
@@ -99,29 +99,29 @@ fn copied(alloc: Global, found: Option<&Value>) -> Result<Option<Value>, NoMemor
     }
 }
 
-fn sum_value(place: u16, members: &[Row]) -> Result<Value, AnswerFault>
-    ensures { Gives (spec.item_overflows members.now (ShapeItem.Sum place)) (λ value. Some value ≡ spec.item_value members.now (ShapeItem.Sum place)) result }
+fn sum_value(column_index: u16, members: &[Row]) -> Result<Value, AnswerFault>
+    ensures { Gives (spec.item_overflows members.now (ShapeItem.Sum column_index)) (λ value. Some value ≡ spec.item_value members.now (ShapeItem.Sum column_index)) result }
 {
-    match i64::try_from(sum_at(place, members)) {
+    match i64::try_from(sum_at(column_index, members)) {
         Ok(sum) => Ok(Value::Int(sum)),
         Err(_) => Err(AnswerFault::Overflow),
     }
 }
 
-/// What an item is for a group, if it is anything.
+/// Returns the value of an item for a group, if it has one.
 fn item_value(alloc: Global, item: ShapeItem, members: &[Row]) -> Result<Option<Value>, AnswerFault>
     ensures { Gives (spec.item_overflows members.now item) (λ value. value ≡ spec.item_value members.now item) result }
 {
     match item {
-        ShapeItem::Col(place) => Ok(copied(alloc, first_at(place, members))?),
+        ShapeItem::Col(column_index) => Ok(copied(alloc, first_at(column_index, members))?),
         ShapeItem::Count => Ok(Some(Value::Int(members.len() as i64))),
-        ShapeItem::Sum(place) => Ok(Some(sum_value(place, members)?)),
-        ShapeItem::Min(place) => Ok(copied(alloc, least_at(place, members))?),
-        ShapeItem::Max(place) => Ok(copied(alloc, greatest_at(place, members))?),
+        ShapeItem::Sum(column_index) => Ok(Some(sum_value(column_index, members)?)),
+        ShapeItem::Min(column_index) => Ok(copied(alloc, least_at(column_index, members))?),
+        ShapeItem::Max(column_index) => Ok(copied(alloc, greatest_at(column_index, members))?),
     }
 }
 
-/// The row that a group gives, if it gives one: each item's value. Where one has none the later sums count for Overflow still.
+/// Returns the row of a group, if it has one: each item's value. If one has none the later sums count for Overflow still.
 fn group_row(
     alloc: Global,
     items: &[ShapeItem],
@@ -140,7 +140,7 @@ fn group_row(
     Ok(whole.then_some(row))
 }
 
-/// Puts the row that a group gives, if it gives one, at the end of the rows.
+/// Appends the row of a group, if it has one.
 pub(crate) fn push_group(
     alloc: Global,
     items: &[ShapeItem],

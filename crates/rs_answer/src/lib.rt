@@ -2,7 +2,7 @@
 #![tactic(auto)]
 
 pub use answer::answer_rows;
-pub use counting::{count_answer, counts_alone};
+pub use counting::{count_answer, is_count_only};
 pub use sorting::compare_answers;
 
 mod answer;

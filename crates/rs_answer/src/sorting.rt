@@ -1,4 +1,4 @@
-//! Rows in the order of an answer: by its keys, and then by all columns.
+//! The order of an answer: by its keys, and then by all columns.
 
 ghost use Rattle.std.specs.Prelude.{◌≡◌, IfOk, if◌then◌else◌, slice_get};
 ghost use Rattle.std.specs.Option.{option_cmp};
@@ -13,12 +13,12 @@ use rs_base::{NoMemory, Row, Rows, Value};
 use sqlite_items::Items;
 use std::cmp::Ordering;
 
-/// Two rows by the values that they have at a place; a row without one is below.
-pub(crate) fn compare_at(place: u16, one: &[Value], other: &[Value]) -> Ordering
-    ensures { result ≡ option_cmp value_cmp (slice_get one.now place) (slice_get other.now place) }
+/// Orders two rows by the values of a column; a row without one is below.
+pub(crate) fn compare_at(column_index: u16, one: &[Value], other: &[Value]) -> Ordering
+    ensures { result ≡ option_cmp value_cmp (slice_get one.now column_index) (slice_get other.now column_index) }
 {
-    let place = usize::from(place);
-    one.get(place).cmp(&other.get(place))
+    let column_index = usize::from(column_index);
+    one.get(column_index).cmp(&other.get(column_index))
 }
 
 fn compare_by_key(key: &ShapeKey, one: &[Value], other: &[Value]) -> Ordering
@@ -28,7 +28,7 @@ fn compare_by_key(key: &ShapeKey, one: &[Value], other: &[Value]) -> Ordering
     if key.desc { order.reverse() } else { order }
 }
 
-/// Two rows of an answer by its keys, and then by all columns, rising.
+/// Orders two rows of an answer by its keys, and then by all columns, rising.
 pub fn compare_answers(keys: &[ShapeKey], one: &[Value], other: &[Value]) -> Ordering
     ensures { result ≡ answer_cmp keys.now one.now other.now }
 {
@@ -48,7 +48,7 @@ fn sorted(keys: &[ShapeKey], mut rows: Vec<Row>) -> Result<Vec<Row>, NoMemory>
     Ok(rows)
 }
 
-/// Of equal neighbours the first.
+/// Keeps the first of equal neighbours.
 fn without_repeats(mut rows: Vec<Row>) -> Vec<Row>
     ensures { result.items ≡ dedup same_row rows.items }
 {
@@ -56,7 +56,7 @@ fn without_repeats(mut rows: Vec<Row>) -> Vec<Row>
     rows
 }
 
-/// The rows in the order of an answer; where they are to be distinct, each once.
+/// Returns the rows in the order of an answer; only distinct ones, if the query asks for it.
 pub(crate) fn rows_in_order(
     keys: &[ShapeKey],
     distinct: bool,

@@ -1,4 +1,4 @@
--- The words that can't be names, those of later statements among them.
+-- The reserved words, which can't be names. Some belong to statements that aren't supported.
 use Rattle.std.specs.Prelude.{ℕ, Bool, ◌||◌, List, [], ◌∷◌, codes, bytes_eq}
 use Rattle.std.specs.List.{list_any}
 

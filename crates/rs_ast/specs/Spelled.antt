@@ -1,13 +1,13 @@
--- How statements are spelled: the tokens of the text that is printed for each. Words stand in lower case. A creator's
--- site without a creator has no spelling and is left out.
+-- The tokens of the text that is printed for each statement. Words are in lower case. A creator's site without a creator
+-- has no tokens and is left out.
 use Rattle.std.specs.Prelude.{ℕ, suc, ℤ, pos, negsuc, Bool, true, false, List, [], ◌∷◌, ◌++◌, flat_map, Option, Some, None, codes}
 use Rattle.rs_base.specs.declared.name.NameText.{NameText}
 use Rattle.rs_base.specs.declared.value.Kind.{Kind}
 use Rattle.rs_base.specs.declared.value.Kind.TheVariants as kinds
 use Rattle.rs_base.specs.declared.value.Value.{Value}
 use Rattle.rs_base.specs.declared.value.Value.TheVariants as values
-use Rattle.rs_ast.specs.declared.token.Mark.{Mark}
-use Rattle.rs_ast.specs.declared.token.Mark.TheVariants as marks
+use Rattle.rs_ast.specs.declared.token.Symbol.{Symbol}
+use Rattle.rs_ast.specs.declared.token.Symbol.TheVariants as symbols
 use Rattle.rs_ast.specs.declared.token.Token.{Token}
 use Rattle.rs_ast.specs.declared.token.Token.TheVariants as tokens
 use Rattle.rs_ast.specs.declared.column.ColDef.{ColDef}
@@ -38,7 +38,7 @@ use Rattle.rs_ast.specs.declared.stmt.Stmt.TheVariants as stmts
 
 -- ---- lists
 
--- a separator, and an item that isn't the first
+-- a separator, then an item that isn't the first
 abbrev pub spelled_further : {A : Type 0} → Token → (A → List Token) → A → List Token
 spelled_further separator spelled x = separator ∷ spelled x
 
@@ -48,12 +48,12 @@ spelled_list separator spelled [] = []
 spelled_list separator spelled (x ∷ xs) = spelled x ++ flat_map (spelled_further separator spelled) xs
 
 abbrev pub comma : Token
-comma = tokens.Mark marks.Comma
+comma = tokens.Symbol symbols.Comma
 
 abbrev pub between_brackets : List Token → List Token
-between_brackets inside = tokens.Mark marks.Open ∷ inside ++ tokens.Mark marks.Close ∷ []
+between_brackets inside = tokens.Symbol symbols.Open ∷ inside ++ tokens.Symbol symbols.Close ∷ []
 
--- a list in brackets, with commas
+-- a list in parentheses, separated by commas
 unfoldable pub spelled_tuple : {A : Type 0} → (A → List Token) → List A → List Token
 spelled_tuple spelled xs = between_brackets (spelled_list comma spelled xs)
 
@@ -62,15 +62,15 @@ spelled_tuple spelled xs = between_brackets (spelled_list comma spelled xs)
 abbrev pub spelled_ident : List ℕ → List Token
 spelled_ident name = tokens.Word name ∷ []
 
--- the site behind a name
+-- the site after a name
 unfoldable pub spelled_site : Option ℕ → List Token
 spelled_site None = []
-spelled_site (Some site) = tokens.Mark marks.At ∷ tokens.Number site ∷ []
+spelled_site (Some site) = tokens.Symbol symbols.At ∷ tokens.Number site ∷ []
 
--- who created the object, in front of it
+-- the creator, before the object
 unfoldable pub spelled_creator : Option (List ℕ) → Option ℕ → List Token
 spelled_creator None site = []
-spelled_creator (Some creator) site = tokens.Word creator ∷ spelled_site site ++ tokens.Mark marks.Dot ∷ []
+spelled_creator (Some creator) site = tokens.Word creator ∷ spelled_site site ++ tokens.Symbol symbols.Dot ∷ []
 
 unfoldable pub spelled_name : NameText → List Token
 spelled_name name = spelled_creator name.creator name.creator_site ++ tokens.Word name.object ∷ spelled_site name.birth
@@ -79,16 +79,16 @@ unfoldable pub spelled_kind : Kind → List Token
 spelled_kind kinds.Int = tokens.Word (codes "int") ∷ []
 spelled_kind kinds.Text = tokens.Word (codes "text") ∷ []
 
--- a column as a table declares it
+-- a column definition
 unfoldable pub spelled_column : ColDef → List Token
 spelled_column column = tokens.Word column.name ∷ spelled_kind column.kind
 
--- the table in front of its column
+-- the table, before its column
 unfoldable pub spelled_table : Option (List ℕ) → List Token
 spelled_table None = []
-spelled_table (Some table) = tokens.Word table ∷ tokens.Mark marks.Dot ∷ []
+spelled_table (Some table) = tokens.Word table ∷ tokens.Symbol symbols.Dot ∷ []
 
--- a column as a statement names it
+-- a reference to a column
 unfoldable pub spelled_ref : ColRef → List Token
 spelled_ref ref = spelled_table ref.table ++ tokens.Word ref.column ∷ []
 
@@ -96,24 +96,24 @@ spelled_ref ref = spelled_table ref.table ++ tokens.Word ref.column ∷ []
 
 unfoldable pub spelled_integer : ℤ → List Token
 spelled_integer (pos n) = tokens.Number n ∷ []
-spelled_integer (negsuc n) = tokens.Mark marks.Minus ∷ tokens.Number (suc n) ∷ []
+spelled_integer (negsuc n) = tokens.Symbol symbols.Minus ∷ tokens.Number (suc n) ∷ []
 
 unfoldable pub spelled_value : Value → List Token
 spelled_value (values.Int n) = spelled_integer n
 spelled_value (values.Text text) = tokens.Text text ∷ []
 
 abbrev pub spelled_param : List ℕ → List Token
-spelled_param param = tokens.Mark marks.Colon ∷ tokens.Word param ∷ []
+spelled_param param = tokens.Symbol symbols.Colon ∷ tokens.Word param ∷ []
 
--- ---- clauses
+-- ---- predicates
 
-unfoldable pub mark_of : Op → Mark
-mark_of ops.Eq = marks.Equal
-mark_of ops.Ne = marks.NotEqual
-mark_of ops.Lt = marks.Less
-mark_of ops.Le = marks.LessOrEqual
-mark_of ops.Gt = marks.Greater
-mark_of ops.Ge = marks.GreaterOrEqual
+unfoldable pub symbol_of : Op → Symbol
+symbol_of ops.Eq = symbols.Equal
+symbol_of ops.Ne = symbols.NotEqual
+symbol_of ops.Lt = symbols.Less
+symbol_of ops.Le = symbols.LessOrEqual
+symbol_of ops.Gt = symbols.Greater
+symbol_of ops.Ge = symbols.GreaterOrEqual
 
 unfoldable pub spelled_operand : Operand → List Token
 spelled_operand (operands.Col ref) = spelled_ref ref
@@ -121,12 +121,12 @@ spelled_operand (operands.Lit value) = spelled_value value
 spelled_operand (operands.Param param) = spelled_param param
 
 unfoldable pub spelled_cmp : Cmp → List Token
-spelled_cmp cmp = spelled_ref cmp.left ++ tokens.Mark (mark_of cmp.op) ∷ spelled_operand cmp.right
+spelled_cmp cmp = spelled_ref cmp.left ++ tokens.Symbol (symbol_of cmp.op) ∷ spelled_operand cmp.right
 
 abbrev pub spelled_any : List Cmp → List Token
 spelled_any cmps = between_brackets (spelled_list (tokens.Word (codes "or")) spelled_cmp cmps)
 
--- one comparison stands without brackets
+-- a single comparison has no parentheses
 unfoldable pub spelled_cmps : List Cmp → List Token
 spelled_cmps [] = spelled_any []
 spelled_cmps (cmp ∷ []) = spelled_cmp cmp
@@ -135,7 +135,7 @@ spelled_cmps (cmp ∷ next ∷ cmps) = spelled_any (cmp ∷ next ∷ cmps)
 unfoldable pub spelled_clause : Clause → List Token
 spelled_clause clause = spelled_cmps clause.any
 
--- WHERE stands only where there are clauses
+-- without clauses there is no WHERE
 unfoldable pub spelled_where : List Clause → List Token
 spelled_where [] = []
 spelled_where (clause ∷ clauses) = tokens.Word (codes "where") ∷ spelled_list (tokens.Word (codes "and")) spelled_clause (clause ∷ clauses)
@@ -147,13 +147,13 @@ spelled_function function argument = tokens.Word function ∷ between_brackets a
 
 unfoldable pub spelled_item : Item → List Token
 spelled_item (items.Col ref) = spelled_ref ref
-spelled_item items.Count = spelled_function (codes "count") (tokens.Mark marks.Star ∷ [])
+spelled_item items.Count = spelled_function (codes "count") (tokens.Symbol symbols.Star ∷ [])
 spelled_item (items.Sum ref) = spelled_function (codes "sum") (spelled_ref ref)
 spelled_item (items.Min ref) = spelled_function (codes "min") (spelled_ref ref)
 spelled_item (items.Max ref) = spelled_function (codes "max") (spelled_ref ref)
 
 unfoldable pub spelled_items : Option (List Item) → List Token
-spelled_items None = tokens.Mark marks.Star ∷ []
+spelled_items None = tokens.Symbol symbols.Star ∷ []
 spelled_items (Some listed) = spelled_list comma spelled_item listed
 
 unfoldable pub spelled_distinct : Bool → List Token
@@ -175,54 +175,54 @@ unfoldable pub spelled_by : KeyBy → List Token
 spelled_by (keys.Col ref) = spelled_ref ref
 spelled_by (keys.Place n) = tokens.Number n ∷ []
 
-unfoldable pub spelled_falling : Bool → List Token
-spelled_falling false = []
-spelled_falling true = tokens.Word (codes "desc") ∷ []
+unfoldable pub spelled_direction : Bool → List Token
+spelled_direction false = []
+spelled_direction true = tokens.Word (codes "desc") ∷ []
 
 unfoldable pub spelled_key : Key → List Token
-spelled_key key = spelled_by key.by ++ spelled_falling key.desc
+spelled_key key = spelled_by key.by ++ spelled_direction key.desc
 
 unfoldable pub spelled_order : List Key → List Token
 spelled_order [] = []
 spelled_order (key ∷ more) = tokens.Word (codes "order") ∷ tokens.Word (codes "by") ∷ spelled_list comma spelled_key (key ∷ more)
 
--- what a query answers
-unfoldable pub spelled_answered : Bool → Option (List Item) → List Token
-spelled_answered distinct listed = tokens.Word (codes "select") ∷ spelled_distinct distinct ++ spelled_items listed
+-- the select list
+unfoldable pub spelled_select_list : Bool → Option (List Item) → List Token
+spelled_select_list distinct listed = tokens.Word (codes "select") ∷ spelled_distinct distinct ++ spelled_items listed
 
--- the tables of a query
+-- the tables of FROM
 unfoldable pub spelled_from : List TableRef → List Token
 spelled_from tables = tokens.Word (codes "from") ∷ spelled_list comma spelled_table_ref tables
 
 unfoldable pub spelled_select : Select → List Token
-spelled_select select = spelled_answered select.distinct select.items ++ spelled_from select.from ++ spelled_where select.clauses ++ spelled_group select.group ++ spelled_order select.order
+spelled_select select = spelled_select_list select.distinct select.items ++ spelled_from select.from ++ spelled_where select.clauses ++ spelled_group select.group ++ spelled_order select.order
 
--- ---- changes of rows
+-- ---- INSERT, UPDATE and DELETE
 
 unfoldable pub spelled_term : Term → List Token
 spelled_term (terms.Col column) = tokens.Word column ∷ []
 spelled_term (terms.Lit value) = spelled_value value
 spelled_term (terms.Param param) = spelled_param param
 
--- the terms of a row that is inserted
+-- a row of INSERT
 unfoldable pub spelled_term_row : List Term → List Token
 spelled_term_row row = spelled_tuple spelled_term row
 
-unfoldable pub arith_mark : Arith → Mark
-arith_mark ariths.Add = marks.Plus
-arith_mark ariths.Sub = marks.Minus
-arith_mark ariths.Mul = marks.Star
+unfoldable pub arith_symbol : Arith → Symbol
+arith_symbol ariths.Add = symbols.Plus
+arith_symbol ariths.Sub = symbols.Minus
+arith_symbol ariths.Mul = symbols.Star
 
--- the second term, behind what is done with it
+-- the operator and the second term
 unfoldable pub spelled_more : Option (Arith × Term) → List Token
 spelled_more None = []
-spelled_more (Some more) = tokens.Mark (arith_mark more.0) ∷ spelled_term more.1
+spelled_more (Some more) = tokens.Symbol (arith_symbol more.0) ∷ spelled_term more.1
 
 unfoldable pub spelled_expr : Expr → List Token
 spelled_expr expr = spelled_term expr.first ++ spelled_more expr.more
 
 unfoldable pub spelled_set : Set → List Token
-spelled_set set = tokens.Word set.column ∷ tokens.Mark marks.Equal ∷ spelled_expr set.expr
+spelled_set set = tokens.Word set.column ∷ tokens.Symbol symbols.Equal ∷ spelled_expr set.expr
 
 unfoldable pub spelled_dml : Dml → List Token
 spelled_dml (dmls.Select select) = spelled_select select
@@ -232,9 +232,9 @@ spelled_dml (dmls.Delete name clauses) = tokens.Word (codes "delete") ∷ tokens
 
 -- ---- statements
 
--- a statement of a program
+-- a statement in a program's body
 unfoldable pub spelled_step : Dml → List Token
-spelled_step dml = spelled_dml dml ++ tokens.Mark marks.Semicolon ∷ []
+spelled_step dml = spelled_dml dml ++ tokens.Symbol symbols.Semicolon ∷ []
 
 unfoldable pub spelled_steps : List Dml → List Token
 spelled_steps body = flat_map spelled_step body

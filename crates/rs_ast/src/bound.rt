@@ -1,53 +1,55 @@
-//! Clauses, rows and sets whose columns are places and whose parameters are numbers.
+//! Bound predicates, rows and assignments: columns are column indexes, and parameters are positions.
 //!
-//! A place counts the columns of a statement's tables one after the other, from 0; a parameter is its position, from 0.
+//! A column index counts the columns of a statement's tables in order, from 0; a parameter's position counts from 0.
 
 use crate::change::Arith;
 use crate::clause::Op;
 use rs_base::Value;
 use sqlite_items::Items;
 
-/// What the value at a place is compared with.
-#[derive(Debug, Drop)]
+/// The right operand of a comparison: the value at a column index, a constant, or a parameter.
+#[derive(Drop)]
 pub enum BoundSide {
     Place(u16),
     Lit(Value),
     Param(u8),
 }
 
-/// A comparison.
-#[derive(Debug, Drop)]
+/// A comparison of the value at the column index `left` with an operand.
+#[derive(Drop)]
 pub struct BoundCmp {
     pub left: u16,
     pub op: Op,
     pub right: BoundSide,
 }
 
-/// Comparisons of which one has to hold.
+/// A disjunction of comparisons.
 pub type BoundClause = Items<BoundCmp>;
 
-/// Clauses that all have to hold.
+/// A predicate: a conjunction of clauses.
 pub type BoundClauses = Items<BoundClause>;
 
-/// The value at a place, a value, or a parameter.
-#[derive(Debug, Drop)]
+/// A term: the value at a column index, a constant, or a parameter.
+#[derive(Drop)]
 pub enum BoundTerm {
     Place(u16),
     Lit(Value),
     Param(u8),
 }
 
+/// A row to be inserted.
 pub type BoundRow = Items<BoundTerm>;
 
-/// Rows to be put in. No term of theirs is a place.
+/// Rows to be inserted. None of their terms is a column index.
 pub type BoundRows = Items<BoundRow>;
 
-/// A column of the table, and what it is set to: a term, or two that are added, subtracted or multiplied.
-#[derive(Debug, Drop)]
+/// An assignment to a column of the table: a term, or two terms that are added, subtracted or multiplied.
+#[derive(Drop)]
 pub struct BoundSet {
     pub column: u8,
     pub first: BoundTerm,
     pub more: Option<(Arith, BoundTerm)>,
 }
 
+/// The assignments of an UPDATE.
 pub type BoundSets = Items<BoundSet>;

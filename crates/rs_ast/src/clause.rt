@@ -1,11 +1,11 @@
-//! What WHERE asks of a row.
+//! The predicate of WHERE: a conjunction of clauses, each a disjunction of comparisons.
 
 use crate::column::ColRef;
 use rs_base::{Ident, Value};
 use sqlite_items::Items;
 
-/// How two values are compared.
-#[derive(Clone, Copy, Debug, PartialEq, Eq)]
+/// A comparison operator.
+#[derive(Clone, Copy)]
 pub enum Op {
     Eq,
     Ne,
@@ -15,29 +15,30 @@ pub enum Op {
     Ge,
 }
 
-/// What a column is compared with.
-#[derive(Debug, Drop)]
+/// The right operand of a comparison: a column, a constant, or a parameter.
+#[derive(Drop)]
 pub enum Operand {
     Col(ColRef),
     Lit(Value),
     Param(Ident),
 }
 
-/// A comparison.
-#[derive(Debug, Drop)]
+/// A comparison of a column with an operand.
+#[derive(Drop)]
 pub struct Cmp {
     pub left: ColRef,
     pub op: Op,
     pub right: Operand,
 }
 
+/// The comparisons of a clause.
 pub type Cmps = Items<Cmp>;
 
-/// Comparisons of which one has to hold.
-#[derive(Debug, Drop)]
+/// A disjunction of comparisons.
+#[derive(Drop)]
 pub struct Clause {
     pub any: Cmps,
 }
 
-/// Clauses that all have to hold.
+/// A predicate: a conjunction of clauses. Without clauses each row satisfies it.
 pub type Clauses = Items<Clause>;

@@ -1,21 +1,21 @@
-//! Which tokens stand without a space before them.
+//! Spacing of printed tokens: which ones follow the text before them without a space.
 
 ghost use Rattle.std.specs.Prelude.{◌≡◌};
 ghost use Rattle.rs_ast.specs.Printed as spec;
 
-use crate::token::{Mark, Token};
+use crate::token::{Symbol, Token};
 
-/// What a text ends with, as far as the next token asks.
-#[derive(Clone, Copy, Debug, PartialEq, Eq)]
+/// What a text ends with, as far as it decides the space before the next token.
+#[derive(Clone, Copy)]
 pub enum Ending {
-    /// Nothing stands before.
+    /// The text is empty.
     Start,
-    /// A mark that the next token touches, or a sign.
+    /// A symbol that is followed by no space, or a sign.
     Tight,
-    /// A word that takes an argument in brackets.
+    /// The name of an aggregate function.
     Function,
-    /// Another mark.
-    Mark,
+    /// Another symbol.
+    Symbol,
     /// Another token.
     Other,
 }
@@ -31,11 +31,11 @@ fn is_function(word: &[u8]) -> bool
 }
 
 #[tactic(auto, unfolding(crate::specs::Printed::closes_up))]
-fn closes_up(mark: Mark) -> bool
-    ensures { result ≡ spec.closes_up mark }
+fn closes_up(symbol: Symbol) -> bool
+    ensures { result ≡ spec.closes_up symbol }
 {
-    match mark {
-        Mark::Close | Mark::Comma | Mark::Dot | Mark::Semicolon | Mark::At => true,
+    match symbol {
+        Symbol::Close | Symbol::Comma | Symbol::Dot | Symbol::Semicolon | Symbol::At => true,
         _ => false,
     }
 }
@@ -48,7 +48,7 @@ fn token_closes_up(token: &Token) -> bool
         Token::Word(_) => false,
         Token::Number(_) => false,
         Token::Text(_) => false,
-        Token::Mark(mark) => closes_up(*mark),
+        Token::Symbol(symbol) => closes_up(*symbol),
     }
 }
 
@@ -60,27 +60,27 @@ impl Ending {
         match self {
             Ending::Start => Ending::Tight,
             Ending::Tight => Ending::Tight,
-            Ending::Function => Ending::Mark,
-            Ending::Mark => Ending::Tight,
-            Ending::Other => Ending::Mark,
+            Ending::Function => Ending::Symbol,
+            Ending::Symbol => Ending::Tight,
+            Ending::Other => Ending::Symbol,
         }
     }
 
-    #[tactic(auto, unfolding(crate::specs::Printed::ending_mark))]
-    fn mark(self, mark: Mark) -> Ending
-        ensures { result ≡ spec.ending_mark self mark }
+    #[tactic(auto, unfolding(crate::specs::Printed::ending_symbol))]
+    fn symbol(self, symbol: Symbol) -> Ending
+        ensures { result ≡ spec.ending_symbol self symbol }
     {
-        match mark {
-            Mark::Open | Mark::Dot | Mark::At | Mark::Colon => Ending::Tight,
-            Mark::Minus => self.minus(),
-            _ => Ending::Mark,
+        match symbol {
+            Symbol::Open | Symbol::Dot | Symbol::At | Symbol::Colon => Ending::Tight,
+            Symbol::Minus => self.minus(),
+            _ => Ending::Symbol,
         }
     }
 
-    /// What the text ends with once `token` stands behind it.
-    #[tactic(auto, unfolding(crate::specs::Printed::ending_behind))]
-    pub fn behind(self, token: &Token) -> Ending
-        ensures { result ≡ spec.ending_behind self token.now }
+    /// Returns what the text ends with after `token` is appended.
+    #[tactic(auto, unfolding(crate::specs::Printed::ending_after))]
+    pub fn after(self, token: &Token) -> Ending
+        ensures { result ≡ spec.ending_after self token.now }
     {
         match token {
             Token::Word(word) => {
@@ -92,11 +92,11 @@ impl Ending {
             }
             Token::Number(_) => Ending::Other,
             Token::Text(_) => Ending::Other,
-            Token::Mark(mark) => self.mark(*mark),
+            Token::Symbol(symbol) => self.symbol(*symbol),
         }
     }
 
-    /// Whether `token` touches it.
+    /// Returns whether `token` follows without a space.
     #[tactic(auto, unfolding(crate::specs::Printed::touches))]
     pub fn touches(self, token: &Token) -> bool
         ensures { result ≡ spec.touches self token.now }
@@ -104,8 +104,8 @@ impl Ending {
         match self {
             Ending::Start => true,
             Ending::Tight => true,
-            Ending::Function => token.is_mark(Mark::Open) || token_closes_up(token),
-            Ending::Mark => token_closes_up(token),
+            Ending::Function => token.is_symbol(Symbol::Open) || token_closes_up(token),
+            Ending::Symbol => token_closes_up(token),
             Ending::Other => token_closes_up(token),
         }
     }

@@ -1,31 +1,33 @@
-//! What is known of a table to one who plans over it.
+//! Catalog entries: what a planner knows of a table.
 
 use rs_base::{Ident, Kind, SiteNo, Swn, Txn};
 use sqlite_items::Items;
 
-/// A column, and how many different values it has.
-#[derive(Clone, Copy, Debug, PartialEq, Eq)]
+/// A column of a table, with the number of its distinct values.
+#[derive(Clone, Copy)]
 pub struct Column {
     pub name: Ident,
     pub kind: Kind,
     pub distinct: u64,
 }
 
+/// The columns of a table.
 pub type Columns = Items<Column>;
 
-/// An index: its name, the column that it is on, counted from 0, and the transaction that made it.
-#[derive(Clone, Copy, Debug, PartialEq, Eq)]
+/// An index: its name, the ordinal of its column in the table, from 0, and the transaction that created it.
+#[derive(Clone, Copy)]
 pub struct IndexOf {
     pub name: Ident,
     pub column: u8,
     pub made: Txn,
 }
 
+/// The indexes of a table.
 pub type IndexOfs = Items<IndexOf>;
 
-/// A table: its name, the transaction that made it, the site that stores it, its columns and indexes, and how many rows
-/// it has.
-#[derive(Debug, Drop)]
+/// A table: its name, the transaction that created it, the site that stores it (`place`), its columns and indexes, and the
+/// number of its rows.
+#[derive(Drop)]
 pub struct Entry {
     pub name: Swn,
     pub made: Txn,

@@ -1,5 +1,4 @@
-//! Statements: as a text's tokens spell them, the text that is printed for each, and their parts once names are bound to
-//! columns.
+//! The syntax tree of statements, its printing as tokens and text, and its bound form, whose columns are column indexes.
 #![tactic(auto)]
 
 mod bound;
@@ -29,4 +28,4 @@ pub use reserved::is_reserved;
 pub use select::{Item, Key, KeyBy, Keys, Select, SelectItems, TableRef, TableRefs};
 pub use shape::{Places, Shape, ShapeItem, ShapeItems, ShapeKey, ShapeKeys};
 pub use stmt::{Dml, Dmls, Idents, Stmt};
-pub use token::{Mark, Token, Tokens};
+pub use token::{Symbol, Token, Tokens};

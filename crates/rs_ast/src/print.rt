@@ -1,4 +1,4 @@
-//! The text of a statement.
+//! Printing of statements.
 
 ghost use Rattle.std.specs.Prelude.{◌≡◌, ◌++◌, map, drop, take, OnOk, OnErr};
 ghost use Rattle.std.specs.Char.{to_ascii_uppercase};
@@ -9,7 +9,7 @@ use crate::ending::Ending;
 use crate::reserved::is_reserved;
 use crate::spell::Spell;
 use crate::stmt::Stmt;
-use crate::token::{Mark, Token, Tokens};
+use crate::token::{Symbol, Token, Tokens};
 use rs_base::{Bytes, NoMemory, Txt, Value, print_number, print_value};
 use std::alloc::Global;
 
@@ -40,27 +40,27 @@ fn put_text(alloc: Global, out: &mut Bytes, text: &Txt) -> Result<(), NoMemory>
     print_value(alloc, &value, out)
 }
 
-#[tactic(auto, unfolding(crate::specs::Printed::printed_mark))]
-fn mark_text(mark: Mark) -> &'static [u8]
-    ensures { result.now ≡ spec.printed_mark mark }
+#[tactic(auto, unfolding(crate::specs::Printed::printed_symbol))]
+fn symbol_text(symbol: Symbol) -> &'static [u8]
+    ensures { result.now ≡ spec.printed_symbol symbol }
 {
-    match mark {
-        Mark::Open => b"(",
-        Mark::Close => b")",
-        Mark::Comma => b",",
-        Mark::Dot => b".",
-        Mark::Semicolon => b";",
-        Mark::At => b"@",
-        Mark::Star => b"*",
-        Mark::Colon => b":",
-        Mark::Plus => b"+",
-        Mark::Minus => b"-",
-        Mark::Equal => b"=",
-        Mark::NotEqual => b"<>",
-        Mark::Less => b"<",
-        Mark::LessOrEqual => b"<=",
-        Mark::Greater => b">",
-        Mark::GreaterOrEqual => b">=",
+    match symbol {
+        Symbol::Open => b"(",
+        Symbol::Close => b")",
+        Symbol::Comma => b",",
+        Symbol::Dot => b".",
+        Symbol::Semicolon => b";",
+        Symbol::At => b"@",
+        Symbol::Star => b"*",
+        Symbol::Colon => b":",
+        Symbol::Plus => b"+",
+        Symbol::Minus => b"-",
+        Symbol::Equal => b"=",
+        Symbol::NotEqual => b"<>",
+        Symbol::Less => b"<",
+        Symbol::LessOrEqual => b"<=",
+        Symbol::Greater => b">",
+        Symbol::GreaterOrEqual => b">=",
     }
 }
 
@@ -72,11 +72,11 @@ fn put_token(alloc: Global, out: &mut Bytes, token: &Token) -> Result<(), NoMemo
         Token::Word(word) => put_word(out, word.as_bytes()),
         Token::Number(n) => print_number(alloc, *n, out),
         Token::Text(text) => put_text(alloc, out, text),
-        Token::Mark(mark) => out.extend(mark_text(*mark)),
+        Token::Symbol(symbol) => out.extend(symbol_text(*symbol)),
     }
 }
 
-/// A token behind what the text ends with.
+/// Appends a token, after a space where the text's ending requires one.
 #[tactic(auto, unfolding(crate::specs::Printed::printed_next))]
 fn put_next(alloc: Global, out: &mut Bytes, before: Ending, token: &Token) -> Result<(), NoMemory>
     ensures { OnOk result (out.new ≡ out.old ++ spec.printed_next before token.now) }
@@ -93,12 +93,13 @@ fn put_tokens(alloc: Global, out: &mut Bytes, tokens: &[Token]) -> Result<(), No
     let mut ending = Ending::Start;
     for token in tokens {
         put_next(alloc, out, ending, token)?;
-        ending = ending.behind(token);
+        ending = ending.after(token);
     }
     Ok(())
 }
 
-/// Prints a statement as a text that reads as it does. Where memory is wanting, the bytes stay as they were.
+/// Appends the text of a statement to `out`: reserved words in upper case, and a space between two tokens unless they
+/// touch. On out of memory nothing changes. Linear in the text's length.
 pub fn print_stmt(alloc: Global, stmt: &Stmt, out: &mut Bytes) -> Result<(), NoMemory>
     ensures ok { OnOk result (out.new ≡ out.old ++ spec.printed_stmt stmt.now) }
     ensures err { OnErr result (out.new ≡ out.old) }

@@ -1,4 +1,4 @@
-//! The words that can't be names.
+//! Reserved words.
 
 ghost use Rattle.std.specs.Prelude.{◌≡◌};
 ghost use Rattle.rs_ast.specs.Reserved as spec;
@@ -76,6 +76,7 @@ fn is_term_word(word: &[u8]) -> bool
         || word == b"max".as_slice()
 }
 
+/// Returns whether a word, in lower case, is reserved and can't be a name.
 #[tactic(auto, unfolding(crate::specs::Reserved::is_reserved))]
 pub fn is_reserved(word: &[u8]) -> bool
     ensures { result ≡ spec.is_reserved word.now }

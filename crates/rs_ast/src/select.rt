@@ -5,8 +5,8 @@ use crate::column::{ColRef, ColRefs};
 use rs_base::{Ident, NameText};
 use sqlite_items::Items;
 
-/// What a query answers in one column.
-#[derive(Clone, Copy, Debug, PartialEq, Eq)]
+/// An item of the select list: a column, `COUNT(*)`, or an aggregate over a column.
+#[derive(Clone, Copy)]
 pub enum Item {
     Col(ColRef),
     Count,
@@ -15,35 +15,38 @@ pub enum Item {
     Max(ColRef),
 }
 
+/// The items of a select list.
 pub type SelectItems = Items<Item>;
 
-/// What a query is sorted by: a column, or the item of this place, counted from 1.
-#[derive(Clone, Copy, Debug, PartialEq, Eq)]
+/// A sort expression of ORDER BY: a column, or an item of the select list by its ordinal, from 1.
+#[derive(Clone, Copy)]
 pub enum KeyBy {
     Col(ColRef),
     Place(u32),
 }
 
-/// A key of the order, rising or falling.
-#[derive(Clone, Copy, Debug, PartialEq, Eq)]
+/// A sort key, ascending or descending.
+#[derive(Clone, Copy)]
 pub struct Key {
     pub by: KeyBy,
     pub desc: bool,
 }
 
+/// The sort keys of ORDER BY, the major one first.
 pub type Keys = Items<Key>;
 
-/// A table of a query, and the name that it goes by there, where one is given.
-#[derive(Clone, Copy, Debug, PartialEq, Eq)]
+/// A table of FROM, with its alias, if one is given.
+#[derive(Clone, Copy)]
 pub struct TableRef {
     pub name: NameText,
     pub alias: Option<Ident>,
 }
 
+/// The tables of FROM.
 pub type TableRefs = Items<TableRef>;
 
-/// A query. Without items it answers every column of its tables.
-#[derive(Debug, Drop)]
+/// A query. Without items (`*`) it selects each column of its tables.
+#[derive(Drop)]
 pub struct Select {
     pub distinct: bool,
     pub items: Option<SelectItems>,

@@ -1,12 +1,12 @@
-//! What a query makes of its joined rows.
+//! The bound select list, grouping and order of a query.
 
 use sqlite_items::Items;
 
-/// Places of columns.
+/// Column indexes.
 pub type Places = Items<u16>;
 
-/// What is answered in one column: the value at a place, or what is made of the rows of a group.
-#[derive(Clone, Copy, Debug, PartialEq, Eq)]
+/// A bound item of the select list: the value at a column index, or an aggregate over a group's rows.
+#[derive(Clone, Copy)]
 pub enum ShapeItem {
     Col(u16),
     Count,
@@ -15,19 +15,21 @@ pub enum ShapeItem {
     Max(u16),
 }
 
+/// The bound items of a select list.
 pub type ShapeItems = Items<ShapeItem>;
 
-/// A key of the order: an item, counted from 0, rising or falling.
-#[derive(Clone, Copy, Debug, PartialEq, Eq)]
+/// A sort key: the ordinal of an item, from 0, ascending or descending.
+#[derive(Clone, Copy)]
 pub struct ShapeKey {
     pub item: u16,
     pub desc: bool,
 }
 
+/// The sort keys, the major one first.
 pub type ShapeKeys = Items<ShapeKey>;
 
-/// What a query makes of its joined rows. It is grouped where it has an aggregate or columns of groups.
-#[derive(Debug, Drop)]
+/// The part of a query that is applied to its joined rows. It is grouped if it has an aggregate or a GROUP BY.
+#[derive(Drop)]
 pub struct Shape {
     pub distinct: bool,
     pub items: ShapeItems,

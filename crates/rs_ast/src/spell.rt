@@ -1,4 +1,4 @@
-//! Statements as tokens: what spells itself puts its tokens at the end of those before.
+//! Printing of statements as tokens.
 
 ghost use Rattle.std.specs.Prelude.{◌≡◌, [], ◌∷◌, ◌++◌, flat_map, take, OnOk, IsTrue};
 ghost use Rattle.rs_base.specs.Ident.{is_ident};
@@ -12,24 +12,24 @@ mod select;
 mod stmt;
 mod value;
 
-use crate::token::{Mark, Token, Tokens};
+use crate::token::{Symbol, Token, Tokens};
 use rs_base::{Ident, NoMemory};
 use std::alloc::Global;
 
-/// A part of a statement.
+/// A part of a statement that prints as tokens.
 pub trait Spell {
     ghost use Rattle.std.specs.Prelude.{List};
     ghost use Rattle.rs_ast.specs.declared.token.Token.{Token};
 
-    // The tokens that spell it.
+    // The part's tokens.
     ghost spelled: { Self → List Token };
 
-    /// Puts its tokens at the end.
+    /// Appends the part's tokens to `out`. On out of memory some of them may have been appended.
     fn spell(&self, alloc: Global, out: &mut Tokens) -> Result<(), NoMemory>
         ensures { OnOk result (out.new ≡ out.old ++ spelled self.now) };
 }
 
-/// The token of a word, which is given in lower case.
+/// Returns the token of a word, which is given in lower case.
 fn keyword(word: &[u8]) -> Token
     requires { IsTrue (is_ident word.now) }
     ensures { result ≡ tokens.Word word.now }
@@ -62,10 +62,10 @@ fn number(n: u64, out: &mut Tokens) -> Result<(), NoMemory>
     Ok(())
 }
 
-fn mark(mark: Mark, out: &mut Tokens) -> Result<(), NoMemory>
-    ensures { OnOk result (out.new ≡ out.old ++ tokens.Mark mark ∷ []) }
+fn symbol(symbol: Symbol, out: &mut Tokens) -> Result<(), NoMemory>
+    ensures { OnOk result (out.new ≡ out.old ++ tokens.Symbol symbol ∷ []) }
 {
-    out.push(Token::Mark(mark))?;
+    out.push(Token::Symbol(symbol))?;
     Ok(())
 }
 
@@ -84,7 +84,7 @@ fn further<T: Spell>(
     Ok(())
 }
 
-/// The items, with a separator between each two.
+/// Appends the items, with a separator between each two.
 #[tactic(auto, unfolding(crate::specs::Spelled::spelled_list))]
 fn list<T: Spell>(
     alloc: Global,
@@ -101,19 +101,19 @@ fn list<T: Spell>(
     further(alloc, separator, others, out)
 }
 
-/// The items, with commas.
+/// Appends the items, separated by commas.
 fn comma_list<T: Spell>(alloc: Global, items: &[T], out: &mut Tokens) -> Result<(), NoMemory>
     ensures { OnOk result (out.new ≡ out.old ++ spec.spelled_list spec.comma T.spelled items.now) }
 {
-    list(alloc, &Token::Mark(Mark::Comma), items, out)
+    list(alloc, &Token::Symbol(Symbol::Comma), items, out)
 }
 
-/// The items in brackets, with commas.
+/// Appends the items in parentheses, separated by commas.
 #[tactic(auto, unfolding(crate::specs::Spelled::spelled_tuple))]
 fn tuple<T: Spell>(alloc: Global, items: &[T], out: &mut Tokens) -> Result<(), NoMemory>
     ensures { OnOk result (out.new ≡ out.old ++ spec.spelled_tuple T.spelled items.now) }
 {
-    mark(Mark::Open, out)?;
+    symbol(Symbol::Open, out)?;
     comma_list(alloc, items, out)?;
-    mark(Mark::Close, out)
+    symbol(Symbol::Close, out)
 }

@@ -1,4 +1,4 @@
-//! Statements: flat plain data.
+//! The syntax tree of statements.
 
 use crate::change::{Sets, TermRows};
 use crate::clause::Clauses;
@@ -8,7 +8,7 @@ use rs_base::{Ident, NameText, Row, SiteNo};
 use sqlite_items::Items;
 
 /// A statement on the rows of tables.
-#[derive(Debug, Drop)]
+#[derive(Drop)]
 pub enum Dml {
     Select(Select),
     Insert {
@@ -26,12 +26,14 @@ pub enum Dml {
     },
 }
 
+/// The statements of a program.
 pub type Dmls = Items<Dml>;
 
+/// A list of identifiers.
 pub type Idents = Items<Ident>;
 
 /// A statement.
-#[derive(Debug, Drop)]
+#[derive(Drop)]
 pub enum Stmt {
     CreateTable {
         name: NameText,

@@ -1,4 +1,4 @@
-//! The tokens of a text.
+//! The tokens of statements.
 
 ghost use Rattle.std.specs.Prelude.{◌≡◌, IfOk};
 ghost use Rattle.rs_ast.specs.Token as spec;
@@ -7,9 +7,9 @@ use rs_base::{Ident, NoMemory, Txt};
 use sqlite_items::Items;
 use std::alloc::Global;
 
-/// A mark of one or two characters.
-#[derive(Clone, Copy, Debug, PartialEq, Eq)]
-pub enum Mark {
+/// A symbol of one or two characters.
+#[derive(Clone, Copy)]
+pub enum Symbol {
     Open,
     Close,
     Comma,
@@ -28,38 +28,39 @@ pub enum Mark {
     GreaterOrEqual,
 }
 
-/// A token: a word in lower case, a number, a text without its quotes, or a mark.
-#[derive(Debug, Drop)]
+/// A token: a word in lower case, a number, a text literal without its quotes, or a symbol.
+#[derive(Drop)]
 pub enum Token {
     Word(Ident),
     Number(u64),
     Text(Txt),
-    Mark(Mark),
+    Symbol(Symbol),
 }
 
+/// A list of tokens.
 pub type Tokens = Items<Token>;
 
-#[tactic(auto, unfolding(crate::specs::Token::same_mark))]
-fn same_mark(mark: Mark, other: Mark) -> bool
-    ensures { result ≡ spec.same_mark mark other }
+#[tactic(auto, unfolding(crate::specs::Token::same_symbol))]
+fn same_symbol(symbol: Symbol, other: Symbol) -> bool
+    ensures { result ≡ spec.same_symbol symbol other }
 {
-    mark == other
+    symbol == other
 }
 
 impl Token {
-    /// Whether it is this mark.
-    pub fn is_mark(&self, mark: Mark) -> bool
-        ensures { result ≡ spec.is_mark mark self.now }
+    /// Returns whether the token is this symbol.
+    pub fn is_symbol(&self, symbol: Symbol) -> bool
+        ensures { result ≡ spec.is_symbol symbol self.now }
     {
         match self {
             Token::Word(_) => false,
             Token::Number(_) => false,
             Token::Text(_) => false,
-            Token::Mark(other) => same_mark(*other, mark),
+            Token::Symbol(other) => same_symbol(*other, symbol),
         }
     }
 
-    /// Whether it is this word, which is given in lower case.
+    /// Returns whether the token is this word, which is given in lower case.
     pub fn is_word(&self, word: &[u8]) -> bool
         ensures { result ≡ spec.is_word word.now self.now }
     {
@@ -67,10 +68,11 @@ impl Token {
             Token::Word(other) => other.as_bytes() == word,
             Token::Number(_) => false,
             Token::Text(_) => false,
-            Token::Mark(_) => false,
+            Token::Symbol(_) => false,
         }
     }
 
+    /// Copies the token. Fails if an allocation fails.
     pub fn copy(&self, alloc: Global) -> Result<Token, NoMemory>
         ensures { IfOk result (λ token. token ≡ self.now) }
     {
@@ -78,7 +80,7 @@ impl Token {
             Token::Word(word) => Ok(Token::Word(*word)),
             Token::Number(n) => Ok(Token::Number(*n)),
             Token::Text(text) => Ok(Token::Text(text.copy(alloc)?)),
-            Token::Mark(mark) => Ok(Token::Mark(*mark)),
+            Token::Symbol(symbol) => Ok(Token::Symbol(*symbol)),
         }
     }
 }

@@ -1,4 +1,4 @@
--- How many groups of seven bits a number takes, step by step.
+-- The number of groups of seven bits that a number takes, step by step.
 use Rattle.std.proofs.Common.{◌≡◌, ℕ, zero, suc, ◌+◌, ◌-◌, ◌/◌, ◌<◌, ◌≤◌, refl, ap, ◌∙◌, arith}
 use Rattle.std.proofs.lemmas.Bool.{lt-ltb, le-ltb}
 use Rattle.rs_base.specs.Sizes.{groups_within}

@@ -1,4 +1,4 @@
--- How an identifier lies in its array: its bytes, and zeros after them.
+-- An identifier in its array: its bytes, and zeros after them.
 use Rattle.std.specs.Prelude.{◌≡◌, ℕ, ◌-◌, ◌≤◌, List, ◌++◌, length, take, drop, replicate, IsTrue}
 use Rattle.std.proofs.Common.{◌∙◌, ap, arith}
 use Rattle.std.proofs.lemmas.List.{length-take, take-append-drop}

@@ -8,5 +8,3 @@ pub mod Faults
 pub mod Printing
 pub mod Reading
 pub mod Sizes
-pub mod MemStreams
-pub mod Streams

@@ -1,4 +1,4 @@
--- Names, what a text's name stands for, and the order of names.
+-- Names as written, the system-wide names they resolve to, and their order.
 use Rattle.std.specs.Prelude.{ℕ, List, Option, Some, None, unwrap_or}
 use Rattle.std.specs.Ordering.{nat_cmp, ordering_then}
 use Rattle.std.specs.Cmp.Lexicographic.{slice_cmp}
@@ -6,7 +6,7 @@ use Rattle.std.specs.declared.cmp.Ordering.{Ordering}
 use Rattle.rs_base.specs.declared.name.NameText.{NameText}
 use Rattle.rs_base.specs.declared.name.Swn.{Swn}
 
--- a name of one identifier alone
+-- a name of one identifier
 abbrev pub plain : List ℕ → NameText
 plain object = record { creator = None; creator_site = None; object = object; birth = None }
 
@@ -18,8 +18,8 @@ abbrev pub site_of_creator : Option (List ℕ) → Option ℕ → ℕ → ℕ
 site_of_creator None written asked = asked
 site_of_creator (Some creator) written asked = unwrap_or written asked
 
--- The system-wide name that a text's name stands for, where the user has no synonym of that name. A missing birth site
--- is the site that was asked.
+-- The system-wide name that a written name resolves to, without regard to synonyms. A missing birth site is the site that
+-- was asked.
 abbrev pub resolve : NameText → List ℕ → ℕ → Swn
 resolve text user asked = record {
   creator = creator_of text user;

@@ -1,4 +1,4 @@
--- The order of transactions, enlistments and requests: by their fields, from the first on.
+-- The order of transactions, enlistments and requests: by their fields in order.
 use Rattle.std.specs.Ordering.{nat_cmp, ordering_then}
 use Rattle.std.specs.Cmp.Lexicographic.{slice_cmp}
 use Rattle.std.specs.declared.cmp.Ordering.{Ordering}

@@ -1,4 +1,4 @@
-//! A list of bytes that grows.
+//! A growable list of bytes.
 
 ghost use Rattle.std.specs.Prelude.{◌≡◌, [], ◌∷◌, ◌++◌, length, take, OnOk, OnErr, IfOk};
 
@@ -6,8 +6,8 @@ use crate::fault::NoMemory;
 use std::alloc::Global;
 use std::marker::Model;
 
-/// Bytes that contracts see as the list of them.
-#[derive(Debug, Drop)]
+/// Bytes that contracts see as a list.
+#[derive(Drop)]
 pub struct Bytes {
     bytes: Vec<u8>,
 }
@@ -29,7 +29,7 @@ impl Bytes {
         }
     }
 
-    /// No bytes, with room for so many.
+    /// Makes an empty list with capacity for `room` bytes.
     pub fn with_room(alloc: Global, room: usize) -> Result<Bytes, NoMemory>
         ensures { IfOk result (λ it. it ≡ []) }
     {
@@ -78,7 +78,7 @@ impl Bytes {
         Ok(())
     }
 
-    /// Keeps the first bytes: so many, or all where there are fewer.
+    /// Keeps the first `len` bytes, or all if there are fewer.
     pub fn truncate(&mut self, len: usize)
         ensures { self.new ≡ take len self.old }
     {

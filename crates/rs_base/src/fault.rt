@@ -1,9 +1,9 @@
-//! Why a call did not do its work, where its input is not to blame.
+//! Faults that are not of the input.
 
 use std::alloc::{AllocError, AllocFailed};
 use thiserror::Error;
 
-/// Memory was wanting.
+/// An allocation failed.
 #[derive(Clone, Copy, Debug, PartialEq, Eq, Error)]
 #[error("out of memory")]
 pub struct NoMemory;
@@ -20,12 +20,12 @@ impl<T: Drop> From<AllocFailed<T>> for NoMemory {
     }
 }
 
-/// A device failed: reading from a source, say, or writing to a sink.
+/// A device failed: a read of a source or a write of a sink.
 #[derive(Clone, Copy, Debug, PartialEq, Eq, Error)]
 #[error("the device failed")]
 pub struct Failed;
 
-/// A device failed, or memory was wanting.
+/// A device failed, or an allocation did.
 #[derive(Clone, Copy, Debug, PartialEq, Eq, Error)]
 pub enum Fault {
     #[error("the device failed")]
@@ -34,7 +34,7 @@ pub enum Fault {
     NoMemory,
 }
 
-/// Why a reader gave no value.
+/// Why a reader returned no value.
 #[derive(Clone, Copy, Debug, PartialEq, Eq, Error)]
 pub enum ReadFault {
     #[error("what stands there has not the form")]

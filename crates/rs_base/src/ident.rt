@@ -14,8 +14,8 @@ use std::marker::Model;
 
 /// An identifier: a lower-case ASCII letter and at most 23 lower-case letters, digits or `_`.
 ///
-/// It is kept in place, so that a name takes no memory.
-#[derive(Clone, Copy, Debug)]
+/// It is a fixed array, so a name takes no heap memory.
+#[derive(Clone, Copy)]
 pub struct Ident {
     bytes: [u8; 24],
     len: usize,
@@ -75,13 +75,13 @@ fn padded(text: &[u8]) -> [u8; 24]
     ensures { result ≡ text.now ++ replicate (24 - length text.now) 0 }
 {
     let mut bytes = [0u8; 24];
-    let (front, _) = bytes.split_at_mut(text.len());
-    front.copy_from_slice(text);
+    let (prefix, _) = bytes.split_at_mut(text.len());
+    prefix.copy_from_slice(text);
     bytes
 }
 
 impl Ident {
-    /// The identifier of these bytes, or `None` where they are none.
+    /// Returns the identifier of these bytes; `None` exactly if they aren't one.
     pub fn new(bytes: &[u8]) -> Option<Ident>
         ensures { SomeIff result (IsTrue (spec.is_ident bytes.now)) bytes.now }
     {
@@ -94,7 +94,7 @@ impl Ident {
         })
     }
 
-    /// The identifier of these bytes in lower case, or `None` where they are none.
+    /// Returns the identifier of these bytes in lower case; `None` exactly if they aren't one.
     pub fn lowered(bytes: &[u8]) -> Option<Ident>
         ensures { SomeIff result (IsTrue (spec.is_ident (map to_ascii_lowercase bytes.now))) (map to_ascii_lowercase bytes.now) }
     {
@@ -102,9 +102,9 @@ impl Ident {
             return None;
         }
         let mut lower = padded(bytes);
-        let (front, _) = lower.split_at_mut(bytes.len());
-        front.make_ascii_lowercase();
-        Ident::new(front)
+        let (prefix, _) = lower.split_at_mut(bytes.len());
+        prefix.make_ascii_lowercase();
+        Ident::new(prefix)
     }
 
     pub fn as_bytes(&self) -> &[u8]

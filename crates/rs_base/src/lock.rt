@@ -1,4 +1,4 @@
-//! What transactions lock.
+//! Locks.
 
 use crate::ident::Ident;
 use crate::name::Swn;
@@ -6,7 +6,7 @@ use sqlite_items::Items;
 
 /// What is locked: a table at the site that stores it, the entry of a name at its birth site, a user's program, or all
 /// synonyms of a user.
-#[derive(Clone, Copy, Debug, PartialEq, Eq, PartialOrd, Ord)]
+#[derive(Clone, Copy, PartialEq, Eq, PartialOrd, Ord)]
 pub enum Resource {
     Table(Swn),
     Birth(Swn),
@@ -15,12 +15,12 @@ pub enum Resource {
     Synonyms(Ident),
 }
 
-/// How it is locked: for reading, which others may do too, or for writing alone.
-#[derive(Clone, Copy, Debug, PartialEq, Eq, PartialOrd, Ord)]
+/// The mode of a lock: shared for reading, or exclusive for writing.
+#[derive(Clone, Copy, PartialEq, Eq, PartialOrd, Ord)]
 pub enum Mode {
     Read,
     Write,
 }
 
-/// What is held, and in which mode.
+/// Locks held, each with its mode.
 pub type HeldLocks = Items<(Resource, Mode)>;

@@ -1,4 +1,4 @@
-//! Names of tables: as a text writes them, and whole.
+//! Names of tables, as written and system-wide.
 
 ghost use Rattle.std.specs.Prelude.{◌≡◌};
 ghost use Rattle.rs_base.specs.Name as spec;
@@ -6,8 +6,8 @@ ghost use Rattle.rs_base.specs.Name as spec;
 use crate::ident::Ident;
 use crate::site_no::SiteNo;
 
-/// A name as a statement writes it: `creator@creator_site.object@birth`, of which the object alone is needed.
-#[derive(Clone, Copy, Debug, PartialEq, Eq)]
+/// A name as a statement writes it: `creator@creator_site.object@birth`, where only the object is required.
+#[derive(Clone, Copy)]
 pub struct NameText {
     pub creator: Option<Ident>,
     pub creator_site: Option<SiteNo>,
@@ -15,9 +15,9 @@ pub struct NameText {
     pub birth: Option<SiteNo>,
 }
 
-/// A system-wide name (Lindsay 1981): who created the object, at which site that user was, the object, and its birth
-/// site, where it was created. It never changes, wherever the object is moved. Names are ordered by these fields.
-#[derive(Clone, Copy, Debug, PartialEq, Eq, PartialOrd, Ord)]
+/// A system-wide name (Lindsay 1981): the creator, the creator's site, the object, and its birth site, where it was
+/// created. It never changes, wherever the object is moved. Names are ordered by these fields.
+#[derive(Clone, Copy, PartialEq, Eq, PartialOrd, Ord)]
 pub struct Swn {
     pub creator: Ident,
     pub creator_site: SiteNo,
@@ -26,7 +26,7 @@ pub struct Swn {
 }
 
 impl NameText {
-    /// The name of one identifier alone.
+    /// Makes a name of one identifier.
     pub fn plain(object: Ident) -> NameText
         ensures { result ≡ spec.plain object }
     {
@@ -38,7 +38,7 @@ impl NameText {
         }
     }
 
-    /// The system-wide name that this stands for where `user` asks at `site` and has no synonym of that name.
+    /// Returns the system-wide name for `user` at `site`, without regard to synonyms.
     pub fn resolve(&self, user: Ident, site: SiteNo) -> Swn
         ensures { result ≡ spec.resolve self.now user site }
     {

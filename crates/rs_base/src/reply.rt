@@ -1,4 +1,4 @@
-//! What a site answers.
+//! Answers and replies.
 
 ghost use Rattle.std.specs.Prelude.{◌≡◌, IfOk, take};
 
@@ -12,8 +12,8 @@ use crate::value::{Row, Rows, copy_row};
 use sqlite_items::Items;
 use std::alloc::Global;
 
-/// Why an execution was denied. It is committed and changed nothing.
-#[derive(Clone, Copy, Debug, PartialEq, Eq)]
+/// The cause of a denial. A denied execution is committed and changed nothing.
+#[derive(Clone, Copy)]
 pub enum Denial {
     NoTable,
     NoColumn,
@@ -34,58 +34,58 @@ pub enum Denial {
 }
 
 /// The answer of one statement.
-#[derive(Debug, Drop)]
+#[derive(Drop)]
 pub enum Answer {
-    /// It was done.
+    /// The statement was carried out.
     Ok,
-    /// So many rows were put in, changed or taken out.
+    /// The number of rows inserted, updated or deleted.
     Changed(u64),
-    /// These rows were asked for.
+    /// The rows of a query.
     Rows(Rows),
 }
 
 pub type Answers = Items<Answer>;
 
-/// Why an execution failed. It isn't in the history and never will be.
-#[derive(Clone, Copy, Debug, PartialEq, Eq)]
+/// The reason of a failure. A failed execution isn't in the history and never will be.
+#[derive(Clone, Copy)]
 pub enum Reason {
-    /// A lock at a site was waited for in vain, since another held it.
+    /// A lock wait at a site ended, since another held the lock.
     LockBudget {
         site: SiteNo,
         what: Resource,
         holder: Enlist,
     },
-    /// A site gave no answer.
+    /// A site gave no answer in time.
     NoAnswer {
         site: SiteNo,
     },
-    /// A site lost its part.
+    /// A site lost its part of the transaction.
     SiteLost {
         site: SiteNo,
     },
 }
 
-/// Lines of text, without their line feeds.
+/// Lines of text, without line feeds.
 pub type Lines = Items<Bytes>;
 
-/// What a request is answered.
-#[derive(Debug, Drop)]
+/// The reply to a request.
+#[derive(Drop)]
 pub enum Reply {
-    /// The execution is committed; an answer for each statement.
+    /// The execution is committed; one answer per statement.
     Done(Answers),
     /// The execution is committed and changed nothing.
     Denied(Denial),
     /// The execution isn't in the history and never will be.
     Failed(Reason),
-    /// What the request asked to see; it isn't in the history.
+    /// What an EXPLAIN or SHOW asked for; it isn't in the history.
     Shown(Lines),
-    /// The text is no request; the place of its first byte that can't stand there.
+    /// The text has no parse; the byte offset of the fault.
     Syntax(u32),
-    /// The request was asked of another epoch than the site's; the site's epoch.
+    /// The request names another epoch than the site's; carries the site's epoch.
     OldEpoch(u32),
-    /// The request's number is below the user's last; the last.
+    /// The request's number is below the user's last; carries the last.
     OldRequest(u64),
-    /// The request's number is too far above the user's last, or the last isn't answered yet; the last.
+    /// The request's number is above the user's next, or the last is unanswered; carries the last.
     Gap(u64),
 }
 

@@ -1,4 +1,4 @@
-//! Lists that take memory once.
+//! Lists with their memory allocated once.
 
 ghost use Rattle.std.specs.Prelude.{◌≡◌, [], ◌∷◌, IfOk};
 
@@ -6,7 +6,7 @@ use crate::fault::NoMemory;
 use sqlite_items::Items;
 use std::alloc::Global;
 
-/// No items, with room for so many.
+/// Makes an empty list with capacity for `room` items.
 pub fn with_room<T>(alloc: Global, room: usize) -> Result<Items<T>, NoMemory>
     ensures { IfOk result (λ items. items ≡ []) }
 {
@@ -14,7 +14,7 @@ pub fn with_room<T>(alloc: Global, room: usize) -> Result<Items<T>, NoMemory>
     Ok(Items::from_vec(items))
 }
 
-/// One item alone, with room for no other.
+/// Makes a list of one item, with capacity for no other.
 pub fn one_item<T: Drop>(alloc: Global, item: T) -> Result<Items<T>, NoMemory>
     ensures { IfOk result (λ items. items ≡ item ∷ []) }
 {

@@ -1,11 +1,11 @@
-//! The number of a site.
+//! Site numbers.
 
 ghost use Rattle.std.specs.Prelude.{◌≡◌, ◌≤◌, ◌==◌, SomeIff};
 
 use std::marker::Model;
 
-/// The number of a site, from 1 to 16.
-#[derive(Clone, Copy, PartialEq, Eq, PartialOrd, Ord, Debug)]
+/// A site number, from 1 to 16.
+#[derive(Clone, Copy, PartialEq, Eq, PartialOrd, Ord)]
 pub struct SiteNo {
     number: u16,
 }
@@ -23,7 +23,7 @@ impl Model for SiteNo {
 }
 
 impl SiteNo {
-    /// The site of this number, or `None` where it is 0 or above 16.
+    /// Returns the site of this number; `None` exactly if it is 0 or above 16.
     pub fn new(n: u16) -> Option<SiteNo>
         ensures { SomeIff result ((1 ≤ n) × (n ≤ 16)) n }
     {

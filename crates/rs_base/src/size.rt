@@ -1,11 +1,11 @@
-//! How many bytes the spelling of a row takes.
+//! The encoded size of a row.
 
 ghost use Rattle.std.specs.Prelude.{◌≡◌, ◌≤◌, ◌+◌, ◌-◌, ◌^◌, min, take};
 ghost use Rattle.rs_base.specs.Sizes as spec;
 
 use crate::value::Value;
 
-/// The place of an integer among 0, -1, 1, -2, 2 and so on, which stands for it in its spelling.
+/// The zigzag number of an integer: its index among 0, -1, 1, -2, 2 and so on.
 pub fn count_of(n: i64) -> u64
     ensures { result ≡ spec.count_of n }
 {
@@ -43,9 +43,8 @@ fn value_size(value: &Value) -> u64
     }
 }
 
-/// How many bytes the spellings of a row's values take, and no more than the greatest `u64`. A value is spelled as a
-/// byte that tells its kind, and then an integer, or a text behind the count of its bytes; a number takes a byte for
-/// each seven bits.
+/// Returns the number of bytes that a row's values take encoded, at most 2 ^ 64 - 1. A value is a byte for its kind and
+/// then an integer (zigzag, LEB128) or a text after its length; a number takes a byte for each seven bits.
 pub fn row_size(row: &[Value]) -> u64
     ensures { result ≡ min (spec.row_size row.now) (2 ^ 64 - 1) }
 {

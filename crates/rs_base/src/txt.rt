@@ -14,9 +14,9 @@ use std::cmp::Ordering;
 use std::marker::Model;
 use thiserror::Error;
 
-/// A text value: at most 255 bytes of UTF-8 without control characters (bytes below 0x20, and 0x7F). It lies behind
-/// one pointer, so that a value, an integer or a text, takes two words and not four: tables hold many integers.
-#[derive(Debug, Drop)]
+/// A text value: at most 255 bytes of UTF-8 without control characters (bytes below 0x20, and 0x7F). It is one pointer
+/// to the heap, so that a value, an integer or a text, takes two machine words and not four: tables hold many integers.
+#[derive(Drop)]
 pub struct Txt {
     bytes: Box<Vec<u8>>,
 }
@@ -32,7 +32,7 @@ impl Model for Txt {
     ghost invariant = { λ text. IsTrue (is_txt text.bytes.value.items) };
 }
 
-/// Why bytes did not become a text value.
+/// Why bytes aren't a text value.
 #[derive(Clone, Copy, Debug, PartialEq, Eq, Error)]
 pub enum TxtFault {
     #[error("no text value has these bytes")]
@@ -53,7 +53,7 @@ fn are_text_bytes(bytes: &[u8]) -> bool
     bytes.iter().all(|byte| is_text_byte(*byte))
 }
 
-/// Whether these bytes are UTF-8.
+/// Returns whether these bytes are UTF-8.
 pub fn is_utf8(bytes: &[u8]) -> bool
     ensures { result ≡ spec.is_utf8 bytes.now }
 {
@@ -69,7 +69,7 @@ fn is_txt(bytes: &[u8]) -> bool
     bytes.len() <= 255 && is_utf8(bytes) && are_text_bytes(bytes)
 }
 
-/// A copy of these bytes, behind one pointer.
+/// Copies these bytes to the heap.
 fn boxed(alloc: Global, bytes: &[u8]) -> Result<Box<Vec<u8>>, NoMemory>
     ensures { IfOk result (λ held. held.value.items ≡ bytes.now) }
 {
@@ -78,7 +78,7 @@ fn boxed(alloc: Global, bytes: &[u8]) -> Result<Box<Vec<u8>>, NoMemory>
 }
 
 impl Txt {
-    /// The text value of these bytes.
+    /// Makes a text value of these bytes.
     pub fn new(alloc: Global, bytes: &[u8]) -> Result<Txt, TxtFault>
         ensures text { IfOk result (λ text. text ≡ bytes.now) }
         ensures bad { IsErrOf result TxtFault.Bad ↔ IsFalse (spec.is_txt bytes.now) }

@@ -1,4 +1,4 @@
-//! The values that tables hold.
+//! Values, their kinds, and rows.
 
 ghost use Rattle.std.specs.Prelude.{◌≡◌, IfOk, take};
 ghost use Rattle.rs_base.specs.Value as spec;
@@ -9,8 +9,8 @@ use crate::txt::Txt;
 use sqlite_items::Items;
 use std::alloc::Global;
 
-/// A value. Each integer is below each text; integers are ordered by value, texts by their bytes. It takes two words.
-#[derive(Debug, PartialEq, Eq, PartialOrd, Ord, Drop)]
+/// A value. Each integer is below each text; integers are ordered by value, texts by their bytes. It takes two machine words.
+#[derive(PartialEq, Eq, PartialOrd, Ord, Drop)]
 pub enum Value {
     Int(i64),
     Text(Txt),
@@ -18,19 +18,19 @@ pub enum Value {
 
 const _: () = prove!(size_of::<Value>() == 16);
 
-/// What a column holds.
-#[derive(Clone, Copy, Debug, PartialEq, Eq)]
+/// The type of a column.
+#[derive(Clone, Copy)]
 pub enum Kind {
     Int,
     Text,
 }
 
-/// The values of one row, a value for each column.
+/// The values of one row, one for each column.
 pub type Row = Items<Value>;
 
 pub type Rows = Items<Row>;
 
-/// Rows, each with its number in its table.
+/// Rows, each with its row number.
 pub type NumberedRows = Items<(u64, Row)>;
 
 impl Value {
@@ -53,7 +53,7 @@ impl Value {
     }
 }
 
-/// A copy of a row.
+/// Copies a row.
 pub fn copy_row(alloc: Global, row: &[Value]) -> Result<Row, NoMemory>
     ensures { IfOk result (λ copy. copy ≡ row.now) }
 {

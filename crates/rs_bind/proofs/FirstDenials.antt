@@ -1,4 +1,4 @@
--- The first denial of tests that stand one behind the other.
+-- The first denial of tests, one after the other.
 use Rattle.std.proofs.Common.{◌≡◌, ℕ, ◌+◌, ◌<◌, ◌≤◌, true, false, cond, List, [], ◌∷◌, ◌++◌, length, get_or, drop, Option, Some, None, is_some, refl, sym, ap, ◌∙◌}
 use Rattle.std.specs.Prelude.{flat_map, MatchOption}
 use Rattle.std.specs.Option.{option_or}
@@ -12,7 +12,7 @@ first_denial-append (first ∷ one) other =
     elim (first.fails) as (λ b. cond b (Some first.cause) (first_denial (one ++ other)) ≡ option_or (cond b (Some first.cause) (first_denial one)) (first_denial other))
     [ true ↦ refl | false ↦ first_denial-append one other ]
 
--- where the first tests deny nothing, the others tell
+-- if the first tests deny nothing, the others decide
 pub first_or_other : (one other : List Test) (first both : Option Denial) → first ≡ first_denial one
     → MatchOption first (both ≡ first_denial other) (λ cause. both ≡ Some cause) → both ≡ first_denial (one ++ other)
 first_or_other one other None both first_is both_is = both_is ∙ ap (λ (found : Option Denial). option_or found (first_denial other)) first_is ∙ sym (first_denial-append one other)

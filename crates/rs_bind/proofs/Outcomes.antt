@@ -1,4 +1,4 @@
--- What is bound, where something is, is over its entries.
+-- What is bound without a denial is over its entries.
 use Rattle.std.proofs.Common.{◌≡◌, List, length, Result, Ok, Err, Some}
 use Rattle.std.specs.Prelude.{IfOk}
 use Rattle.rs_base.specs.declared.fault.NoMemory.{NoMemory}

@@ -26,7 +26,7 @@ use Rattle.rs_bind.specs.Binding.{unless_denied, bound_select, bound_clauses, bo
 use Rattle.rs_bind.specs.Denials.{test, all_differ, column_tests, items_tests, key_tests, first_denial, names_tests, grouping_test, keys_tests, select_tests, insert_tests, sets_tests, clauses_tests, update_tests, delete_tests}
 use Rattle.rs_bind.specs.Entries.{defined, heading_of, headings_of}
 use Rattle.rs_bind.specs.Laws.{BoundIsOver}
-use Rattle.rs_bind.specs.Scope.{as_place, aliases_of, query_scope, scope_column, table_scope}
+use Rattle.rs_bind.specs.Scope.{as_u16, aliases_of, query_scope, scope_column, table_scope}
 use Rattle.rs_bind.proofs.OverChanges.{rows_over, sets_over}
 use Rattle.rs_bind.proofs.OverClauses.{clauses_over}
 use Rattle.rs_bind.proofs.OverScope.{kinds_in, table_kinds, query_kinds, IsNarrow, kinds_are_few}
@@ -46,12 +46,12 @@ length-aliases (ref ∷ refs) [] long = absurd (omega arith)
 length-aliases (ref ∷ refs) (entry ∷ entries) long = let rest = length-aliases refs entries (omega arith) in omega arith
 
 widths_are : (entries : List Entry) → All IsNarrow entries
-    → map (λ (heading : Heading). as_place (length heading.columns)) (headings_of entries) ≡ map (λ (entry : Entry). length entry.columns) entries
+    → map (λ (heading : Heading). as_u16 (length heading.columns)) (headings_of entries) ≡ map (λ (entry : Entry). length entry.columns) entries
 widths_are [] narrow = refl
 widths_are (entry ∷ entries) narrow =
     let first : length entry.columns ≤ 16 = All-head IsNarrow entry entries narrow in
     let mapped = length-map entry.columns defined in
-    let width : as_place (length (map defined entry.columns)) ≡ length entry.columns = omega arith in
+    let width : as_u16 (length (map defined entry.columns)) ≡ length entry.columns = omega arith in
     ap₂ (λ (one : ℕ) (others : List ℕ). one ∷ others) width (widths_are entries (All-tail IsNarrow entry entries narrow))
 
 -- what isn't denied is bound to this

@@ -1,4 +1,4 @@
--- Rows and sets that are not denied fit the columns.
+-- Rows and assignments that are not denied fit the columns.
 use Rattle.std.proofs.Common.{◌≡◌, ℕ, ◌≤◌, Bool, true, false, not, ◌&&◌, List, [], ◌∷◌, ◌++◌, map, length, Option, Some, None, IsTrue, refl, ap, ◌∙◌, arith}
 use Rattle.std.specs.Prelude.{◌==◌, bytes_eq, flat_map}
 use Rattle.std.specs.Cmp.Lexicographic.{pointwise}
@@ -15,17 +15,17 @@ use Rattle.rs_ast.specs.declared.change.Term.TheVariants as terms
 use Rattle.rs_ast.specs.declared.bound.BoundTerm.{BoundTerm}
 use Rattle.rs_plan.specs.Kinds.{kinds_fit, same_kind}
 use Rattle.rs_plan.specs.Over as over
-use Rattle.rs_plan.specs.Over.{more_fits, set_kind, set_fits, set_fits_kind, term_is_place}
+use Rattle.rs_plan.specs.Over.{more_fits, set_kind, set_fits, set_fits_kind, term_is_column}
 use Rattle.rs_bind.specs.declared.scope.Param.{Param}
 use Rattle.rs_bind.specs.declared.scope.ScopeColumn.{ScopeColumn}
 use Rattle.rs_bind.specs.Binding.{bound_term, bound_set, bound_rows}
 use Rattle.rs_bind.specs.Denials.{test, first_denial, term_fits, row_fits, given_tests, row_tests, insert_tests, term_tests, term_kind, more_tests, expr_fits, set_tests, sets_tests}
-use Rattle.rs_bind.specs.Scope.{as_position, named_count, place_of, unqualified, column_kind}
+use Rattle.rs_bind.specs.Scope.{as_position, named_count, column_index_of, unqualified, column_kind}
 use Rattle.rs_bind.proofs.OverClauses.{fits_any}
-use Rattle.rs_bind.proofs.OverScope.{kinds_in, kind_known, place_kind, place_there, place_within}
+use Rattle.rs_bind.proofs.OverScope.{kinds_in, kind_known, column_index_kind, column_index_there, column_index_within}
 use Rattle.rs_bind.proofs.OverTests.{first_passes, both_pass, each_passes}
 
--- ---- rows that are put in
+---- inserted rows
 
 module _ (scope : List ScopeColumn) (params : List Param) where
   term_is_given : (term : Term) (column : ScopeColumn) → term_fits params term column ≡ true → over.is_given (bound_term scope params term) ≡ true
@@ -68,7 +68,7 @@ module _ (scope : List ScopeColumn) (params : List Param) where
       → IsTrue (list_all (over.row_fits (kinds_in scope)) (bound_rows scope params rows))
   rows_over rows passes = each_passes (map (bound_term scope params)) (over.row_fits (kinds_in scope)) (row_tests scope params) row_over rows passes
 
--- ---- sets
+---- assignments
 
 own_kind : (kind : Kind) → same_kind kind kind ≡ true
 own_kind kinds.Int = refl
@@ -82,15 +82,15 @@ module _ (scope : List ScopeColumn) (params : List Param) (small : length scope 
   few : length scope ≤ 96
   few = omega arith
 
-  term_there : (term : Term) → first_denial (term_tests scope params term) ≡ None → term_is_place (kinds_in scope) (bound_term scope params term) ≡ true
+  term_there : (term : Term) → first_denial (term_tests scope params term) ≡ None → term_is_column (kinds_in scope) (bound_term scope params term) ≡ true
   term_there (terms.Col name) passes =
-      place_there scope (unqualified name) (first_passes (test (named_count scope (unqualified name) == 0) denials.NoColumn) [] passes).0
+      column_index_there scope (unqualified name) (first_passes (test (named_count scope (unqualified name) == 0) denials.NoColumn) [] passes).0
   term_there (terms.Lit value) passes = refl
   term_there (terms.Param name) passes = refl
 
   term_of_kind : (kind : Option Kind) (term : Term) → kinds_fit kind (term_kind scope params term) ≡ true
       → kinds_fit kind (over.term_kind (kinds_in scope) (bound_term scope params term)) ≡ true
-  term_of_kind kind (terms.Col name) fits = ap (kinds_fit kind) (place_kind scope few (unqualified name)) ∙ fits
+  term_of_kind kind (terms.Col name) fits = ap (kinds_fit kind) (column_index_kind scope few (unqualified name)) ∙ fits
   term_of_kind kind (terms.Lit value) fits = fits
   term_of_kind kind (terms.Param name) fits = fits_any kind
 
@@ -121,13 +121,13 @@ module _ (scope : List ScopeColumn) (params : List Param) (small : length scope 
     set_of_kind (Some kind) known passes rest fits = expr_over kind set.expr.first set.expr.more passes rest fits
 
     abbrev column : ℕ
-    column = place_of scope (unqualified set.column)
+    column = column_index_of scope (unqualified set.column)
 
     column_is : (named_count scope (unqualified set.column) == 0) ≡ false → slice_get (kinds_in scope) (as_position column) ≡ column_kind scope (unqualified set.column)
     column_is named =
-        let within = place_within scope (unqualified set.column) named in
-        let place : as_position column ≡ column = omega arith in
-        ap (slice_get (kinds_in scope)) place ∙ place_kind scope few (unqualified set.column)
+        let within = column_index_within scope (unqualified set.column) named in
+        let column_index : as_position column ≡ column = omega arith in
+        ap (slice_get (kinds_in scope)) column_index ∙ column_index_kind scope few (unqualified set.column)
 
     set_over : (before : List Set) → first_denial (set_tests scope params before set) ≡ None → set_fits (kinds_in scope) (bound_set scope params set) ≡ true
     set_over before passes =
@@ -136,11 +136,11 @@ module _ (scope : List ScopeColumn) (params : List Param) (small : length scope 
         let fitting = test (not (expr_fits scope params kind set.expr.first set.expr.more)) denials.WrongType in
         let there = test (named_count scope (unqualified set.column) == 0) denials.NoColumn in
         let once = test (list_any (λ (other : Set). bytes_eq other.column set.column) before) denials.TwoColumns in
-        let front = both_pass (there ∷ once ∷ terms) (fitting ∷ []) passes in
-        let first = first_passes there (once ∷ terms) front.0 in
+        let prefix = both_pass (there ∷ once ∷ terms) (fitting ∷ []) passes in
+        let first = first_passes there (once ∷ terms) prefix.0 in
         let second = first_passes once terms first.1 in
         let both = both_pass (term_tests scope params set.expr.first) (more_tests scope params set.expr.more) second.1 in
-        let fits = not-false _ (first_passes fitting [] front.1).0 in
+        let fits = not-false _ (first_passes fitting [] prefix.1).0 in
         ap (set_fits_kind (kinds_in scope) (bound_set scope params set)) (column_is first.0)
         ∙ set_of_kind kind (kind_known scope few (unqualified set.column) first.0) both.0 both.1 fits
 

@@ -1,4 +1,4 @@
--- The columns of a statement against those of its entries: a column that is there has its place, and its kind there.
+-- The columns of a statement against those of its entries: a column that is there has its index, and its kind there.
 use Rattle.std.proofs.Common.{◌≡◌, ℕ, zero, suc, ◌+◌, ◌*◌, ◌<◌, ◌≤◌, Bool, true, false, cond, not, ◌&&◌, ◌||◌, List, [], ◌∷◌, ◌++◌, map, length, None, refl, sym, ap, ap₂, ◌∙◌, append-nil, arith, lt-ltb, length-append}
 use Rattle.std.specs.Prelude.{◌==◌, nat_lt, count_by, All}
 use Rattle.std.specs.List.{list_any, list_all, position_or_len, slice_get}
@@ -14,11 +14,11 @@ use Rattle.rs_ast.specs.declared.column.ColRef.{ColRef}
 use Rattle.rs_ast.specs.declared.entry.Column.{Column}
 use Rattle.rs_ast.specs.declared.entry.Entry.{Entry}
 use Rattle.rs_ast.specs.declared.select.TableRef.{TableRef}
-use Rattle.rs_plan.specs.Over.{kinds_of, is_place}
+use Rattle.rs_plan.specs.Over.{kinds_of, is_column_index}
 use Rattle.rs_bind.specs.declared.scope.ScopeColumn.{ScopeColumn}
 use Rattle.rs_bind.specs.Denials.{column_tests, first_denial, test}
 use Rattle.rs_bind.specs.Entries.{defined, heading_of, headings_of}
-use Rattle.rs_bind.specs.Scope.{columns_as, alias_of, query_scope, table_scope, is_named, named_count, place_of, column_kind}
+use Rattle.rs_bind.specs.Scope.{columns_as, alias_of, query_scope, table_scope, is_named, named_count, column_index_of, column_kind}
 use Rattle.rs_bind.proofs.OverTests.{first_passes}
 
 -- ---- the kinds of the columns
@@ -29,7 +29,7 @@ kinds_in scope = map (λ (column : ScopeColumn). column.kind) scope
 abbrev pub entry_kinds : Entry → List Kind
 entry_kinds entry = map (λ (column : Column). column.kind) entry.columns
 
--- a table's columns have the kinds that its entry tells, whatever the table goes by
+-- a table's columns have the kinds of its entry, whatever its alias
 kinds_as : (alias : List ℕ) (columns : List Column) → kinds_in (columns_as alias (map defined columns)) ≡ map (λ (column : Column). column.kind) columns
 kinds_as alias [] = refl
 kinds_as alias (column ∷ columns) = ap (λ (kinds : List Kind). column.kind ∷ kinds) (kinds_as alias columns)
@@ -45,7 +45,7 @@ query_kinds (ref ∷ refs) (entry ∷ entries) long =
     map-append (λ (column : ScopeColumn). column.kind) (columns_as (alias_of ref (heading_of entry)) (map defined entry.columns)) (query_scope refs (headings_of entries))
     ∙ ap₂ (λ (ones others : List Kind). ones ++ others) (kinds_as (alias_of ref (heading_of entry)) entry.columns) (query_kinds refs entries (omega arith))
 
--- ---- how many columns there are
+---- the number of columns
 
 abbrev pub IsNarrow : Entry → Type 0
 IsNarrow entry = length entry.columns ≤ 16
@@ -59,10 +59,10 @@ kinds_are_few (entry ∷ entries) narrow =
     let mapped = length-map entry.columns (λ (column : Column). column.kind) in
     omega arith
 
--- ---- the place of a column
+---- the index of a column
 
 module _ {X : Type 0} (p : X → Bool) where
-  -- one that passes has its place
+  -- one that passes has its index
   pub any_found : (xs : List X) → list_any p xs ≡ true → position_or_len p xs < length xs
   any_found [] = λ e. absurd cc
   any_found (x ∷ xs) =
@@ -84,37 +84,37 @@ get_within (x ∷ xs) zero within e = cc
 get_within (x ∷ xs) (suc i) within e = get_within xs i (omega arith) e
 
 module _ (scope : List ScopeColumn) where
-  -- a column that is there has a place among them
-  pub place_within : (written : ColRef) → (named_count scope written == 0) ≡ false → place_of scope written < length scope
-  place_within written named = let found = some_found (is_named written) scope named in omega arith
+  -- a column that is there has an index among them
+  pub column_index_within : (written : ColRef) → (named_count scope written == 0) ≡ false → column_index_of scope written < length scope
+  column_index_within written named = let found = some_found (is_named written) scope named in omega arith
 
-  pub place_there : (written : ColRef) → (named_count scope written == 0) ≡ false → is_place (kinds_in scope) (place_of scope written) ≡ true
-  place_there written named =
-      let within = place_within written named in
+  pub column_index_there : (written : ColRef) → (named_count scope written == 0) ≡ false → is_column_index (kinds_in scope) (column_index_of scope written) ≡ true
+  column_index_there written named =
+      let within = column_index_within written named in
       let mapped = length-map scope (λ (column : ScopeColumn). column.kind) in
-      lt-ltb (place_of scope written) (length (kinds_in scope)) (omega arith)
+      lt-ltb (column_index_of scope written) (length (kinds_in scope)) (omega arith)
 
-  pub column_there : (written : ColRef) → first_denial (column_tests scope written) ≡ None → is_place (kinds_in scope) (place_of scope written) ≡ true
+  pub column_there : (written : ColRef) → first_denial (column_tests scope written) ≡ None → is_column_index (kinds_in scope) (column_index_of scope written) ≡ true
   column_there written passes =
-      place_there written
+      column_index_there written
       (first_passes (test (named_count scope written == 0) denials.NoColumn) (test (nat_lt 1 (named_count scope written)) denials.TwoColumns ∷ []) passes).0
 
-  -- the kind at a column's place is its kind, where there are few columns
+  -- the kind at a column's index is its kind, if there are few columns
   module _ (small : length scope ≤ 96) where
-    place_is : (written : ColRef) → place_of scope written ≡ position_or_len (is_named written) scope
-    place_is written =
+    column_index_is : (written : ColRef) → column_index_of scope written ≡ position_or_len (is_named written) scope
+    column_index_is written =
         let most = prefix_len-le-length (λ column. not (is_named written column)) scope in
         omega arith
 
-    pub place_kind : (written : ColRef) → slice_get (kinds_in scope) (place_of scope written) ≡ column_kind scope written
-    place_kind written =
-        ap (slice_get (kinds_in scope)) (place_is written)
+    pub column_index_kind : (written : ColRef) → slice_get (kinds_in scope) (column_index_of scope written) ≡ column_kind scope written
+    column_index_kind written =
+        ap (slice_get (kinds_in scope)) (column_index_is written)
         ∙ slice_get-map (λ (column : ScopeColumn). column.kind) scope (position_or_len (is_named written) scope)
         ∙ ap (option_map (λ (column : ScopeColumn). column.kind)) (sym (find_at (is_named written) scope))
 
     -- a column that is there has a kind
     pub kind_known : (written : ColRef) → (named_count scope written == 0) ≡ false → column_kind scope written ≡ None → ⊥
     kind_known written named none =
-        let within = place_within written named in
+        let within = column_index_within written named in
         let mapped = length-map scope (λ (column : ScopeColumn). column.kind) in
-        get_within (kinds_in scope) (place_of scope written) (omega arith) (place_kind written ∙ none)
+        get_within (kinds_in scope) (column_index_of scope written) (omega arith) (column_index_kind written ∙ none)

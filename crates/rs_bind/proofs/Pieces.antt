@@ -1,4 +1,4 @@
--- The tests of one of several, where the definition of all has no name for them.
+-- The tests of one of several, for which the definition of all has no name.
 use Rattle.std.proofs.Common.{List}
 use Rattle.std.specs.Prelude.{flat_map}
 use Rattle.rs_ast.specs.declared.clause.Clause.{Clause}

@@ -1,4 +1,4 @@
--- The first denial of sets, each of which is tested behind those before it.
+-- The first denial of assignments, each of which is tested after those before it.
 use Rattle.std.proofs.Common.{◌≡◌, ℕ, ◌+◌, ◌<◌, ◌≤◌, true, false, List, [], ◌∷◌, ◌++◌, length, get_or, take, drop, Option, Some, None, is_some, sym, ap, ◌∙◌}
 use Rattle.std.specs.Option.{option_or}
 use Rattle.std.proofs.lemmas.List.{drop_more, take_more, drop_all}
@@ -10,27 +10,27 @@ use Rattle.rs_bind.specs.Denials.{first_denial, set_tests, sets_tests}
 use Rattle.rs_bind.proofs.FirstDenials.{first_denial-append}
 
 module _ (scope : List ScopeColumn) (params : List Param) (sets : List Set) where
-  -- the first denial from this set on
+  -- the first denial from this assignment on
   abbrev pub first_from : ℕ → Option Denial
   first_from i = first_denial (sets_tests scope params (take i sets) (drop i sets))
 
   one_more : (i : ℕ) (set : Set) → i < length sets → set ≡ get_or sets i set
       → first_from i ≡ option_or (first_denial (set_tests scope params (take i sets) set)) (first_from (i + 1))
   one_more i set inside here =
-      let front : take i sets ++ set ∷ [] ≡ take (i + 1) sets = ap (λ x. take i sets ++ x ∷ []) here ∙ sym (take_more sets i set inside) in
+      let prefix : take i sets ++ set ∷ [] ≡ take (i + 1) sets = ap (λ x. take i sets ++ x ∷ []) here ∙ sym (take_more sets i set inside) in
       let rest : drop i sets ≡ set ∷ drop (i + 1) sets = drop_more sets i set inside ∙ ap (λ x. x ∷ drop (i + 1) sets) (sym here) in
       ap (λ xs. first_denial (sets_tests scope params (take i sets) xs)) rest
       ∙ first_denial-append (set_tests scope params (take i sets) set) (sets_tests scope params (take i sets ++ set ∷ []) (drop (i + 1) sets))
-      ∙ ap (λ before. option_or (first_denial (set_tests scope params (take i sets) set)) (first_denial (sets_tests scope params before (drop (i + 1) sets)))) front
+      ∙ ap (λ before. option_or (first_denial (set_tests scope params (take i sets) set)) (first_denial (sets_tests scope params before (drop (i + 1) sets)))) prefix
 
-  -- the tests of this set deny nothing, and the others are still to come
+  -- the tests of this assignment deny nothing, and the others are still to come
   pub set_passed : (i : ℕ) (set : Set) (denial total : Option Denial) → i < length sets → set ≡ get_or sets i set
       → denial ≡ first_denial (set_tests scope params (take i sets) set) → is_some denial ≡ false → first_from i ≡ total → first_from (i + 1) ≡ total
   set_passed i set (Some cause) total inside here is passed so_far = absurd cc
   set_passed i set None total inside here is passed so_far =
       sym (one_more i set inside here ∙ ap (λ (found : Option Denial). option_or found (first_from (i + 1))) (sym is)) ∙ so_far
 
-  -- the tests of this set deny
+  -- the tests of this assignment deny
   pub set_denied : (i : ℕ) (set : Set) (denial total : Option Denial) → i < length sets → set ≡ get_or sets i set
       → denial ≡ first_denial (set_tests scope params (take i sets) set) → is_some denial ≡ true → first_from i ≡ total → denial ≡ total
   set_denied i set None total inside here is denied so_far = absurd cc

@@ -1,4 +1,4 @@
--- A statement with places for columns and positions for parameters. It says something of a statement that isn't denied.
+-- A statement with column indexes for names and positions for parameters. It is meant for a statement that isn't denied.
 use Rattle.std.specs.Prelude.{ℕ, ◌-◌, ◌==◌, Bool, false, List, [], ◌∷◌, map, length, Option, Some, None, option_map, Result, Ok, Err}
 use Rattle.std.specs.List.{position_or_len, range_with_len}
 use Rattle.rs_base.specs.declared.reply.Denial.{Denial}
@@ -33,17 +33,17 @@ use Rattle.rs_bind.specs.declared.heading.Heading.{Heading}
 use Rattle.rs_bind.specs.declared.scope.Param.{Param}
 use Rattle.rs_bind.specs.declared.scope.ScopeColumn.{ScopeColumn}
 use Rattle.rs_bind.specs.Denials.{is_grouped, first_denial, select_tests, insert_tests, update_tests, delete_tests}
-use Rattle.rs_bind.specs.Scope.{as_place, as_position, place_of, unqualified, param_place, aliases_of, query_scope, table_scope}
+use Rattle.rs_bind.specs.Scope.{as_u16, as_position, column_index_of, unqualified, param_index, aliases_of, query_scope, table_scope}
 
--- ---- clauses
+---- predicates
 
 abbrev pub bound_side : List ScopeColumn → List Param → Operand → BoundSide
-bound_side scope params (operands.Col written) = sides.Place (place_of scope written)
+bound_side scope params (operands.Col written) = sides.Place (column_index_of scope written)
 bound_side scope params (operands.Lit value) = sides.Lit value
-bound_side scope params (operands.Param name) = sides.Param (param_place params name)
+bound_side scope params (operands.Param name) = sides.Param (param_index params name)
 
 abbrev pub bound_cmp : List ScopeColumn → List Param → Cmp → BoundCmp
-bound_cmp scope params cmp = record { left = place_of scope cmp.left; op = cmp.op; right = bound_side scope params cmp.right }
+bound_cmp scope params cmp = record { left = column_index_of scope cmp.left; op = cmp.op; right = bound_side scope params cmp.right }
 
 abbrev pub bound_clauses : List ScopeColumn → List Param → List Clause → List (List BoundCmp)
 bound_clauses scope params clauses = map (λ clause. map (bound_cmp scope params) clause.any) clauses
@@ -51,28 +51,28 @@ bound_clauses scope params clauses = map (λ clause. map (bound_cmp scope params
 -- ---- SELECT
 
 abbrev pub shape_item : List ScopeColumn → Item → ShapeItem
-shape_item scope (items.Col written) = shape_items.Col (place_of scope written)
+shape_item scope (items.Col written) = shape_items.Col (column_index_of scope written)
 shape_item scope items.Count = shape_items.Count
-shape_item scope (items.Sum written) = shape_items.Sum (place_of scope written)
-shape_item scope (items.Min written) = shape_items.Min (place_of scope written)
-shape_item scope (items.Max written) = shape_items.Max (place_of scope written)
+shape_item scope (items.Sum written) = shape_items.Sum (column_index_of scope written)
+shape_item scope (items.Min written) = shape_items.Min (column_index_of scope written)
+shape_item scope (items.Max written) = shape_items.Max (column_index_of scope written)
 
--- the items; `*` stands for every column of the tables, in their order
+-- the items; `*` is every column of the tables, in their order
 abbrev pub items_shown : List ScopeColumn → Option (List Item) → List ShapeItem
-items_shown scope None = map (λ place. shape_items.Col (as_place place)) (range_with_len 0 (length scope))
+items_shown scope None = map (λ column_index. shape_items.Col (as_u16 column_index)) (range_with_len 0 (length scope))
 items_shown scope (Some shown) = map (shape_item scope) shown
 
-abbrev pub shows_place : ℕ → ShapeItem → Bool
-shows_place place (shape_items.Col other) = other == place
-shows_place place shape_items.Count = false
-shows_place place (shape_items.Sum other) = false
-shows_place place (shape_items.Min other) = false
-shows_place place (shape_items.Max other) = false
+abbrev pub shows_column : ℕ → ShapeItem → Bool
+shows_column column_index (shape_items.Col other) = other == column_index
+shows_column column_index shape_items.Count = false
+shows_column column_index (shape_items.Sum other) = false
+shows_column column_index (shape_items.Min other) = false
+shows_column column_index (shape_items.Max other) = false
 
--- the item that a key names, counted from 0: the first one that is its column, or that of its number, which counts from 1
+-- the item that a key names, counted from 0: the first one that is its column, or that of its ordinal, which counts from 1
 abbrev pub key_item : List ScopeColumn → List ShapeItem → KeyBy → ℕ
-key_item scope shown (keys.Col written) = as_place (position_or_len (shows_place (place_of scope written)) shown)
-key_item scope shown (keys.Place n) = as_place (n - 1)
+key_item scope shown (keys.Col written) = as_u16 (position_or_len (shows_column (column_index_of scope written)) shown)
+key_item scope shown (keys.Place n) = as_u16 (n - 1)
 
 abbrev pub shape_key : List ScopeColumn → List ShapeItem → Key → ShapeKey
 shape_key scope shown key = record { item = key_item scope shown key.by; desc = key.desc }
@@ -81,7 +81,7 @@ abbrev pub shape_of : List ScopeColumn → Select → Shape
 shape_of scope select = record {
   distinct = select.distinct;
   items = items_shown scope select.items;
-  group = map (place_of scope) select.group;
+  group = map (column_index_of scope) select.group;
   keys = map (shape_key scope (items_shown scope select.items)) select.order;
   grouped = is_grouped select;
 }
@@ -89,19 +89,19 @@ shape_of scope select = record {
 abbrev pub bound_select : Select → List Heading → List Param → Bound
 bound_select select headings params =
     let scope = query_scope select.from headings in
-    bounds.Select (map (λ heading. heading.name) headings) (aliases_of select.from headings) (map (λ heading. as_place (length heading.columns)) headings)
+    bounds.Select (map (λ heading. heading.name) headings) (aliases_of select.from headings) (map (λ heading. as_u16 (length heading.columns)) headings)
     (bound_clauses scope params select.clauses) (shape_of scope select)
 
 -- ---- changes
 
 abbrev pub bound_term : List ScopeColumn → List Param → Term → BoundTerm
-bound_term scope params (terms.Col column) = bound_terms.Place (place_of scope (unqualified column))
+bound_term scope params (terms.Col column) = bound_terms.Place (column_index_of scope (unqualified column))
 bound_term scope params (terms.Lit value) = bound_terms.Lit value
-bound_term scope params (terms.Param name) = bound_terms.Param (param_place params name)
+bound_term scope params (terms.Param name) = bound_terms.Param (param_index params name)
 
 abbrev pub bound_set : List ScopeColumn → List Param → Set → BoundSet
 bound_set scope params set = record {
-  column = as_position (place_of scope (unqualified set.column));
+  column = as_position (column_index_of scope (unqualified set.column));
   first = bound_term scope params set.expr.first;
   more = option_map (λ more. (more.0, bound_term scope params more.1)) set.expr.more;
 }
@@ -109,7 +109,7 @@ bound_set scope params set = record {
 abbrev pub bound_rows : List ScopeColumn → List Param → List (List Term) → List (List BoundTerm)
 bound_rows scope params rows = map (λ row. map (bound_term scope params) row) rows
 
--- ---- statements: what is bound, or why it is denied
+---- statements: what is bound, or the cause of the denial
 
 abbrev pub unless_denied : Option Denial → Bound → Result Bound Denial
 unless_denied None bound = Ok bound

@@ -1,5 +1,5 @@
 -- The tests of a statement on rows, in their order: the first that fails denies it. Here are those that look at names and
--- kinds; which tables there are is tested before, and what is found in their rows after.
+-- kinds; that the tables exist is tested before, and their rows after.
 use Rattle.std.specs.Prelude.{ℕ, Bool, true, false, ◌&&◌, ◌||◌, not, ◌==◌, nat_lt, List, [], ◌∷◌, ◌++◌, map, flat_map, length, bytes_eq, Option, Some, None, if◌then◌else◌}
 use Rattle.std.specs.List.{list_any, list_all}
 use Rattle.std.specs.Cmp.Lexicographic.{pointwise}
@@ -27,9 +27,9 @@ use Rattle.rs_plan.specs.Over.{is_filled}
 use Rattle.rs_bind.specs.declared.heading.Heading.{Heading}
 use Rattle.rs_bind.specs.declared.scope.Param.{Param}
 use Rattle.rs_bind.specs.declared.scope.ScopeColumn.{ScopeColumn}
-use Rattle.rs_bind.specs.Scope.{named_count, place_of, unqualified, column_kind, is_declared, param_kind, aliases_of, query_scope}
+use Rattle.rs_bind.specs.Scope.{named_count, column_index_of, unqualified, column_kind, is_declared, param_kind, aliases_of, query_scope}
 
--- A test of a statement: whether it fails, and the cause for which it then denies it.
+-- A test of a statement: whether it fails, and the cause of the denial if it does.
 pub record Test : Type 0 where
   pub fails : Bool
   pub cause : Denial
@@ -53,7 +53,7 @@ column_tests scope written =
 abbrev pub param_test : List Param → List ℕ → Test
 param_test params name = test (not (is_declared params name)) denials.WrongParams
 
--- ---- clauses
+---- predicates
 
 abbrev pub operand_tests : List ScopeColumn → List Param → Operand → List Test
 operand_tests scope params (operands.Col written) = column_tests scope written
@@ -65,7 +65,7 @@ operand_kind scope params (operands.Col written) = column_kind scope written
 operand_kind scope params (operands.Lit value) = Some (kind_of value)
 operand_kind scope params (operands.Param name) = param_kind params name
 
--- its left column, its right side, and then whether the two sides have one kind
+-- its left column, its right operand, and then whether the two have one kind
 abbrev pub cmp_tests : List ScopeColumn → List Param → Cmp → List Test
 cmp_tests scope params cmp =
     column_tests scope cmp.left ++ operand_tests scope params cmp.right
@@ -99,7 +99,7 @@ names_tests scope params select =
     items_tests scope select.items ++ clauses_tests scope params select.clauses
     ++ flat_map (column_tests scope) select.group ++ flat_map (λ key. key_tests scope key.by) select.order
 
--- each differs from each behind it
+-- each differs from each after it
 abbrev pub all_differ : List (List ℕ) → Bool
 all_differ [] = true
 all_differ (name ∷ names) = not (list_any (bytes_eq name) names) && all_differ names
@@ -119,12 +119,12 @@ has_aggregate (Some shown) = list_any is_aggregate shown
 abbrev pub is_grouped : Select → Bool
 is_grouped select = has_aggregate select.items || is_filled select.group
 
-abbrev pub is_same_place : List ScopeColumn → ColRef → ColRef → Bool
-is_same_place scope one other = place_of scope one == place_of scope other
+abbrev pub is_same_column : List ScopeColumn → ColRef → ColRef → Bool
+is_same_column scope one other = column_index_of scope one == column_index_of scope other
 
--- the item is an aggregate, or one of the columns by which is grouped
+-- the item is an aggregate, or one of the columns to group by
 abbrev pub is_of_group : List ScopeColumn → List ColRef → Item → Bool
-is_of_group scope group (items.Col written) = list_any (is_same_place scope written) group
+is_of_group scope group (items.Col written) = list_any (is_same_column scope written) group
 is_of_group scope group items.Count = true
 is_of_group scope group (items.Sum written) = true
 is_of_group scope group (items.Min written) = true
@@ -135,13 +135,13 @@ abbrev pub are_of_group : List ScopeColumn → List ColRef → Option (List Item
 are_of_group scope group None = false
 are_of_group scope group (Some shown) = list_all (is_of_group scope group) shown
 
--- a query that is grouped shows only aggregates and columns by which it is grouped
+-- a query that is grouped shows only aggregates and columns to group by
 abbrev pub grouping_test : List ScopeColumn → Select → Test
 grouping_test scope select = test (is_grouped select && not (are_of_group scope select.group select.items)) denials.WrongType
 
 -- the item is this column
 abbrev pub is_item_of : List ScopeColumn → ColRef → Item → Bool
-is_item_of scope written (items.Col shown) = is_same_place scope written shown
+is_item_of scope written (items.Col shown) = is_same_column scope written shown
 is_item_of scope written items.Count = false
 is_item_of scope written (items.Sum shown) = false
 is_item_of scope written (items.Min shown) = false
@@ -156,7 +156,7 @@ abbrev pub item_count : List ScopeColumn → Option (List Item) → ℕ
 item_count scope None = length scope
 item_count scope (Some shown) = length shown
 
--- the key names an item: a column that is shown as it is, or a number from 1 to that of items
+-- the key names an item: a column that is shown as it is, or an ordinal from 1 to the number of items
 abbrev pub names_item : List ScopeColumn → Select → KeyBy → Bool
 names_item scope select (keys.Col written) = is_shown scope select.items written
 names_item scope select (keys.Place n) = not (n == 0) && not (nat_lt (item_count scope select.items) n)
@@ -164,7 +164,7 @@ names_item scope select (keys.Place n) = not (n == 0) && not (nat_lt (item_count
 abbrev pub keys_tests : List ScopeColumn → Select → List Test
 keys_tests scope select = map (λ key. test (not (names_item scope select key.by)) denials.NoColumn) select.order
 
--- two tables go by one name; the names in the order of the text; the grouping; the keys
+-- two tables have one alias; the names in the order of the text; the grouping; the keys
 abbrev pub select_tests : Select → List Heading → List Param → List Test
 select_tests select headings params =
     let scope = query_scope select.from headings in
@@ -173,7 +173,7 @@ select_tests select headings params =
 
 -- ---- INSERT
 
--- a term of a row that is put in has a kind; it is no column
+-- a term of an inserted row has a kind; it is no column
 abbrev pub given_kind : List Param → Term → Option Kind
 given_kind params (terms.Col column) = None
 given_kind params (terms.Lit value) = Some (kind_of value)
@@ -205,7 +205,7 @@ insert_tests rows scope params = flat_map (row_tests scope params) rows
 
 -- ---- UPDATE
 
--- a term of an expression names a column of the table by its name alone
+-- a term of an expression names a column of the table, unqualified
 abbrev pub term_tests : List ScopeColumn → List Param → Term → List Test
 term_tests scope params (terms.Col column) = test (named_count scope (unqualified column) == 0) denials.NoColumn ∷ []
 term_tests scope params (terms.Lit value) = []
@@ -226,7 +226,7 @@ expr_fits scope params kind first None = kinds_fit kind (term_kind scope params 
 expr_fits scope params kind first (Some more) =
     kinds_fit kind (Some kinds.Int) && kinds_fit (Some kinds.Int) (term_kind scope params first) && kinds_fit (Some kinds.Int) (term_kind scope params more.1)
 
--- its column isn't there, or is set by one of those before; its terms; and then their kinds
+-- its column isn't there, or is assigned by one of those before; its terms; and then their kinds
 abbrev pub set_tests : List ScopeColumn → List Param → List Set → Set → List Test
 set_tests scope params before set =
     test (named_count scope (unqualified set.column) == 0) denials.NoColumn
@@ -234,7 +234,7 @@ set_tests scope params before set =
     ∷ term_tests scope params set.expr.first ++ more_tests scope params set.expr.more
     ++ test (not (expr_fits scope params (column_kind scope (unqualified set.column)) set.expr.first set.expr.more)) denials.WrongType ∷ []
 
--- each set, behind those before it
+-- each assignment, after those before it
 abbrev pub sets_tests : List ScopeColumn → List Param → List Set → List Set → List Test
 sets_tests scope params before [] = []
 sets_tests scope params before (set ∷ sets) = set_tests scope params before set ++ sets_tests scope params (before ++ set ∷ []) sets

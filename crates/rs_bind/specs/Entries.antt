@@ -1,4 +1,4 @@
--- What is bound over entries: they are the statement's tables, and tell their columns; parameters may have values.
+-- The entries that a statement is bound over: they are its tables, and give their columns; parameters may have values.
 use Rattle.std.specs.Prelude.{◌≡◌, ℕ, List, map, zip, length, Option, Some, None}
 use Rattle.rs_base.specs.declared.value.Value.{Value}
 use Rattle.rs_base.specs.Value.{kind_of}
@@ -31,7 +31,7 @@ abbrev pub params_of : List (List ℕ) → Option (List Value) → List Param
 params_of names None = map unvalued names
 params_of names (Some values) = map (λ both. valued both.0 both.1) (zip names values)
 
--- how many tables a statement names
+-- the number of tables that a statement names
 abbrev pub table_count : Dml → ℕ
 table_count (dmls.Select select) = length select.from
 table_count (dmls.Insert name rows) = 1

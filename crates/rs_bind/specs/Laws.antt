@@ -1,4 +1,4 @@
--- What holds of every statement that is bound.
+-- Laws of every bound statement.
 use Rattle.std.specs.Prelude.{◌≡◌, List, length, Some, Ok}
 use Rattle.rs_base.specs.declared.name.Swn.{Swn}
 use Rattle.rs_ast.specs.declared.entry.Entry.{Entry}

@@ -1,4 +1,4 @@
-//! Why a change of rows is denied.
+//! Denials of changes of rows.
 
 ghost use Rattle.std.specs.Prelude.{◌≡◌, ◌==◌, not, [], ◌∷◌, flat_map, bytes_eq};
 ghost use Rattle.std.specs.List.{list_all, list_any, zip};
@@ -48,7 +48,7 @@ fn each_fits(scope: &[ScopeColumn], params: &[Param], row: &[Term]) -> bool
         .all(|(term, column)| term_fits(params, term, column))
 }
 
-/// Whether there is a term for each column, of its kind.
+/// Returns whether there is a term for each column, of its kind.
 fn row_fits(scope: &[ScopeColumn], params: &[Param], row: &[Term]) -> bool
     ensures { result ≡ spec.row_fits scope.now params.now row.now }
 {
@@ -91,8 +91,8 @@ fn row_denial(scope: &[ScopeColumn], params: &[Param], row: &TermRow) -> Option<
     terms_denial(scope, params, row.as_slice())
 }
 
-/// Why rows aren't put in, if they aren't: the number of their terms and their kinds, or a parameter. It takes time
-/// proportional to them, and no memory.
+/// Returns the first denial of an INSERT's rows, if there is one: the number of their terms and their kinds, or a
+/// parameter. Linear in the rows, without an allocation.
 pub(crate) fn insert_denial(
     scope: &[ScopeColumn],
     params: &[Param],
@@ -144,7 +144,7 @@ fn term_kind(scope: &[ScopeColumn], params: &[Param], term: &Term) -> Option<Kin
     }
 }
 
-/// Whether an expression has the kind of its column. Two terms that are combined are integers, and so is the column.
+/// Returns whether an expression has the kind of its column. Two combined terms are integers, and so is the column.
 fn expr_fits(scope: &[ScopeColumn], params: &[Param], kind: Option<Kind>, expr: &Expr) -> bool
     ensures { result ≡ spec.expr_fits scope.now params.now kind expr.now.first expr.now.more }
 {
@@ -190,7 +190,7 @@ fn set_kind_denial(scope: &[ScopeColumn], params: &[Param], set: &Set) -> Option
     denial_if(!set_fits(scope, params, set), Denial::WrongType)
 }
 
-/// Why one of the sets denies an UPDATE, if it does: its column isn't there, or is set before; its terms; their kinds.
+/// Returns the first denial of assignments: a column that isn't there, or is assigned before; its terms; their kinds.
 fn set_denial(scope: &[ScopeColumn], params: &[Param], before: &[Set], set: &Set) -> Option<Denial>
     ensures { result ≡ spec.first_denial (spec.set_tests scope.now params.now before.now set.now) }
 {
@@ -212,7 +212,7 @@ fn sets_denial(scope: &[ScopeColumn], params: &[Param], sets: &[Set]) -> Option<
     None
 }
 
-/// Why an UPDATE is denied, if it is.
+/// Returns the first denial of an UPDATE, if there is one.
 pub(crate) fn update_denial(
     scope: &[ScopeColumn],
     params: &[Param],

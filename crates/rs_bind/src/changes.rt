@@ -15,8 +15,8 @@ use rs_base::{Denial, NoMemory};
 use rs_plan::Bound;
 use std::alloc::Global;
 
-/// Binds an INSERT into the table, or tells why it is denied: row by row, the number of its terms and their kinds, and
-/// then its parameters. It takes time proportional to the rows.
+/// Binds an INSERT into the table, or returns its denial: row by row, the number of its terms and their kinds, and then
+/// its parameters. Linear in the rows.
 #[tactic(auto, unfolding(crate::specs::Binding::insert_bound))]
 pub fn bind_insert(
     alloc: Global,
@@ -36,8 +36,8 @@ pub fn bind_insert(
     }))
 }
 
-/// Binds an UPDATE of the table, or tells why it is denied: set by set, its column, its terms and their kinds; then the
-/// clauses.
+/// Binds an UPDATE of the table, or returns its denial: assignment by assignment, its column, its terms and their kinds;
+/// then the predicate.
 #[tactic(auto, unfolding(crate::specs::Binding::update_bound))]
 pub fn bind_update(
     alloc: Global,
@@ -59,7 +59,7 @@ pub fn bind_update(
     }))
 }
 
-/// Binds a DELETE from the table, or tells why it is denied: its clauses.
+/// Binds a DELETE from the table, or returns its denial: that of its predicate.
 #[tactic(auto, unfolding(crate::specs::Binding::delete_bound))]
 pub fn bind_delete(
     alloc: Global,

@@ -1,4 +1,4 @@
-//! Why the clauses of a statement deny it.
+//! Denials of predicates.
 
 ghost use Rattle.std.specs.Prelude.{◌≡◌, flat_map};
 ghost use Rattle.rs_bind.specs.Denials as spec;
@@ -42,7 +42,7 @@ fn sides_fit(scope: &[ScopeColumn], params: &[Param], cmp: &Cmp) -> bool
     )
 }
 
-/// Why a comparison denies a statement, if it does: its left column, its right side, or their kinds.
+/// Returns the denial of a comparison, if there is one: its left column, its right operand, or their kinds.
 fn cmp_denial(scope: &[ScopeColumn], params: &[Param], cmp: &Cmp) -> Option<Denial>
     ensures { result ≡ spec.first_denial (spec.cmp_tests scope.now params.now cmp.now) }
 {
@@ -69,7 +69,7 @@ fn clause_denial(scope: &[ScopeColumn], params: &[Param], clause: &Clause) -> Op
     cmps_denial(scope, params, clause.any.as_slice())
 }
 
-/// Why clauses deny a statement, if they do.
+/// Returns the first denial of a predicate, if there is one.
 pub(crate) fn clauses_denial(
     scope: &[ScopeColumn],
     params: &[Param],

@@ -1,10 +1,10 @@
-//! Clauses with places for columns and positions for parameters.
+//! Predicates with column indexes for names and positions for parameters.
 
 ghost use Rattle.std.specs.Prelude.{◌≡◌, map, IfOk};
 ghost use Rattle.rs_bind.specs.Binding as spec;
 
-use crate::columns::place_of;
-use crate::params::param_place;
+use crate::columns::column_index_of;
+use crate::params::param_index;
 use crate::scope::{Param, ScopeColumn};
 use rs_ast::{BoundClause, BoundClauses, BoundCmp, BoundSide, Clause, Cmp, Operand};
 use rs_base::{NoMemory, with_room};
@@ -19,9 +19,9 @@ fn bound_side(
     ensures { IfOk result (λ bound. bound ≡ spec.bound_side scope.now params.now operand.now) }
 {
     match operand {
-        Operand::Col(written) => Ok(BoundSide::Place(place_of(scope, written))),
+        Operand::Col(written) => Ok(BoundSide::Place(column_index_of(scope, written))),
         Operand::Lit(value) => Ok(BoundSide::Lit(value.copy(alloc)?)),
-        Operand::Param(name) => Ok(BoundSide::Param(param_place(params, *name))),
+        Operand::Param(name) => Ok(BoundSide::Param(param_index(params, *name))),
     }
 }
 
@@ -34,7 +34,7 @@ fn bound_cmp(
     ensures { IfOk result (λ bound. bound ≡ spec.bound_cmp scope.now params.now cmp.now) }
 {
     Ok(BoundCmp {
-        left: place_of(scope, &cmp.left),
+        left: column_index_of(scope, &cmp.left),
         op: cmp.op,
         right: bound_side(alloc, scope, params, &cmp.right)?,
     })

@@ -3,19 +3,19 @@
 ghost use Rattle.std.specs.Prelude.{◌≡◌, position};
 ghost use Rattle.rs_bind.specs.Scope as spec;
 
-use crate::numbers::as_place;
+use crate::numbers::as_u16;
 use crate::scope::ScopeColumn;
 use rs_ast::ColRef;
 use rs_base::{Ident, Kind};
 
-/// Whether the name as it is written is this column's.
+/// Returns whether the written name is this column's.
 fn is_named(written: &ColRef, column: &ScopeColumn) -> bool
     ensures { result ≡ spec.is_named written.now column.now }
 {
     column.name == written.column && written.table.map_or(true, |alias| column.table == alias)
 }
 
-/// How many columns have the name.
+/// Counts the columns of that name.
 pub(crate) fn named_count(scope: &[ScopeColumn], written: &ColRef) -> usize
     ensures { result ≡ spec.named_count scope.now written.now }
 {
@@ -31,15 +31,15 @@ fn position_of(scope: &[ScopeColumn], written: &ColRef) -> Option<usize>
     scope.iter().position(|column| is_named(written, column))
 }
 
-/// The place of the first column of that name. Where there is none it is behind the last column.
+/// Returns the index of the first column of that name; if there is none, the number of columns.
 #[tactic(auto, using(crate::proofs::Positions::position_or_end))]
-pub(crate) fn place_of(scope: &[ScopeColumn], written: &ColRef) -> u16
-    ensures { result ≡ spec.place_of scope.now written.now }
+pub(crate) fn column_index_of(scope: &[ScopeColumn], written: &ColRef) -> u16
+    ensures { result ≡ spec.column_index_of scope.now written.now }
 {
-    as_place(position_of(scope, written).unwrap_or(scope.len()))
+    as_u16(position_of(scope, written).unwrap_or(scope.len()))
 }
 
-/// A column by its name alone.
+/// Makes an unqualified name of a column.
 pub(crate) fn unqualified(column: Ident) -> ColRef
     ensures { result ≡ spec.unqualified column }
 {
@@ -49,7 +49,7 @@ pub(crate) fn unqualified(column: Ident) -> ColRef
     }
 }
 
-/// The kind of the column that a name stands for.
+/// Returns the kind of the column that a name refers to.
 pub(crate) fn column_kind(scope: &[ScopeColumn], written: &ColRef) -> Option<Kind>
     ensures { result ≡ spec.column_kind scope.now written.now }
 {

@@ -1,4 +1,4 @@
-//! Columns of which an entry tells, as a table declares them.
+//! The columns of an entry, as a table declares them.
 
 ghost use Rattle.std.specs.Prelude.{◌≡◌, map, IfOk};
 ghost use Rattle.rs_bind.specs.Entries as spec;
@@ -16,7 +16,7 @@ fn defined(column: &Column) -> ColDef
     }
 }
 
-/// The columns with their names and kinds, in their order. It takes time proportional to their number.
+/// Returns the columns with their names and kinds, in their order. Linear in their number.
 pub fn column_defs(alloc: Global, columns: &[Column]) -> Result<ColDefs, NoMemory>
     ensures { IfOk result (λ defs. defs ≡ map spec.defined columns.now) }
 {

@@ -1,10 +1,10 @@
-//! Queries whose rows are grouped.
+//! Grouped queries.
 
 ghost use Rattle.std.specs.Prelude.{◌≡◌};
 ghost use Rattle.std.specs.List.{list_any, list_all};
 ghost use Rattle.rs_bind.specs.Denials as spec;
 
-use crate::columns::place_of;
+use crate::columns::column_index_of;
 use crate::scope::ScopeColumn;
 use rs_ast::{ColRef, Item, Select};
 
@@ -35,26 +35,26 @@ fn has_aggregate(select: &Select) -> bool
     }
 }
 
-/// Whether there is an aggregate, or GROUP BY.
+/// Returns whether there is an aggregate, or GROUP BY.
 pub(crate) fn is_grouped(select: &Select) -> bool
     ensures { result ≡ spec.is_grouped select.now }
 {
     has_aggregate(select) || !select.group.is_empty()
 }
 
-/// Whether two names stand for one column.
-pub(crate) fn is_same_place(scope: &[ScopeColumn], one: &ColRef, other: &ColRef) -> bool
-    ensures { result ≡ spec.is_same_place scope.now one.now other.now }
+/// Returns whether two names refer to one column.
+pub(crate) fn is_same_column(scope: &[ScopeColumn], one: &ColRef, other: &ColRef) -> bool
+    ensures { result ≡ spec.is_same_column scope.now one.now other.now }
 {
-    place_of(scope, one) == place_of(scope, other)
+    column_index_of(scope, one) == column_index_of(scope, other)
 }
 
 fn is_in_group(scope: &[ScopeColumn], group: &[ColRef], written: &ColRef) -> bool
-    ensures { result ≡ list_any (spec.is_same_place scope.now written.now) group.now }
+    ensures { result ≡ list_any (spec.is_same_column scope.now written.now) group.now }
 {
     group
         .iter()
-        .any(|column| is_same_place(scope, written, column))
+        .any(|column| is_same_column(scope, written, column))
 }
 
 fn is_of_group(scope: &[ScopeColumn], group: &[ColRef], item: &Item) -> bool
@@ -75,7 +75,7 @@ fn are_of_group(scope: &[ScopeColumn], group: &[ColRef], shown: &[Item]) -> bool
     shown.iter().all(|item| is_of_group(scope, group, item))
 }
 
-/// Whether each item is an aggregate or a column by which is grouped. `*` isn't.
+/// Returns whether each item is an aggregate or a column to group by. `*` isn't.
 pub(crate) fn shows_group(scope: &[ScopeColumn], select: &Select) -> bool
     ensures { result ≡ spec.are_of_group scope.now select.now.group select.now.items }
 {

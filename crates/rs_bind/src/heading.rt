@@ -5,7 +5,7 @@ use rs_base::Swn;
 use sqlite_items::Items;
 
 /// A table of a statement: its name, and its columns.
-#[derive(Debug, Drop)]
+#[derive(Drop)]
 pub struct Heading {
     pub name: Swn,
     pub columns: ColDefs,

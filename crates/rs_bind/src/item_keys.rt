@@ -4,7 +4,7 @@ ghost use Rattle.std.specs.Prelude.{◌≡◌};
 ghost use Rattle.std.specs.List.{list_any, list_all};
 ghost use Rattle.rs_bind.specs.Denials as spec;
 
-use crate::grouping::is_same_place;
+use crate::grouping::is_same_column;
 use crate::scope::ScopeColumn;
 use rs_ast::{ColRef, Item, Key, KeyBy, Select};
 
@@ -12,7 +12,7 @@ fn is_item_of(scope: &[ScopeColumn], written: &ColRef, item: &Item) -> bool
     ensures { result ≡ spec.is_item_of scope.now written.now item.now }
 {
     match item {
-        Item::Col(shown) => is_same_place(scope, written, shown),
+        Item::Col(shown) => is_same_column(scope, written, shown),
         Item::Count => false,
         Item::Sum(_) => false,
         Item::Min(_) => false,
@@ -26,7 +26,7 @@ fn is_one_of(scope: &[ScopeColumn], shown: &[Item], written: &ColRef) -> bool
     shown.iter().any(|item| is_item_of(scope, written, item))
 }
 
-/// Whether the column is shown as it is. `*` shows each.
+/// Returns whether the column is shown as it is. `*` shows each.
 fn is_shown(scope: &[ScopeColumn], select: &Select, written: &ColRef) -> bool
     ensures { result ≡ spec.is_shown scope.now select.now.items written.now }
 {
@@ -45,7 +45,7 @@ fn item_count(scope: &[ScopeColumn], select: &Select) -> usize
     }
 }
 
-/// Whether the key names an item: a column that is shown as it is, or a number from 1 to that of items.
+/// Returns whether the key names an item: a column that is shown as it is, or an ordinal from 1 to the number of items.
 fn names_item(scope: &[ScopeColumn], select: &Select, by: &KeyBy) -> bool
     ensures { result ≡ spec.names_item scope.now select.now by.now }
 {
@@ -61,7 +61,7 @@ fn all_name_items(scope: &[ScopeColumn], select: &Select, order: &[Key]) -> bool
     order.iter().all(|key| names_item(scope, select, &key.by))
 }
 
-/// Whether each key of the query names an item.
+/// Returns whether each key of the query names an item.
 pub(crate) fn names_items(scope: &[ScopeColumn], select: &Select) -> bool
     ensures { result ≡ list_all (λ key. spec.names_item scope.now select.now key.by) select.now.order }
 {

@@ -11,7 +11,7 @@ fn same_kind(one: Kind, other: Kind) -> bool
     one == other
 }
 
-/// Whether two kinds are the same. One that isn't known fits any.
+/// Returns whether two kinds are the same. An unknown one fits any.
 pub(crate) fn kinds_fit(one: Option<Kind>, other: Option<Kind>) -> bool
     ensures { result ≡ spec.kinds_fit one other }
 {

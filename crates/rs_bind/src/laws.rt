@@ -1,5 +1,4 @@
-//! What holds of every statement that is bound. The function here is a law: its contract says it, and its body does
-//! nothing.
+//! Laws of every bound statement. The function here is a law: its contract states it, and its body does nothing.
 
 ghost use Rattle.rs_bind.specs.Laws.{BoundIsOver};
 

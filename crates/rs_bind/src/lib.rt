@@ -1,4 +1,4 @@
-//! Binding: names in a statement become places of columns, or the statement is denied.
+//! Binding: names in a statement become column indexes, or the statement is denied.
 #![tactic(auto)]
 
 mod change_denials;

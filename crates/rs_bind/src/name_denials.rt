@@ -1,4 +1,4 @@
-//! Why a name in a statement denies it.
+//! Denials of names.
 
 ghost use Rattle.std.specs.Prelude.{◌≡◌, [], ◌∷◌};
 ghost use Rattle.rs_bind.specs.Denials as spec;
@@ -9,14 +9,14 @@ use crate::scope::{Param, ScopeColumn};
 use rs_ast::ColRef;
 use rs_base::{Denial, Ident};
 
-/// The cause, where the test fails.
+/// Returns the cause, if the test fails.
 pub(crate) fn denial_if(fails: bool, cause: Denial) -> Option<Denial>
     ensures { result ≡ spec.first_denial (spec.test fails cause ∷ []) }
 {
     fails.then_some(cause)
 }
 
-/// Why a name of a column denies a statement, if it does: there is no such column, or more than one.
+/// Returns the denial of a column's name, if there is one: no column has it, or more than one.
 pub(crate) fn column_denial(scope: &[ScopeColumn], written: &ColRef) -> Option<Denial>
     ensures { result ≡ spec.first_denial (spec.column_tests scope.now written.now) }
 {
@@ -27,7 +27,7 @@ pub(crate) fn column_denial(scope: &[ScopeColumn], written: &ColRef) -> Option<D
     }
 }
 
-/// Why a name of a parameter denies a statement, if it does: it isn't declared.
+/// Returns the denial of a parameter's name, if there is one: it isn't declared.
 pub(crate) fn param_denial(params: &[Param], name: Ident) -> Option<Denial>
     ensures { result ≡ spec.first_denial (spec.param_test params.now name ∷ []) }
 {

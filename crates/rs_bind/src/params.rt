@@ -14,7 +14,7 @@ fn is_param(name: Ident, param: &Param) -> bool
     param.name == name
 }
 
-/// Whether there is a parameter of that name.
+/// Returns whether there is a parameter of that name.
 pub(crate) fn is_declared(params: &[Param], name: Ident) -> bool
     ensures { result ≡ spec.is_declared params.now name }
 {
@@ -27,10 +27,10 @@ fn position_of(params: &[Param], name: Ident) -> Option<usize>
     params.iter().position(|param| is_param(name, param))
 }
 
-/// The position of the parameter of that name. Of one that isn't declared it says nothing.
+/// Returns the position of the parameter of that name. It is meant for one that is declared.
 #[tactic(auto, using(crate::proofs::Positions::position_or_end))]
-pub(crate) fn param_place(params: &[Param], name: Ident) -> u8
-    ensures { result ≡ spec.param_place params.now name }
+pub(crate) fn param_index(params: &[Param], name: Ident) -> u8
+    ensures { result ≡ spec.param_index params.now name }
 {
     as_position(position_of(params, name).unwrap_or(params.len()))
 }
@@ -41,7 +41,7 @@ fn param_named(params: &[Param], name: Ident) -> Option<&Param>
     params.iter().find(|param| is_param(name, param))
 }
 
-/// The kind of the parameter's value, if it has one.
+/// Returns the kind of the parameter's value, if it has one.
 pub(crate) fn param_kind(params: &[Param], name: Ident) -> Option<Kind>
     ensures { result ≡ spec.param_kind params.now name }
 {

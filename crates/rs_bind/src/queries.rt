@@ -2,11 +2,11 @@
 
 ghost use Rattle.std.specs.Prelude.{◌≡◌, map, length, IfOk};
 ghost use Rattle.rs_bind.specs.Binding as spec;
-ghost use Rattle.rs_bind.specs.Scope.{as_place as place_in};
+ghost use Rattle.rs_bind.specs.Scope.{as_u16 as u16_of};
 
 use crate::clauses::bound_clauses;
 use crate::heading::Heading;
-use crate::numbers::as_place;
+use crate::numbers::as_u16;
 use crate::scope::{Param, ScopeColumn};
 use crate::scopes::{aliases_of, query_scope};
 use crate::select_denials::select_denial;
@@ -27,16 +27,16 @@ fn names_of(alloc: Global, headings: &[Heading]) -> Result<Swns, NoMemory>
 }
 
 fn widths_of(alloc: Global, headings: &[Heading]) -> Result<Places, NoMemory>
-    ensures { IfOk result (λ widths. widths ≡ map (λ heading. place_in (length heading.columns)) headings.now) }
+    ensures { IfOk result (λ widths. widths ≡ map (λ heading. u16_of (length heading.columns)) headings.now) }
 {
     let mut widths = with_room(alloc, headings.len())?;
     for heading in headings {
-        widths.push(as_place(heading.columns.len()))?;
+        widths.push(as_u16(heading.columns.len()))?;
     }
     Ok(widths)
 }
 
-/// Binds a query over these columns, whose tables go by these aliases. It says something of a query that isn't denied.
+/// Binds a query over these columns, whose tables have these aliases. It is meant for a query that isn't denied.
 fn bound_select(
     alloc: Global,
     scope: &[ScopeColumn],
@@ -45,7 +45,7 @@ fn bound_select(
     headings: &[Heading],
     params: &[Param],
 ) -> Result<Bound, NoMemory>
-    ensures { IfOk result (λ bound. bound ≡ Bound.Select (map (λ heading. heading.name) headings.now) aliases (map (λ heading. place_in (length heading.columns)) headings.now) (spec.bound_clauses scope.now params.now select.now.clauses) (spec.shape_of scope.now select.now)) }
+    ensures { IfOk result (λ bound. bound ≡ Bound.Select (map (λ heading. heading.name) headings.now) aliases (map (λ heading. u16_of (length heading.columns)) headings.now) (spec.bound_clauses scope.now params.now select.now.clauses) (spec.shape_of scope.now select.now)) }
 {
     Ok(Bound::Select {
         names: names_of(alloc, headings)?,
@@ -56,7 +56,7 @@ fn bound_select(
     })
 }
 
-/// Binds a query over these tables, or tells why it is denied: two tables go by one name; the names and comparisons in the
+/// Binds a query over these tables, or returns its denial: two tables with one alias; the names and comparisons in the
 /// order of the text; what a grouped query shows; the keys of the order.
 #[tactic(auto, unfolding(crate::specs::Binding::select_bound))]
 pub fn bind_select(

@@ -10,14 +10,14 @@ use rs_base::{Ident, NoMemory, with_room};
 use sqlite_items::Items;
 use std::alloc::Global;
 
-/// What a table of a query goes by: its alias, or the object of its name.
+/// Returns the alias of a table of a query, or the object of its name.
 fn alias_of(table: &TableRef, heading: &Heading) -> Ident
     ensures { result ≡ spec.alias_of table.now heading.now }
 {
     table.alias.unwrap_or(heading.name.object)
 }
 
-/// What each table of a query goes by.
+/// Returns the alias of each table of a query.
 pub(crate) fn aliases_of(
     alloc: Global,
     tables: &[TableRef],
@@ -42,7 +42,7 @@ fn scope_column(table: Ident, column: &ColDef) -> ScopeColumn
     }
 }
 
-/// Puts the columns of a table that goes by this name behind those before.
+/// Appends the columns of a table with this alias.
 fn push_columns(scope: &mut Scope, table: Ident, columns: &[ColDef]) -> Result<(), NoMemory>
     ensures { OnOk result (scope.new ≡ scope.old ++ spec.columns_as table columns.now) }
 {
@@ -58,7 +58,7 @@ fn push_table(scope: &mut Scope, table: Ident, heading: &Heading) -> Result<(), 
     push_columns(scope, table, heading.columns.as_slice())
 }
 
-/// The columns that a query may name, each at its place.
+/// Returns the columns that a query may name, by column index.
 pub(crate) fn query_scope(
     alloc: Global,
     tables: &[TableRef],
@@ -73,7 +73,7 @@ pub(crate) fn query_scope(
     Ok(scope)
 }
 
-/// The columns that a change of one table may name.
+/// Returns the columns that a change of one table may name.
 pub(crate) fn table_scope(alloc: Global, heading: &Heading) -> Result<Scope, NoMemory>
     ensures { IfOk result (λ scope. scope ≡ spec.table_scope heading.now) }
 {

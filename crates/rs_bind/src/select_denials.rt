@@ -1,4 +1,4 @@
-//! Why a query is denied.
+//! Denials of queries.
 
 ghost use Rattle.std.specs.Prelude.{◌≡◌, [], ◌∷◌, ◌++◌, not, flat_map, bytes_eq};
 ghost use Rattle.std.specs.List.{list_any};
@@ -103,7 +103,7 @@ fn order_denial(scope: &[ScopeColumn], select: &Select) -> Option<Denial>
     key_columns_denial(scope, select.order.as_slice())
 }
 
-/// Why the columns and comparisons of a query deny it, if they do, in the order of the text.
+/// Returns the first denial of a query's columns and comparisons, in the order of the text.
 fn names_denial(scope: &[ScopeColumn], params: &[Param], select: &Select) -> Option<Denial>
     ensures { result ≡ spec.first_denial (spec.names_tests scope.now params.now select.now) }
 {
@@ -119,7 +119,7 @@ fn is_among(name: Ident, names: &[Ident]) -> bool
     names.iter().any(|other| name == *other)
 }
 
-/// Whether each name differs from each behind it. It takes time proportional to the square of their number.
+/// Returns whether each name differs from each after it. Quadratic in their number.
 fn all_differ(names: &[Ident]) -> bool
     ensures { result ≡ spec.all_differ names.now }
 {
@@ -144,7 +144,7 @@ fn keys_denial(scope: &[ScopeColumn], select: &Select) -> Option<Denial>
     denial_if(!names_items(scope, select), Denial::NoColumn)
 }
 
-/// Why a query over these columns is denied, if it is, where its tables go by these aliases.
+/// Returns the first denial of a query over these columns, whose tables have these aliases.
 pub(crate) fn select_denial(
     scope: &[ScopeColumn],
     aliases: &[Ident],

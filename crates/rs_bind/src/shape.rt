@@ -1,13 +1,13 @@
-//! What a query makes of its joined rows, with places for columns.
+//! The shape of a query's answer, with column indexes for names.
 
 ghost use Rattle.std.specs.Prelude.{◌≡◌, map, position, IfOk, None};
 ghost use Rattle.std.specs.List.{position_or_len};
 ghost use Rattle.rs_bind.specs.Binding as spec;
-ghost use Rattle.rs_bind.specs.Scope.{place_of as place_named};
+ghost use Rattle.rs_bind.specs.Scope.{column_index_of as index_named};
 
-use crate::columns::place_of;
+use crate::columns::column_index_of;
 use crate::grouping::is_grouped;
-use crate::numbers::as_place;
+use crate::numbers::as_u16;
 use crate::scope::ScopeColumn;
 use rs_ast::{
     ColRef, Item, Key, KeyBy, Places, Select, Shape, ShapeItem, ShapeItems, ShapeKey, ShapeKeys,
@@ -19,11 +19,11 @@ fn shape_item(scope: &[ScopeColumn], item: &Item) -> ShapeItem
     ensures { result ≡ spec.shape_item scope.now item.now }
 {
     match item {
-        Item::Col(written) => ShapeItem::Col(place_of(scope, written)),
+        Item::Col(written) => ShapeItem::Col(column_index_of(scope, written)),
         Item::Count => ShapeItem::Count,
-        Item::Sum(written) => ShapeItem::Sum(place_of(scope, written)),
-        Item::Min(written) => ShapeItem::Min(place_of(scope, written)),
-        Item::Max(written) => ShapeItem::Max(place_of(scope, written)),
+        Item::Sum(written) => ShapeItem::Sum(column_index_of(scope, written)),
+        Item::Min(written) => ShapeItem::Min(column_index_of(scope, written)),
+        Item::Max(written) => ShapeItem::Max(column_index_of(scope, written)),
     }
 }
 
@@ -37,13 +37,13 @@ fn shape_items(alloc: Global, scope: &[ScopeColumn], shown: &[Item]) -> Result<S
     Ok(items)
 }
 
-/// Every column of the tables, in their order.
+/// Returns every column of the tables, in their order.
 fn every_column(alloc: Global, scope: &[ScopeColumn]) -> Result<ShapeItems, NoMemory>
     ensures { IfOk result (λ bound. bound ≡ spec.items_shown scope.now None) }
 {
     let mut items = with_room(alloc, scope.len())?;
-    for place in 0..scope.len() {
-        items.push(ShapeItem::Col(as_place(place)))?;
+    for column_index in 0..scope.len() {
+        items.push(ShapeItem::Col(as_u16(column_index)))?;
     }
     Ok(items)
 }
@@ -61,21 +61,25 @@ fn items_shown(
     }
 }
 
-fn places(alloc: Global, scope: &[ScopeColumn], columns: &[ColRef]) -> Result<Places, NoMemory>
-    ensures { IfOk result (λ bound. bound ≡ map (place_named scope.now) columns.now) }
+fn column_indexes(
+    alloc: Global,
+    scope: &[ScopeColumn],
+    columns: &[ColRef],
+) -> Result<Places, NoMemory>
+    ensures { IfOk result (λ bound. bound ≡ map (index_named scope.now) columns.now) }
 {
-    let mut places = with_room(alloc, columns.len())?;
+    let mut column_indexes = with_room(alloc, columns.len())?;
     for written in columns {
-        places.push(place_of(scope, written))?;
+        column_indexes.push(column_index_of(scope, written))?;
     }
-    Ok(places)
+    Ok(column_indexes)
 }
 
-fn shows_place(place: u16, item: &ShapeItem) -> bool
-    ensures { result ≡ spec.shows_place place item.now }
+fn shows_column(column_index: u16, item: &ShapeItem) -> bool
+    ensures { result ≡ spec.shows_column column_index item.now }
 {
     match item {
-        ShapeItem::Col(other) => *other == place,
+        ShapeItem::Col(other) => *other == column_index,
         ShapeItem::Count => false,
         ShapeItem::Sum(_) => false,
         ShapeItem::Min(_) => false,
@@ -83,27 +87,29 @@ fn shows_place(place: u16, item: &ShapeItem) -> bool
     }
 }
 
-fn position_of(shown: &[ShapeItem], place: u16) -> Option<usize>
-    ensures { result ≡ position (spec.shows_place place) shown.now }
+fn position_of(shown: &[ShapeItem], column_index: u16) -> Option<usize>
+    ensures { result ≡ position (spec.shows_column column_index) shown.now }
 {
-    shown.iter().position(|item| shows_place(place, item))
+    shown
+        .iter()
+        .position(|item| shows_column(column_index, item))
 }
 
-/// The first item that is the column of this place.
+/// Returns the first item that is the column of this index.
 #[tactic(auto, using(crate::proofs::Positions::position_or_end))]
-fn item_of(shown: &[ShapeItem], place: u16) -> usize
-    ensures { result ≡ position_or_len (spec.shows_place place) shown.now }
+fn item_of(shown: &[ShapeItem], column_index: u16) -> usize
+    ensures { result ≡ position_or_len (spec.shows_column column_index) shown.now }
 {
-    position_of(shown, place).unwrap_or(shown.len())
+    position_of(shown, column_index).unwrap_or(shown.len())
 }
 
-/// The item that a key names, counted from 0.
+/// Returns the item that a key names, counted from 0.
 fn key_item(scope: &[ScopeColumn], shown: &[ShapeItem], by: &KeyBy) -> u16
     ensures { result ≡ spec.key_item scope.now shown.now by.now }
 {
     match by {
-        KeyBy::Col(written) => as_place(item_of(shown, place_of(scope, written))),
-        KeyBy::Place(number) => as_place((*number as usize).saturating_sub(1)),
+        KeyBy::Col(written) => as_u16(item_of(shown, column_index_of(scope, written))),
+        KeyBy::Place(number) => as_u16((*number as usize).saturating_sub(1)),
     }
 }
 
@@ -139,7 +145,7 @@ pub(crate) fn shape_of(
     ensures { IfOk result (λ shape. shape ≡ spec.shape_of scope.now select.now) }
 {
     let items = items_shown(alloc, scope, select)?;
-    let group = places(alloc, scope, select.group.as_slice())?;
+    let group = column_indexes(alloc, scope, select.group.as_slice())?;
     let keys = shape_keys(alloc, scope, items.as_slice(), select.order.as_slice())?;
     Ok(Shape {
         distinct: select.distinct,

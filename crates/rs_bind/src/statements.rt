@@ -16,7 +16,7 @@ use rs_base::{Denial, Ident, NoMemory, Swn, Value, with_room};
 use rs_plan::Bound;
 use std::alloc::Global;
 
-/// The columns of an entry, as a statement sees them.
+/// Returns the columns of an entry, as a statement sees them.
 fn heading_of(alloc: Global, entry: &Entry) -> Result<Heading, NoMemory>
     ensures { IfOk result (λ heading. heading ≡ spec.heading_of entry.now) }
 {
@@ -71,7 +71,7 @@ fn valued_params(alloc: Global, names: &[Ident], values: &[Value]) -> Result<Par
     Ok(params)
 }
 
-/// The parameters of these names, each with the kind of its value where there are values.
+/// Returns the parameters of these names, each with the kind of its value if there are values.
 fn params_of(alloc: Global, names: &[Ident], values: Option<&[Value]>) -> Result<Params, NoMemory>
     ensures { IfOk result (λ params. params ≡ spec.params_of names.now (option_copied values.entry)) }
 {
@@ -81,7 +81,7 @@ fn params_of(alloc: Global, names: &[Ident], values: Option<&[Value]>) -> Result
     }
 }
 
-/// The table of a change.
+/// Returns the table of a change.
 fn only(headings: &[Heading]) -> &Heading
     requires { length headings.now ≡ 1 }
     ensures { headings.now ≡ result.now ∷ [] }
@@ -119,8 +119,8 @@ fn outcome_over(
     }
 }
 
-/// Binds a statement over the tables of these names, of which these entries tell, or tells why it is denied. The
-/// parameters have these names; where there are values, each has the kind of its value. What is bound is over the entries.
+/// Binds a statement over the tables of these names, which these entries describe, or returns its denial. The parameters
+/// have these names; if there are values, each has the kind of its value. What is bound is over the entries.
 pub fn bind(
     alloc: Global,
     stmt: &Dml,

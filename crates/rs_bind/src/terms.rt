@@ -1,12 +1,12 @@
-//! Rows and sets with places for columns and positions for parameters.
+//! Rows and assignments with column indexes for names and positions for parameters.
 
 ghost use Rattle.std.specs.Prelude.{◌≡◌, map, option_map, IfOk};
 ghost use Rattle.rs_bind.specs.Binding as spec;
 ghost use Rattle.rs_bind.specs.Scope as named;
 
-use crate::columns::{place_of, unqualified};
+use crate::columns::{column_index_of, unqualified};
 use crate::numbers::as_position;
-use crate::params::param_place;
+use crate::params::param_index;
 use crate::scope::{Param, ScopeColumn};
 use rs_ast::{
     Arith, BoundRow, BoundRows, BoundSet, BoundSets, BoundTerm, Expr, Set, Term, TermRow,
@@ -14,10 +14,10 @@ use rs_ast::{
 use rs_base::{Ident, NoMemory, with_room};
 use std::alloc::Global;
 
-fn place_alone(scope: &[ScopeColumn], column: Ident) -> u16
-    ensures { result ≡ named.place_of scope.now (named.unqualified column) }
+fn unqualified_index(scope: &[ScopeColumn], column: Ident) -> u16
+    ensures { result ≡ named.column_index_of scope.now (named.unqualified column) }
 {
-    place_of(scope, &unqualified(column))
+    column_index_of(scope, &unqualified(column))
 }
 
 fn bound_term(
@@ -29,9 +29,9 @@ fn bound_term(
     ensures { IfOk result (λ bound. bound ≡ spec.bound_term scope.now params.now term.now) }
 {
     match term {
-        Term::Col(column) => Ok(BoundTerm::Place(place_alone(scope, *column))),
+        Term::Col(column) => Ok(BoundTerm::Place(unqualified_index(scope, *column))),
         Term::Lit(value) => Ok(BoundTerm::Lit(value.copy(alloc)?)),
-        Term::Param(name) => Ok(BoundTerm::Param(param_place(params, *name))),
+        Term::Param(name) => Ok(BoundTerm::Param(param_index(params, *name))),
     }
 }
 
@@ -99,7 +99,7 @@ fn bound_set(
     ensures { IfOk result (λ bound. bound ≡ spec.bound_set scope.now params.now set.now) }
 {
     Ok(BoundSet {
-        column: as_position(usize::from(place_alone(scope, set.column))),
+        column: as_position(usize::from(unqualified_index(scope, set.column))),
         first: bound_term(alloc, scope, params, &set.expr.first)?,
         more: bound_more(alloc, scope, params, &set.expr)?,
     })

@@ -1,4 +1,4 @@
--- Numbers in groups of seven bits: how a spelling is made, what it tells, and how it is written.
+-- Numbers in groups of seven bits: their encoding exists, is unique and prefix-free, and is what code writes and reads.
 use Rattle.std.proofs.Common.{◌≡◌, ℕ, zero, suc, ◌+◌, ◌-◌, ◌*◌, ◌/◌, ◌%◌, ◌^◌, ◌<◌, ◌≤◌, List, [], ◌∷◌, ◌++◌, length, set, take, refl, sym, ap, subst, ◌∙◌, arith, inl, inr, append_assoc}
 use Rattle.std.specs.List.{All}
 use Rattle.std.proofs.lemmas.Bool.{cases_lt}
@@ -7,15 +7,15 @@ use Rattle.std.proofs.lemmas.List.{take_more_set}
 use Rattle.std.proofs.lemmas.List.Elements.{All-nil, All-cons}
 use Rattle.rs_base.specs.Sizes.{groups_within}
 use Rattle.rs_base.proofs.SizeLaws.{groups_last, groups_more}
-use Rattle.rs_codec.specs.Spelling.{IsGroups, Takes}
+use Rattle.rs_codec.specs.Encoding.{IsGroups, Takes}
 
--- one more group below those of what is above it
+-- a low group added to the groups of the higher bits
 pub longer : (b n high : ℕ) (bytes : List ℕ) → 128 ≤ b → b < 256 → 0 < high → n + 128 ≡ b + 128 * high → IsGroups bytes high → IsGroups (b ∷ bytes) n
 longer b n high [] from below more parts g = absurd g
 longer b n high (c ∷ bs) from below more parts g = (from, below, high, more, parts, g)
 
-pub same_front : (b c : ℕ) (bs cs : List ℕ) → b ≡ c → bs ≡ cs → b ∷ bs ≡ c ∷ cs
-same_front b c bs cs e f = ap (λ (x : ℕ). x ∷ bs) e ∙ ap (λ (xs : List ℕ). c ∷ xs) f
+pub same_prefix : (b c : ℕ) (bs cs : List ℕ) → b ≡ c → bs ≡ cs → b ∷ bs ≡ c ∷ cs
+same_prefix b c bs cs e f = ap (λ (x : ℕ). x ∷ bs) e ∙ ap (λ (xs : List ℕ). c ∷ xs) f
 
 first_is : (b c : ℕ) (bs cs : List ℕ) → b ∷ bs ≡ c ∷ cs → b ≡ c
 first_is b c bs cs e = cc
@@ -34,7 +34,7 @@ one_groups (x ∷ c ∷ a) (y ∷ []) r s m n p q e = absurd (omega (arith, p.0,
 one_groups (x ∷ c ∷ a) (y ∷ d ∷ b) r s m n p q e =
     let first = first_is x y (c ∷ (a ++ r)) (d ∷ (b ++ s)) e in
     let others = one_groups (c ∷ a) (d ∷ b) r s p.2 q.2 p.5 q.5 (others_are x y (c ∷ (a ++ r)) (d ∷ (b ++ s)) e) in
-    (same_front x y (c ∷ a) (d ∷ b) first others.0, omega (arith, first, others.1, p.4, q.4))
+    (same_prefix x y (c ∷ a) (d ∷ b) first others.0, omega (arith, first, others.1, p.4, q.4))
 
 each_groups_up_to : (k n : ℕ) → n ≤ k → (bytes : List ℕ) × IsGroups bytes n
 each_groups_up_to zero n h = (n ∷ [], (omega arith, refl))
@@ -57,9 +57,9 @@ bytes_of_groups (b ∷ c ∷ bs) n g = All-cons (λ b. b < 256) b (c ∷ bs) g.1
 
 -- ---- writing
 
--- what spells the rest completes the number
+-- any encoding of the rest completes the number's
 abbrev pub Completes : List ℕ → ℕ → ℕ → Type 0
-Completes front rest n = (tail : List ℕ) → IsGroups tail rest → IsGroups (front ++ tail) n
+Completes prefix rest n = (tail : List ℕ) → IsGroups tail rest → IsGroups (prefix ++ tail) n
 
 pub writes_more : (bytes : List ℕ) (at rest n : ℕ) → at < length bytes → 128 ≤ rest → Completes (take at bytes) rest n → Completes (take (at + 1) (set bytes at (128 + rest % 128))) (rest / 128) n
 writes_more bytes at rest n within more so_far tail g =
@@ -73,9 +73,9 @@ writes_last bytes at rest n within last so_far = subst (λ (xs : List ℕ). IsGr
 
 -- ---- reading
 
--- no number up to a limit is spelled at the front of the bytes
+-- no encoding of a number up to the limit begins the bytes
 abbrev pub NoneUpTo : ℕ → List ℕ → Type 0
-NoneUpTo limit bytes = (n : ℕ) (spelling rest : List ℕ) → n ≤ limit → IsGroups spelling n → bytes ≡ spelling ++ rest → ⊥
+NoneUpTo limit bytes = (n : ℕ) (encoding rest : List ℕ) → n ≤ limit → IsGroups encoding n → bytes ≡ encoding ++ rest → ⊥
 
 -- a number is no less than its first byte
 pub none_below_first : (bytes others : List ℕ) (first limit : ℕ) → bytes ≡ first ∷ others → limit < first → NoneUpTo limit bytes
@@ -84,7 +84,7 @@ none_below_first bytes others first limit e large n (b ∷ []) rest h g f = omeg
 none_below_first bytes others first limit e large n (b ∷ c ∷ bs) rest h g f = omega (arith, first_is first b others (c ∷ (bs ++ rest)) (sym e ∙ f), g.3, g.4)
 
 -- the groups above the first one
-above : (bytes others : List ℕ) (first n : ℕ) (spelling rest : List ℕ) → bytes ≡ first ∷ others → 128 ≤ first → IsGroups spelling n → bytes ≡ spelling ++ rest
+above : (bytes others : List ℕ) (first n : ℕ) (encoding rest : List ℕ) → bytes ≡ first ∷ others → 128 ≤ first → IsGroups encoding n → bytes ≡ encoding ++ rest
     → (high : ℕ) × (0 < high) × (n + 128 ≡ first + 128 * high) × (tail : List ℕ) × IsGroups tail high × (others ≡ tail ++ rest)
 above bytes others first n [] rest e large g f = absurd g
 above bytes others first n (b ∷ []) rest e large g f = absurd (omega (arith, first_is first b others rest (sym e ∙ f), g.0))
@@ -93,27 +93,27 @@ above bytes others first n (b ∷ c ∷ bs) rest e large g f =
     (g.2, g.3, omega (arith, first_is first b others (c ∷ (bs ++ rest)) same, g.4), c ∷ bs, g.5, others_are first b others (c ∷ (bs ++ rest)) same)
 
 pub none_above : (bytes others : List ℕ) (first limit : ℕ) → bytes ≡ first ∷ others → 128 ≤ first → first ≤ limit → NoneUpTo ((limit - (first - 128)) / 128) others → NoneUpTo limit bytes
-none_above bytes others first limit e large within none n spelling rest h g f =
-    let a = above bytes others first n spelling rest e large g f in
+none_above bytes others first limit e large within none n encoding rest h g f =
+    let a = above bytes others first n encoding rest e large g f in
     none a.0 a.3 rest (omega (arith, a.2)) a.4 a.5
 
-pub none_above_zero : (bytes others behind : List ℕ) (first limit high : ℕ) → bytes ≡ first ∷ others → 128 ≤ first → Takes IsGroups others behind high → high ≡ 0 → NoneUpTo limit bytes
-none_above_zero bytes others behind first limit high e large t is_zero n spelling rest h g f =
-    let a = above bytes others first n spelling rest e large g f in
-    let same = one_groups t.spelling a.3 behind rest high a.0 t.spelled a.4 (sym t.parts ∙ a.5) in
+pub none_above_zero : (bytes others suffix : List ℕ) (first limit high : ℕ) → bytes ≡ first ∷ others → 128 ≤ first → Takes IsGroups others suffix high → high ≡ 0 → NoneUpTo limit bytes
+none_above_zero bytes others suffix first limit high e large t is_zero n encoding rest h g f =
+    let a = above bytes others first n encoding rest e large g f in
+    let same = one_groups t.encoding a.3 suffix rest high a.0 t.encoded a.4 (sym t.parts ∙ a.5) in
     omega (arith, same.1, a.1)
 
 pub takes_last : (bytes others : List ℕ) (first : ℕ) → bytes ≡ first ∷ others → first < 128 → Takes IsGroups bytes others first
-takes_last bytes others first e last = record { spelling = first ∷ []; spelled = (last, refl); parts = e }
+takes_last bytes others first e last = record { encoding = first ∷ []; encoded = (last, refl); parts = e }
 
-pub takes_more : (bytes others behind : List ℕ) (first high : ℕ) → bytes ≡ first ∷ others → 128 ≤ first → first < 256 → 0 < high → Takes IsGroups others behind high → Takes IsGroups bytes behind (first - 128 + 128 * high)
-takes_more bytes others behind first high e large below more t = record {
-  spelling = first ∷ t.spelling;
-  spelled = longer first (first - 128 + 128 * high) high t.spelling large below more (omega arith) t.spelled;
+pub takes_more : (bytes others suffix : List ℕ) (first high : ℕ) → bytes ≡ first ∷ others → 128 ≤ first → first < 256 → 0 < high → Takes IsGroups others suffix high → Takes IsGroups bytes suffix (first - 128 + 128 * high)
+takes_more bytes others suffix first high e large below more t = record {
+  encoding = first ∷ t.encoding;
+  encoded = longer first (first - 128 + 128 * high) high t.encoding large below more (omega arith) t.encoded;
   parts = e ∙ ap (λ (xs : List ℕ). first ∷ xs) t.parts;
 }
 
--- ---- the room of ten bytes
+-- ---- ten bytes suffice
 
 pub room_left : (at rest : ℕ) → at < 9 → rest < 2 * 128 ^ (9 - at) → rest / 128 < 2 * 128 ^ (9 - (at + 1))
 room_left at rest within below =
@@ -122,7 +122,7 @@ room_left at rest within below =
     let wide : rest < 2 * 128 ^ suc (9 - (at + 1)) = subst (λ (i : ℕ). rest < 2 * 128 ^ i) k below in
     omega (arith, one, wide)
 
--- what is left behind nine bytes has room in the tenth
+-- what is left after nine bytes fits the tenth
 pub writes_tenth : (bytes : List ℕ) (at rest n : ℕ) → length bytes ≡ 10 → at ≡ 9 → rest < 2 * 128 ^ (9 - at) → Completes (take at bytes) rest n → IsGroups (take 10 (set bytes 9 rest)) n
 writes_tenth bytes at rest n len is_ninth below so_far =
     let last : rest < 2 * 128 ^ (9 - 9) = subst (λ (i : ℕ). rest < 2 * 128 ^ (9 - i)) is_ninth below in
@@ -131,7 +131,7 @@ writes_tenth bytes at rest n len is_ninth below so_far =
 
 -- ---- how many groups there are
 
--- a number below 128 ^ (more + 1) has so many above the first, and no more
+-- a number below 128 ^ (more + 1) has at most `more` groups after the first
 pub length_of_groups : (bytes : List ℕ) (more n : ℕ) → IsGroups bytes n → n < 128 ^ suc more → length bytes ≡ groups_within more n
 length_of_groups [] more n g below = absurd g
 length_of_groups (b ∷ []) more n g below = sym (groups_last more n (omega (arith, g.0, g.1)))

@@ -1,4 +1,4 @@
 pub mod Groups
 pub mod Readers
-pub mod Spellings
+pub mod Encodings
 pub mod Writers

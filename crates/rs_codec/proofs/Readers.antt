@@ -1,4 +1,4 @@
--- Readers of fields: what is read is spelled so, and what is spelled so is read, whatever stands behind it.
+-- Readers of fields: a value is read exactly if its encoding begins the bytes, whatever follows it.
 use Rattle.std.proofs.Common.{◌≡◌, ℕ, zero, suc, ◌+◌, ◌-◌, ◌*◌, ◌%◌, ◌^◌, ◌<◌, ℤ, pos, negsuc, Bool, cond, true, false, leb, ltb, eqb, List, [], ◌∷◌, ◌++◌, length, take, drop, Option, Some, None, refl, sym, ap, subst, ◌∙◌, arith, ◌⊎◌, inl, inr, length-append}
 use Rattle.std.specs.Prelude.{bytes_eq}
 use Rattle.std.specs.Int.{w32, w64, to_be_bytes, from_be_bytes}
@@ -10,19 +10,19 @@ use Rattle.std.proofs.lemmas.Option.{cond_some, same_Some}
 use Rattle.std.proofs.lemmas.Slice.Eq.{bytes_eq-Decides}
 use Rattle.rs_base.proofs.Steps.{bind_some, held}
 use Rattle.rs_base.specs.Reading.{◌>>=◌}
-use Rattle.rs_codec.specs.Spelling.{IsByte, IsU32, IsU64, IsGroups, IsCount, count_of, IsInt, IsText, Takes, NoneBegins}
+use Rattle.rs_codec.specs.Encoding.{IsByte, IsU32, IsU64, IsGroups, IsCount, count_of, IsInt, IsText, Takes, NoneBegins}
 use Rattle.rs_codec.specs.Laws.{IsReadBy}
-use Rattle.rs_codec.specs.Reader.{byte_at, if_spelled, u32_at, u64_at, above_group, groups_at, count_at, int_of, int_at, text_at}
+use Rattle.rs_codec.specs.Reader.{byte_at, if_encoded, u32_at, u64_at, above_group, groups_at, count_at, int_of, int_at, text_at}
 use Rattle.rs_codec.proofs.Groups.{takes_last, takes_more}
-use Rattle.rs_codec.proofs.Spellings.{behind_count, takes_text}
+use Rattle.rs_codec.proofs.Encodings.{suffix_count, takes_text}
 
 -- ---- steps
 
--- a step, and what comes of its value
+-- a step that gave a value, and the value's continuation
 pub bind_at : {A B : Type 0} (read : Option A) (f : A → Option B) (x : A) → read ≡ Some x → (read >>= f) ≡ f x
 bind_at read f x e = ap (λ (o : Option _). o >>= f) e
 
--- a test that had to fail
+-- a test that had to fail, since a value was given
 pub passed : {A : Type 0} (test : Bool) (read : Option A) (y : A) → cond test None read ≡ Some y → (test ≡ false) × (read ≡ Some y)
 passed true read y e = absurd cc
 passed false read y e = (refl, e)
@@ -45,16 +45,16 @@ none_from (Some x) h = absurd (h x refl)
 -- ---- any field
 
 module _ {X : Type 0} (IsX : List ℕ → X → Type 0) (x_at : List ℕ → Option (X × List ℕ)) where
-  pub read_by : ((spelling rest : List ℕ) (x : X) → IsX spelling x → x_at (spelling ++ rest) ≡ Some (x, rest)) → ((bytes rest : List ℕ) (x : X) → x_at bytes ≡ Some (x, rest) → Takes IsX bytes rest x) → IsReadBy IsX x_at
-  read_by forth back bytes rest x = (λ t. ap x_at t.parts ∙ forth t.spelling rest x t.spelled, λ e. back bytes rest x e)
+  pub read_by : ((encoding rest : List ℕ) (x : X) → IsX encoding x → x_at (encoding ++ rest) ≡ Some (x, rest)) → ((bytes rest : List ℕ) (x : X) → x_at bytes ≡ Some (x, rest) → Takes IsX bytes rest x) → IsReadBy IsX x_at
+  read_by forth back bytes rest x = (λ t. ap x_at t.parts ∙ forth t.encoding rest x t.encoded, λ e. back bytes rest x e)
 
-  -- where no field begins, none is read
+  -- if no encoding begins the bytes, none is read
   pub ends_there : IsReadBy IsX x_at → (bytes : List ℕ) → NoneBegins IsX bytes → x_at bytes ≡ None
-  ends_there reads bytes none = none_from (x_at bytes) (λ x e. let t = (reads bytes x.1 x.0).1 e in none x.0 t.spelling x.1 t.spelled t.parts)
+  ends_there reads bytes none = none_from (x_at bytes) (λ x e. let t = (reads bytes x.1 x.0).1 e in none x.0 t.encoding x.1 t.encoded t.parts)
 
-  -- a spelling is read, whatever stands behind it
-  pub read_again : IsReadBy IsX x_at → (spelling rest : List ℕ) (x : X) → IsX spelling x → x_at (spelling ++ rest) ≡ Some (x, rest)
-  read_again reads spelling rest x is = (reads (spelling ++ rest) rest x).0 (record { spelling = spelling; spelled = is; parts = refl })
+  -- an encoding is read, whatever follows it
+  pub read_again : IsReadBy IsX x_at → (encoding rest : List ℕ) (x : X) → IsX encoding x → x_at (encoding ++ rest) ≡ Some (x, rest)
+  read_again reads encoding rest x is = (reads (encoding ++ rest) rest x).0 (record { encoding = encoding; encoded = is; parts = refl })
 
 -- ---- numbers of one, four and eight bytes
 
@@ -62,35 +62,35 @@ byte_back : (bytes rest : List ℕ) (x : ℕ) → byte_at bytes ≡ Some (x, res
 byte_back [] rest x e = absurd cc
 byte_back (b ∷ bytes) rest x e =
     let c = cond_some (ltb b 256) (b, bytes) (x, rest) e in
-    subst (λ (p : ℕ × List ℕ). Takes IsByte (b ∷ bytes) p.1 p.0) c.1 (record { spelling = b ∷ []; spelled = (ltb-true b 256 c.0, refl); parts = refl })
+    subst (λ (p : ℕ × List ℕ). Takes IsByte (b ∷ bytes) p.1 p.0) c.1 (record { encoding = b ∷ []; encoded = (ltb-true b 256 c.0, refl); parts = refl })
 
-byte_forth : (spelling rest : List ℕ) (x : ℕ) → IsByte spelling x → byte_at (spelling ++ rest) ≡ Some (x, rest)
-byte_forth spelling rest x is = ap (λ (bs : List ℕ). byte_at (bs ++ rest)) is.1 ∙ rw (lt-ltb x 256 is.0) refl
+byte_forth : (encoding rest : List ℕ) (x : ℕ) → IsByte encoding x → byte_at (encoding ++ rest) ≡ Some (x, rest)
+byte_forth encoding rest x is = ap (λ (bs : List ℕ). byte_at (bs ++ rest)) is.1 ∙ rw (lt-ltb x 256 is.0) refl
 
 pub byte_read : IsReadBy IsByte byte_at
 byte_read = read_by IsByte byte_at byte_forth byte_back
 
-spelled_back : (bytes front tail spelling rest : List ℕ) (n x : ℕ) → bytes ≡ front ++ tail → if_spelled front spelling n tail ≡ Some (x, rest) → (x ≡ n) × (bytes ≡ spelling ++ rest)
-spelled_back bytes front tail spelling rest n x parts e =
-    let c = cond_some (bytes_eq front spelling) (n, tail) (x, rest) e in
-    let same : front ≡ spelling = (bytes_eq-Decides front spelling).0 c.0 in
-    (sym (ap (λ (p : ℕ × List ℕ). p.0) c.1), parts ∙ ap (λ (bs : List ℕ). bs ++ tail) same ∙ ap (λ (p : ℕ × List ℕ). spelling ++ p.1) c.1)
+encoded_back : (bytes prefix tail encoding rest : List ℕ) (n x : ℕ) → bytes ≡ prefix ++ tail → if_encoded prefix encoding n tail ≡ Some (x, rest) → (x ≡ n) × (bytes ≡ encoding ++ rest)
+encoded_back bytes prefix tail encoding rest n x parts e =
+    let c = cond_some (bytes_eq prefix encoding) (n, tail) (x, rest) e in
+    let same : prefix ≡ encoding = (bytes_eq-Decides prefix encoding).0 c.0 in
+    (sym (ap (λ (p : ℕ × List ℕ). p.0) c.1), parts ∙ ap (λ (bs : List ℕ). bs ++ tail) same ∙ ap (λ (p : ℕ × List ℕ). encoding ++ p.1) c.1)
 
-spelled_self : (bytes rest : List ℕ) (n : ℕ) → if_spelled bytes bytes n rest ≡ Some (n, rest)
-spelled_self bytes rest n = rw ((bytes_eq-Decides bytes bytes).1 refl) refl
+encoded_self : (bytes rest : List ℕ) (n : ℕ) → if_encoded bytes bytes n rest ≡ Some (n, rest)
+encoded_self bytes rest n = rw ((bytes_eq-Decides bytes bytes).1 refl) refl
 
 u32_back : (bytes rest : List ℕ) (x : ℕ) → u32_at bytes ≡ Some (x, rest) → Takes IsU32 bytes rest x
 unfolding u32_at
 u32_back bytes rest x e =
     let n = from_be_bytes w32 (take 4 bytes) % 2 ^ 32 in
-    let s = spelled_back bytes (take 4 bytes) (drop 4 bytes) (to_be_bytes w32 n) rest n x (sym (take-append-drop 4 bytes)) e in
-    record { spelling = to_be_bytes w32 x; spelled = (omega (arith, s.0), refl); parts = s.1 ∙ ap (λ (m : ℕ). to_be_bytes w32 m ++ rest) (sym s.0) }
+    let s = encoded_back bytes (take 4 bytes) (drop 4 bytes) (to_be_bytes w32 n) rest n x (sym (take-append-drop 4 bytes)) e in
+    record { encoding = to_be_bytes w32 x; encoded = (omega (arith, s.0), refl); parts = s.1 ∙ ap (λ (m : ℕ). to_be_bytes w32 m ++ rest) (sym s.0) }
 
 u32_forth : (rest : List ℕ) (x : ℕ) → x < 2 ^ 32 → u32_at (to_be_bytes w32 x ++ rest) ≡ Some (x, rest)
 unfolding u32_at
 u32_forth rest x below =
     let n : from_be_bytes w32 (to_be_bytes w32 x) % 2 ^ 32 ≡ x = ap (λ (m : ℕ). m % 2 ^ 32) (from_be_bytes-to_be_bytes_4 x below) ∙ omega (arith, below) in
-    ap (λ (m : ℕ). if_spelled (to_be_bytes w32 x) (to_be_bytes w32 m) m rest) n ∙ spelled_self (to_be_bytes w32 x) rest x
+    ap (λ (m : ℕ). if_encoded (to_be_bytes w32 x) (to_be_bytes w32 m) m rest) n ∙ encoded_self (to_be_bytes w32 x) rest x
 
 pub u32_read : IsReadBy IsU32 u32_at
 u32_read = read_by IsU32 u32_at (λ s rest x is. ap (λ (bs : List ℕ). u32_at (bs ++ rest)) is.1 ∙ u32_forth rest x is.0) u32_back
@@ -99,14 +99,14 @@ u64_back : (bytes rest : List ℕ) (x : ℕ) → u64_at bytes ≡ Some (x, rest)
 unfolding u64_at
 u64_back bytes rest x e =
     let n = from_be_bytes w64 (take 8 bytes) % 2 ^ 64 in
-    let s = spelled_back bytes (take 8 bytes) (drop 8 bytes) (to_be_bytes w64 n) rest n x (sym (take-append-drop 8 bytes)) e in
-    record { spelling = to_be_bytes w64 x; spelled = (omega (arith, s.0), refl); parts = s.1 ∙ ap (λ (m : ℕ). to_be_bytes w64 m ++ rest) (sym s.0) }
+    let s = encoded_back bytes (take 8 bytes) (drop 8 bytes) (to_be_bytes w64 n) rest n x (sym (take-append-drop 8 bytes)) e in
+    record { encoding = to_be_bytes w64 x; encoded = (omega (arith, s.0), refl); parts = s.1 ∙ ap (λ (m : ℕ). to_be_bytes w64 m ++ rest) (sym s.0) }
 
 u64_forth : (rest : List ℕ) (x : ℕ) → x < 2 ^ 64 → u64_at (to_be_bytes w64 x ++ rest) ≡ Some (x, rest)
 unfolding u64_at
 u64_forth rest x below =
     let n : from_be_bytes w64 (to_be_bytes w64 x) % 2 ^ 64 ≡ x = ap (λ (m : ℕ). m % 2 ^ 64) (from_be_bytes-to_be_bytes_8 x below) ∙ omega (arith, below) in
-    ap (λ (m : ℕ). if_spelled (to_be_bytes w64 x) (to_be_bytes w64 m) m rest) n ∙ spelled_self (to_be_bytes w64 x) rest x
+    ap (λ (m : ℕ). if_encoded (to_be_bytes w64 x) (to_be_bytes w64 m) m rest) n ∙ encoded_self (to_be_bytes w64 x) rest x
 
 pub u64_read : IsReadBy IsU64 u64_at
 u64_read = read_by IsU64 u64_at (λ s rest x is. ap (λ (bs : List ℕ). u64_at (bs ++ rest)) is.1 ∙ u64_forth rest x is.0) u64_back
@@ -135,7 +135,7 @@ groups_back (b ∷ bytes) rest n e =
 above_forth : (b high : ℕ) (rest : List ℕ) → 0 < high → above_group b (high, rest) ≡ Some (b - 128 + 128 * high, rest)
 above_forth b high rest h = rw (ne_eqb high 0 (omega (arith, h))) refl
 
-groups_forth : (spelling rest : List ℕ) (n : ℕ) → IsGroups spelling n → groups_at (spelling ++ rest) ≡ Some (n, rest)
+groups_forth : (encoding rest : List ℕ) (n : ℕ) → IsGroups encoding n → groups_at (encoding ++ rest) ≡ Some (n, rest)
 groups_forth [] rest n g = absurd g
 groups_forth (b ∷ []) rest n g = rw (lt-ltb b 128 g.0) (ap (λ (m : ℕ). Some (m, rest)) (sym g.1))
 groups_forth (b ∷ c ∷ bs) rest n g =
@@ -150,11 +150,11 @@ count_back bytes rest n e =
     let k = held (ltb s.0.0 (2 ^ 64)) (Some s.0) (n, rest) s.2 in
     let t = groups_back bytes s.0.1 s.0.0 s.1 in
     subst (λ (p : ℕ × List ℕ). Takes IsCount bytes p.1 p.0) (same_Some s.0 (n, rest) k.1)
-    (record { spelling = t.spelling; spelled = record { groups = t.spelled; below = ltb-true s.0.0 (2 ^ 64) k.0 }; parts = t.parts })
+    (record { encoding = t.encoding; encoded = record { groups = t.encoded; below = ltb-true s.0.0 (2 ^ 64) k.0 }; parts = t.parts })
 
-count_forth : (spelling rest : List ℕ) (n : ℕ) → IsCount spelling n → count_at (spelling ++ rest) ≡ Some (n, rest)
+count_forth : (encoding rest : List ℕ) (n : ℕ) → IsCount encoding n → count_at (encoding ++ rest) ≡ Some (n, rest)
 unfolding count_at
-count_forth spelling rest n is = bind_at (groups_at (spelling ++ rest)) _ (n, rest) (groups_forth spelling rest n is.groups) ∙ rw (lt-ltb n (2 ^ 64) is.below) refl
+count_forth encoding rest n is = bind_at (groups_at (encoding ++ rest)) _ (n, rest) (groups_forth encoding rest n is.groups) ∙ rw (lt-ltb n (2 ^ 64) is.below) refl
 
 pub count_read : IsReadBy IsCount count_at
 count_read = read_by IsCount count_at count_forth count_back
@@ -177,10 +177,10 @@ int_back bytes rest z e =
     let s = bind_some (count_at bytes) _ (z, rest) e in
     let t = count_back bytes s.0.1 s.0.0 s.1 in
     subst (λ (p : ℤ × List ℕ). Takes IsInt bytes p.1 p.0) (same_Some (int_of s.0.0, s.0.1) (z, rest) s.2)
-    (record { spelling = t.spelling; spelled = subst (λ (n : ℕ). IsCount t.spelling n) (sym (count_again s.0.0)) t.spelled; parts = t.parts })
+    (record { encoding = t.encoding; encoded = subst (λ (n : ℕ). IsCount t.encoding n) (sym (count_again s.0.0)) t.encoded; parts = t.parts })
 
-int_forth : (spelling rest : List ℕ) (z : ℤ) → IsInt spelling z → int_at (spelling ++ rest) ≡ Some (z, rest)
-int_forth spelling rest z is = bind_at (count_at (spelling ++ rest)) _ (count_of z, rest) (count_forth spelling rest (count_of z) is) ∙ ap (λ (y : ℤ). Some (y, rest)) (int_again z)
+int_forth : (encoding rest : List ℕ) (z : ℤ) → IsInt encoding z → int_at (encoding ++ rest) ≡ Some (z, rest)
+int_forth encoding rest z is = bind_at (count_at (encoding ++ rest)) _ (count_of z, rest) (count_forth encoding rest (count_of z) is) ∙ ap (λ (y : ℤ). Some (y, rest)) (int_again z)
 
 pub int_read : IsReadBy IsInt int_at
 int_read = read_by IsInt int_at int_forth int_back
@@ -197,12 +197,12 @@ text_back bytes rest text e =
     subst (λ (p : List ℕ × List ℕ). Takes IsText bytes p.1 p.0) (same_Some found (text, rest) k.1)
     (takes_text bytes s.0.1 (take s.0.0 s.0.1) (drop s.0.0 s.0.1) s.0.0 t (leb-true s.0.0 (length s.0.1) k.0) refl refl)
 
-text_forth : (spelling rest text : List ℕ) → IsText spelling text → text_at (spelling ++ rest) ≡ Some (text, rest)
+text_forth : (encoding rest text : List ℕ) → IsText encoding text → text_at (encoding ++ rest) ≡ Some (text, rest)
 unfolding text_at
-text_forth spelling rest text is =
-    let count : count_at (spelling ++ rest) ≡ Some (length text, text ++ rest) = ap count_at (behind_count spelling rest text is) ∙ count_forth is.count (text ++ rest) (length text) is.counted in
+text_forth encoding rest text is =
+    let count : count_at (encoding ++ rest) ≡ Some (length text, text ++ rest) = ap count_at (suffix_count encoding rest text is) ∙ count_forth is.count (text ++ rest) (length text) is.counted in
     let within : leb (length text) (length (text ++ rest)) ≡ true = le-leb (length text) (length (text ++ rest)) (omega (arith, length-append text rest)) in
-    bind_at (count_at (spelling ++ rest)) _ (length text, text ++ rest) count ∙ rw (within, take_at text rest (length text) refl, drop_at text rest (length text) refl) refl
+    bind_at (count_at (encoding ++ rest)) _ (length text, text ++ rest) count ∙ rw (within, take_at text rest (length text) refl, drop_at text rest (length text) refl) refl
 
 pub text_read : IsReadBy IsText text_at
 text_read = read_by IsText text_at text_forth text_back

@@ -1,16 +1,16 @@
--- Spellings as functions: what they give is a spelling, and a value has no other.
+-- Encodings as functions: they give an encoding of each value in range, and a value has no other.
 use Rattle.std.proofs.Common.{◌≡◌, ℕ, zero, suc, ◌+◌, ◌*◌, ◌/◌, ◌%◌, ◌^◌, ◌<◌, ◌≤◌, List, [], ◌∷◌, ◌++◌, length, refl, sym, ap, subst, ◌∙◌, arith, inl, inr}
 use Rattle.std.specs.Prelude.{FitsSigned}
 use Rattle.std.specs.Int.{w64}
 use Rattle.std.proofs.lemmas.Bool.{cases_lt, lt-ltb, le-ltb}
 use Rattle.std.proofs.Math.Nat.{pow-suc}
-use Rattle.rs_codec.specs.Spelling.{IsGroups, IsCount, count_of, IsInt, IsText, Puts}
+use Rattle.rs_codec.specs.Encoding.{IsGroups, IsCount, count_of, IsInt, IsText, Puts}
 use Rattle.rs_codec.specs.Written.{groups_bytes, count_bytes, int_bytes, text_bytes}
-use Rattle.rs_codec.specs.Laws.{IsWrittenBy, IsSpelledOnce}
-use Rattle.rs_codec.proofs.Groups.{longer, same_front}
-use Rattle.rs_codec.proofs.Spellings.{count_below}
+use Rattle.rs_codec.specs.Laws.{IsWrittenBy, IsEncodedOnce}
+use Rattle.rs_codec.proofs.Groups.{longer, same_prefix}
+use Rattle.rs_codec.proofs.Encodings.{count_below}
 
--- ---- one spelling
+-- ---- uniqueness
 
 same_groups : (a b : List ℕ) (n : ℕ) → IsGroups a n → IsGroups b n → a ≡ b
 same_groups [] b n p q = absurd p
@@ -21,18 +21,18 @@ same_groups (x ∷ c ∷ a) (y ∷ []) n p q = absurd (omega (arith, q.0, q.1, p
 same_groups (x ∷ c ∷ a) (y ∷ d ∷ b) n p q =
     let first : x ≡ y = omega (arith, p.0, p.1, p.4, q.0, q.1, q.4) in
     let high : p.2 ≡ q.2 = omega (arith, first, p.4, q.4) in
-    same_front x y (c ∷ a) (d ∷ b) first (same_groups (c ∷ a) (d ∷ b) q.2 (subst (λ (h : ℕ). IsGroups (c ∷ a) h) high p.5) q.5)
+    same_prefix x y (c ∷ a) (d ∷ b) first (same_groups (c ∷ a) (d ∷ b) q.2 (subst (λ (h : ℕ). IsGroups (c ∷ a) h) high p.5) q.5)
 
-pub once_count : IsSpelledOnce IsCount
+pub once_count : IsEncodedOnce IsCount
 once_count a b n p q = same_groups a b n p.groups q.groups
 
-pub once_int : IsSpelledOnce IsInt
+pub once_int : IsEncodedOnce IsInt
 once_int a b z p q = once_count a b (count_of z) p q
 
-pub once_text : IsSpelledOnce IsText
+pub once_text : IsEncodedOnce IsText
 once_text a b text p q = p.parts ∙ ap (λ (count : List ℕ). count ++ text) (once_count p.count q.count (length text) p.counted q.counted) ∙ sym q.parts
 
--- ---- as it is written
+-- ---- the functions give encodings
 
 groups_are : (more n : ℕ) → n < 128 * 128 ^ more → IsGroups (groups_bytes more n) n
 groups_are zero n below = (omega (arith, below), refl)
@@ -54,7 +54,7 @@ written_int z fits = written_count (count_of z) (count_below z fits)
 pub written_text : IsWrittenBy IsText (λ text. length text < 2 ^ 64) text_bytes
 written_text text below = record { count = count_bytes (length text); counted = written_count (length text) below; parts = refl }
 
--- ---- how long it is
+-- ---- lengths
 
 length_groups : (more n : ℕ) → length (groups_bytes more n) ≤ more + 1
 length_groups zero n = omega arith
@@ -68,7 +68,7 @@ pub length_count : (n : ℕ) → length (count_bytes n) ≤ 10
 unfolding count_bytes
 length_count n = length_groups 9 n
 
--- ---- what is put
+-- ---- what is appended
 
-pub puts_written : {X : Type 0} (IsX : List ℕ → X → Type 0) (old new written : List ℕ) (x : X) → IsSpelledOnce IsX → IsX written x → Puts IsX old new x → new ≡ old ++ written
-puts_written IsX old new written x once is p = p.parts ∙ ap (λ (s : List ℕ). old ++ s) (once p.spelling written x p.spelled is)
+pub puts_written : {X : Type 0} (IsX : List ℕ → X → Type 0) (old new written : List ℕ) (x : X) → IsEncodedOnce IsX → IsX written x → Puts IsX old new x → new ≡ old ++ written
+puts_written IsX old new written x once is p = p.parts ∙ ap (λ (s : List ℕ). old ++ s) (once p.encoding written x p.encoded is)

@@ -1,4 +1,4 @@
 pub mod Laws
 pub mod Reader
-pub mod Spelling
+pub mod Encoding
 pub mod Written

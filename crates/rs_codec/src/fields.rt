@@ -1,13 +1,13 @@
-//! Fields taken from the front of bytes. Where none stands there the bytes stay as they were.
+//! A cursor that takes fields from the start of a byte slice. On `None` nothing is consumed.
 
 ghost use Rattle.std.specs.Prelude.{◌≡◌, ◌<◌, ◌≤◌, ℕ, ℤ, List, [], ◌∷◌, ◌++◌, length, Some, None, IfSome, IfNone};
 ghost use Rattle.std.specs.Int.{w32, w64, to_be_bytes};
-ghost use Rattle.rs_codec.specs.Spelling.{count_of, IsGroups, IsCount, IsInt, IsText, Takes, NoneBegins};
+ghost use Rattle.rs_codec.specs.Encoding.{count_of, IsGroups, IsCount, IsInt, IsText, Takes, NoneBegins};
 ghost use Rattle.rs_codec.specs.Reader as reader;
 
 use std::marker::Model;
 
-/// The bytes that are still to be read. Contracts see it as the list of them.
+/// A cursor over encoded fields: the bytes that are still to be read, which is how contracts view it.
 #[derive(Drop)]
 pub struct Fields<'a> {
     left: &'a [u8],
@@ -33,11 +33,11 @@ fn u64_of(bytes: &[u8; 8]) -> u64
     u64::from_be_bytes(*bytes)
 }
 
-/// The number up to a limit whose groups stand at the front, and the bytes behind it.
+/// Splits off a number of at most `limit`, encoded in groups of seven bits. Linear in the encoding's length.
 fn groups(bytes: &[u8], limit: u64) -> Option<(u64, &[u8])>
     ensures within { IfSome result (λ found. found.0 ≤ limit) }
     ensures found { IfSome result (λ found. Takes IsGroups bytes.now found.1.now found.0) }
-    ensures none { IfNone result ((n : ℕ) (spelling rest : List ℕ) → n ≤ limit → IsGroups spelling n → bytes.now ≡ spelling ++ rest → ⊥) }
+    ensures none { IfNone result ((n : ℕ) (encoding rest : List ℕ) → n ≤ limit → IsGroups encoding n → bytes.now ≡ encoding ++ rest → ⊥) }
 {
     let (first, rest) = bytes.split_first()?;
     let first = u64::from(*first);
@@ -54,7 +54,7 @@ fn groups(bytes: &[u8], limit: u64) -> Option<(u64, &[u8])>
     Some((first - 128 + 128 * high, rest))
 }
 
-/// The count at the front, and the bytes behind it.
+/// Splits off a count.
 fn count(bytes: &[u8]) -> Option<(u64, &[u8])>
     ensures found { IfSome result (λ found. Takes IsCount bytes.now found.1.now found.0) }
     ensures none { IfNone result (NoneBegins IsCount bytes.now) }
@@ -62,7 +62,7 @@ fn count(bytes: &[u8]) -> Option<(u64, &[u8])>
     groups(bytes, u64::MAX)
 }
 
-/// The integer at a place among 0, -1, 1, -2, 2 and so on.
+/// Returns the integer at a position of 0, -1, 1, -2, 2 and so on.
 fn int_of(count: u64) -> i64
     ensures { count_of result ≡ count }
 {
@@ -71,21 +71,21 @@ fn int_of(count: u64) -> i64
 }
 
 impl<'a> Fields<'a> {
-    /// The fields that these bytes are to be read as.
+    /// Returns a cursor at the start of the bytes.
     pub fn new(bytes: &'a [u8]) -> Fields<'a>
         ensures { result ≡ bytes.now }
     {
         Fields { left: bytes }
     }
 
-    /// The bytes that are left.
+    /// Returns the bytes that are still to be read.
     pub fn rest(&self) -> &'a [u8]
         ensures { result.now ≡ self.now }
     {
         self.left
     }
 
-    /// A byte as it is.
+    /// Takes one byte. Returns `None` exactly at the end.
     pub fn take_byte(&mut self) -> Option<u8>
         ensures found { IfSome result (λ byte. self.old ≡ byte ∷ self.new) }
         ensures none { IfNone result (self.old ≡ []) }
@@ -98,7 +98,7 @@ impl<'a> Fields<'a> {
         Some(*byte)
     }
 
-    /// A number in four bytes, the highest first.
+    /// Takes a big-endian number of four bytes. Returns `None` exactly if fewer than four are left.
     pub fn take_u32(&mut self) -> Option<u32>
         ensures found { IfSome result (λ n. self.old ≡ to_be_bytes w32 n ++ self.new) }
         ensures none { IfNone result ((n : ℕ) (rest : List ℕ) → self.old ≡ to_be_bytes w32 n ++ rest → ⊥) }
@@ -107,12 +107,12 @@ impl<'a> Fields<'a> {
         ensures read { IfSome result (λ n. reader.u32_at self.old ≡ Some (n, self.new)) }
         ensures end { IfNone result (reader.u32_at self.old ≡ None) }
     {
-        let (front, rest) = self.left.split_first_chunk::<4>()?;
+        let (prefix, rest) = self.left.split_first_chunk::<4>()?;
         self.left = rest;
-        Some(u32_of(front))
+        Some(u32_of(prefix))
     }
 
-    /// A number in eight bytes, the highest first.
+    /// Takes a big-endian number of eight bytes. Returns `None` exactly if fewer than eight are left.
     pub fn take_u64(&mut self) -> Option<u64>
         ensures found { IfSome result (λ n. self.old ≡ to_be_bytes w64 n ++ self.new) }
         ensures none { IfNone result ((n : ℕ) (rest : List ℕ) → self.old ≡ to_be_bytes w64 n ++ rest → ⊥) }
@@ -121,12 +121,13 @@ impl<'a> Fields<'a> {
         ensures read { IfSome result (λ n. reader.u64_at self.old ≡ Some (n, self.new)) }
         ensures end { IfNone result (reader.u64_at self.old ≡ None) }
     {
-        let (front, rest) = self.left.split_first_chunk::<8>()?;
+        let (prefix, rest) = self.left.split_first_chunk::<8>()?;
         self.left = rest;
-        Some(u64_of(front))
+        Some(u64_of(prefix))
     }
 
-    /// A number in as few bytes as it takes. One that is spelled in more bytes, or is above `u64::MAX`, is `None`.
+    /// Takes a number encoded in the fewest groups of seven bits, the lowest first: one to ten bytes. Returns `None`
+    /// exactly if no such encoding begins the bytes: a longer one, or one above `u64::MAX`, is none.
     pub fn take_count(&mut self) -> Option<u64>
         ensures found { IfSome result (λ n. Takes IsCount self.old self.new n) }
         ensures none { IfNone result (NoneBegins IsCount self.old) }
@@ -139,7 +140,8 @@ impl<'a> Fields<'a> {
         Some(n)
     }
 
-    /// An integer in as few bytes as it takes.
+    /// Takes an integer, encoded as the count of its position in 0, -1, 1, -2, 2 and so on. Returns `None` exactly if
+    /// no such encoding begins the bytes.
     pub fn take_int(&mut self) -> Option<i64>
         ensures found { IfSome result (λ n. Takes IsInt self.old self.new n) }
         ensures none { IfNone result (NoneBegins IsInt self.old) }
@@ -151,7 +153,8 @@ impl<'a> Fields<'a> {
         Some(int_of(n))
     }
 
-    /// A count of bytes, and as many bytes behind it: these.
+    /// Takes a text: the count of its bytes, then the bytes. Returns `None` exactly if no count begins the bytes or
+    /// fewer bytes follow it. The text is borrowed, not copied.
     pub fn take_text(&mut self) -> Option<&'a [u8]>
         ensures found { IfSome result (λ text. Takes IsText self.old self.new text.now) }
         ensures none { IfNone result (NoneBegins IsText self.old) }

@@ -1,103 +1,103 @@
-//! What holds of counts, integers and texts: each has one spelling, which begins no other of its kind, and it is made of
-//! bytes, whose count is known.
+//! Laws of the encodings of counts, integers and texts: they are unique and prefix-free, consist of bytes, and have a
+//! known length. A law's claim is its contract, and its body is empty.
 
 ghost use Rattle.std.specs.Prelude.{◌<◌, ◌≤◌, ◌^◌, ◌≡◌, ◌+◌, List, ℕ, ℤ, length, FitsSigned};
 ghost use Rattle.std.specs.Int.{w64};
 ghost use Rattle.rs_base.specs.Sizes.{count_of, count_size};
-ghost use Rattle.rs_codec.specs.Spelling.{IsByte, IsU32, IsU64, IsCount, IsInt, IsText};
+ghost use Rattle.rs_codec.specs.Encoding.{IsByte, IsU32, IsU64, IsCount, IsInt, IsText};
 ghost use Rattle.rs_codec.specs.Written.{count_bytes, int_bytes, text_bytes};
 ghost use Rattle.rs_codec.specs.Reader.{byte_at, u32_at, u64_at, count_at, int_at, text_at};
-ghost use Rattle.rs_codec.specs.Laws.{HasOneSpelling, IsSpelled, IsSpelledOnce, IsWrittenBy, IsReadBy, AreBytes};
+ghost use Rattle.rs_codec.specs.Laws.{HasOneEncoding, IsEncoded, IsEncodedOnce, IsWrittenBy, IsReadBy, AreBytes};
 
-/// A count has one spelling, which begins no other.
+/// Proves that the encodings of counts are unique and prefix-free.
 pub fn one_count()
-    ensures { HasOneSpelling IsCount }
+    ensures { HasOneEncoding IsCount }
 {}
 
-/// An integer has one spelling, which begins no other.
+/// Proves that the encodings of integers are unique and prefix-free.
 pub fn one_int()
-    ensures { HasOneSpelling IsInt }
+    ensures { HasOneEncoding IsInt }
 {}
 
-/// A text has one spelling, which begins no other.
+/// Proves that the encodings of texts are unique and prefix-free.
 pub fn one_text()
-    ensures { HasOneSpelling IsText }
+    ensures { HasOneEncoding IsText }
 {}
 
-/// Each number of 64 bits has a spelling as a count.
+/// Proves that each number below `2 ^ 64` has an encoding as a count.
 pub fn each_count()
-    ensures { IsSpelled IsCount (λ n. n < 2 ^ 64) }
+    ensures { IsEncoded IsCount (λ n. n < 2 ^ 64) }
 {}
 
-/// Each integer of 64 bits has a spelling.
+/// Proves that each signed integer of 64 bits has an encoding.
 pub fn each_int()
-    ensures { IsSpelled IsInt (λ n. FitsSigned w64 n) }
+    ensures { IsEncoded IsInt (λ n. FitsSigned w64 n) }
 {}
 
-/// Each text of fewer than `2 ^ 64` bytes has a spelling.
+/// Proves that each text of fewer than `2 ^ 64` bytes has an encoding.
 pub fn each_text()
-    ensures { IsSpelled IsText (λ text. length text < 2 ^ 64) }
+    ensures { IsEncoded IsText (λ text. length text < 2 ^ 64) }
 {}
 
-/// A count is spelled in bytes.
+/// Proves that a count's encoding consists of bytes.
 pub fn bytes_of_count()
     ensures { (bytes : List ℕ) (n : ℕ) → IsCount bytes n → AreBytes bytes }
 {}
 
-/// An integer is spelled in bytes.
+/// Proves that an integer's encoding consists of bytes.
 pub fn bytes_of_int()
     ensures { (bytes : List ℕ) (n : ℤ) → IsInt bytes n → AreBytes bytes }
 {}
 
-/// A text of bytes is spelled in bytes.
+/// Proves that the encoding of a text of bytes consists of bytes.
 pub fn bytes_of_text()
     ensures { (bytes text : List ℕ) → IsText bytes text → AreBytes text → AreBytes bytes }
 {}
 
-/// What the functions that write a count, an integer and a text give is its spelling.
+/// Proves that `count_bytes`, `int_bytes` and `text_bytes` give encodings.
 pub fn written()
     ensures count { IsWrittenBy IsCount (λ n. n < 2 ^ 64) count_bytes }
     ensures int { IsWrittenBy IsInt (λ n. FitsSigned w64 n) int_bytes }
     ensures text { IsWrittenBy IsText (λ text. length text < 2 ^ 64) text_bytes }
 {}
 
-/// A count, an integer and a text have no second spelling.
-pub fn spelled_once()
-    ensures count { IsSpelledOnce IsCount }
-    ensures int { IsSpelledOnce IsInt }
-    ensures text { IsSpelledOnce IsText }
+/// Proves that a count, an integer and a text have no second encoding.
+pub fn encoded_once()
+    ensures count { IsEncodedOnce IsCount }
+    ensures int { IsEncodedOnce IsInt }
+    ensures text { IsEncodedOnce IsText }
 {}
 
-/// A count takes at most ten bytes.
+/// Proves that a count's encoding is at most ten bytes long.
 pub fn longest_count()
     ensures { (n : ℕ) → length (count_bytes n) ≤ 10 }
 {}
 
-/// What the functions that read numbers give is what is spelled at the front.
+/// Proves that `byte_at`, `u32_at` and `u64_at` read exactly the values whose encodings begin the bytes.
 pub fn numbers_are_read()
     ensures byte { IsReadBy IsByte byte_at }
     ensures u32 { IsReadBy IsU32 u32_at }
     ensures u64 { IsReadBy IsU64 u64_at }
 {}
 
-/// What the functions that read a count, an integer and a text give is what is spelled at the front.
+/// Proves that `count_at`, `int_at` and `text_at` read exactly the values whose encodings begin the bytes.
 pub fn counts_are_read()
     ensures count { IsReadBy IsCount count_at }
     ensures int { IsReadBy IsInt int_at }
     ensures text { IsReadBy IsText text_at }
 {}
 
-/// How many bytes the spelling of a count takes.
+/// Proves the length in bytes of a count's encoding.
 pub fn length_of_count()
     ensures { (bytes : List ℕ) (n : ℕ) → IsCount bytes n → length bytes ≡ count_size n }
 {}
 
-/// How many bytes the spelling of an integer takes.
+/// Proves the length in bytes of an integer's encoding.
 pub fn length_of_int()
     ensures { (bytes : List ℕ) (n : ℤ) → IsInt bytes n → length bytes ≡ count_size (count_of n) }
 {}
 
-/// How many bytes the spelling of a text takes.
+/// Proves the length in bytes of a text's encoding.
 pub fn length_of_text()
     ensures { (bytes text : List ℕ) → IsText bytes text → length bytes ≡ count_size (length text) + length text }
 {}

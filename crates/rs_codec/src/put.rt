@@ -1,17 +1,17 @@
-//! Fields put at the end of bytes. Where memory is wanting the bytes stay as they were.
+//! Encoders, which append a field to a byte buffer. On out of memory nothing changes.
 
 ghost use Rattle.std.specs.Prelude.{◌≡◌, ◌≤◌, [], ◌∷◌, ◌++◌, take, OnOk, OnErr};
 ghost use Rattle.std.specs.Int.{w32, w64, to_be_bytes};
-ghost use Rattle.rs_codec.specs.Spelling.{IsCount, IsInt, IsText, Puts};
+ghost use Rattle.rs_codec.specs.Encoding.{IsCount, IsInt, IsText, Puts};
 ghost use Rattle.rs_codec.specs.Written.{count_bytes, int_bytes, text_bytes};
 
 use byteorder::{BigEndian, ByteOrder};
 use rs_base::{Bytes, NoMemory, count_of};
 
-/// The most bytes that a count takes: groups of seven bits for 64.
+/// The most bytes of a count's encoding: ten groups of seven bits hold 64 bits.
 const LONGEST: usize = 10;
 
-/// A byte as it is.
+/// Appends one byte. On out of memory nothing changes.
 pub fn put_byte(out: &mut Bytes, byte: u8) -> Result<(), NoMemory>
     ensures ok { OnOk result (out.new ≡ out.old ++ byte ∷ []) }
     ensures err { OnErr result (out.new ≡ out.old) }
@@ -19,7 +19,7 @@ pub fn put_byte(out: &mut Bytes, byte: u8) -> Result<(), NoMemory>
     out.push(byte)
 }
 
-/// A number in four bytes, the highest first.
+/// Appends a number as four big-endian bytes. On out of memory nothing changes.
 pub fn put_u32(out: &mut Bytes, n: u32) -> Result<(), NoMemory>
     ensures ok { OnOk result (out.new ≡ out.old ++ to_be_bytes w32 n) }
     ensures err { OnErr result (out.new ≡ out.old) }
@@ -29,7 +29,7 @@ pub fn put_u32(out: &mut Bytes, n: u32) -> Result<(), NoMemory>
     out.extend(&bytes)
 }
 
-/// A number in eight bytes, the highest first.
+/// Appends a number as eight big-endian bytes. On out of memory nothing changes.
 pub fn put_u64(out: &mut Bytes, n: u64) -> Result<(), NoMemory>
     ensures ok { OnOk result (out.new ≡ out.old ++ to_be_bytes w64 n) }
     ensures err { OnErr result (out.new ≡ out.old) }
@@ -39,10 +39,10 @@ pub fn put_u64(out: &mut Bytes, n: u64) -> Result<(), NoMemory>
     out.extend(&bytes)
 }
 
-/// Writes the groups of a number over the first bytes, and answers how many there are.
+/// Encodes a number in groups of seven bits over the first bytes, and returns the number of bytes written.
 fn write_groups(bytes: &mut [u8; LONGEST], n: u64) -> usize
     ensures within { result ≤ 10 }
-    ensures spelled { IsCount (take result bytes.new) n }
+    ensures encoded { IsCount (take result bytes.new) n }
 {
     let mut rest = n;
     for at in 0..LONGEST - 1 {
@@ -57,7 +57,8 @@ fn write_groups(bytes: &mut [u8; LONGEST], n: u64) -> usize
     LONGEST
 }
 
-/// A number in as few bytes as it takes: one for those below 128, and ten at most.
+/// Appends a number in the fewest groups of seven bits, the lowest first: one byte below 128, and ten at most. On out
+/// of memory nothing changes.
 pub fn put_count(out: &mut Bytes, n: u64) -> Result<(), NoMemory>
     ensures ok { OnOk result (Puts IsCount out.old out.new n) }
     ensures written { OnOk result (out.new ≡ out.old ++ count_bytes n) }
@@ -68,7 +69,8 @@ pub fn put_count(out: &mut Bytes, n: u64) -> Result<(), NoMemory>
     out.extend(&bytes[..len])
 }
 
-/// An integer in as few bytes as it takes: one for those from -64 to 63, and ten at most.
+/// Appends an integer as the count of its position in 0, -1, 1, -2, 2 and so on: one byte from -64 to 63, and ten at
+/// most. On out of memory nothing changes.
 pub fn put_int(out: &mut Bytes, n: i64) -> Result<(), NoMemory>
     ensures ok { OnOk result (Puts IsInt out.old out.new n) }
     ensures written { OnOk result (out.new ≡ out.old ++ int_bytes n) }
@@ -77,7 +79,7 @@ pub fn put_int(out: &mut Bytes, n: i64) -> Result<(), NoMemory>
     put_count(out, count_of(n))
 }
 
-/// The count of a text's bytes, and then these.
+/// Appends a text: the count of its bytes, then the bytes. On out of memory nothing changes.
 pub fn put_text(out: &mut Bytes, text: &[u8]) -> Result<(), NoMemory>
     ensures ok { OnOk result (Puts IsText out.old out.new text.now) }
     ensures written { OnOk result (out.new ≡ out.old ++ text_bytes text.now) }

@@ -1,5 +1,4 @@
-//! Fields read one after the other by `?`. Where none stands there the fault is `Malformed`, and the bytes stay as they
-//! were.
+//! The cursor's methods for use with `?`: no field is the fault `Malformed`, and then nothing is consumed.
 
 ghost use Rattle.std.specs.Prelude.{◌≡◌, Some, IfErr, IsErrOf};
 ghost use Rattle.rs_base.specs.Reading.{Reads};
@@ -10,7 +9,7 @@ use rs_base::{Bytes, ReadFault};
 use std::alloc::Global;
 
 impl<'a> Fields<'a> {
-    /// A byte as it is.
+    /// Reads one byte. Fails with `Malformed` exactly at the end.
     pub fn read_byte(&mut self) -> Result<u8, ReadFault>
         ensures read { Reads (reader.byte_at self.old) result self.new }
         ensures fault { IfErr result (λ fault. (fault ≡ ReadFault.Malformed) × (self.new ≡ self.old)) }
@@ -18,7 +17,7 @@ impl<'a> Fields<'a> {
         self.take_byte().ok_or(ReadFault::Malformed)
     }
 
-    /// A number in four bytes, the highest first.
+    /// Reads a big-endian number of four bytes. Fails with `Malformed` exactly if fewer than four are left.
     pub fn read_u32(&mut self) -> Result<u32, ReadFault>
         ensures read { Reads (reader.u32_at self.old) result self.new }
         ensures fault { IfErr result (λ fault. (fault ≡ ReadFault.Malformed) × (self.new ≡ self.old)) }
@@ -26,7 +25,7 @@ impl<'a> Fields<'a> {
         self.take_u32().ok_or(ReadFault::Malformed)
     }
 
-    /// A number in eight bytes, the highest first.
+    /// Reads a big-endian number of eight bytes. Fails with `Malformed` exactly if fewer than eight are left.
     pub fn read_u64(&mut self) -> Result<u64, ReadFault>
         ensures read { Reads (reader.u64_at self.old) result self.new }
         ensures fault { IfErr result (λ fault. (fault ≡ ReadFault.Malformed) × (self.new ≡ self.old)) }
@@ -34,7 +33,7 @@ impl<'a> Fields<'a> {
         self.take_u64().ok_or(ReadFault::Malformed)
     }
 
-    /// A number in as few bytes as it takes.
+    /// Reads a count, as `take_count` does. Fails with `Malformed` exactly if no count begins the bytes.
     pub fn read_count(&mut self) -> Result<u64, ReadFault>
         ensures read { Reads (reader.count_at self.old) result self.new }
         ensures fault { IfErr result (λ fault. (fault ≡ ReadFault.Malformed) × (self.new ≡ self.old)) }
@@ -42,7 +41,7 @@ impl<'a> Fields<'a> {
         self.take_count().ok_or(ReadFault::Malformed)
     }
 
-    /// An integer in as few bytes as it takes.
+    /// Reads an integer, as `take_int` does. Fails with `Malformed` exactly if no integer begins the bytes.
     pub fn read_int(&mut self) -> Result<i64, ReadFault>
         ensures read { Reads (reader.int_at self.old) result self.new }
         ensures fault { IfErr result (λ fault. (fault ≡ ReadFault.Malformed) × (self.new ≡ self.old)) }
@@ -50,11 +49,12 @@ impl<'a> Fields<'a> {
         self.take_int().ok_or(ReadFault::Malformed)
     }
 
-    /// A copy of the bytes of a text. Memory is wanting only where a text stands there, which then was passed over.
+    /// Reads a text and copies its bytes. Fails with `Malformed`, consuming nothing, if no text begins the bytes, and with
+    /// `NoMemory`, the text consumed, if the allocation fails. Linear in the text's length.
     pub fn read_text(&mut self, alloc: Global) -> Result<Bytes, ReadFault>
         ensures read { Reads (reader.text_at self.old) result self.new }
         ensures stays { IsErrOf result ReadFault.Malformed → self.new ≡ self.old }
-        ensures passed { IsErrOf result ReadFault.NoMemory → reader.behind_text self.old ≡ Some self.new }
+        ensures passed { IsErrOf result ReadFault.NoMemory → reader.suffix_text self.old ≡ Some self.new }
     {
         let text = self.take_text().ok_or(ReadFault::Malformed)?;
         Ok(Bytes::from_slice(alloc, text)?)

@@ -1,4 +1,4 @@
--- Sets, one after the other.
+-- Assignments, one after the other.
 use Rattle.std.proofs.Common.{◌≡◌, ◌<◌, ◌≤◌, ℕ, Bool, true, false, List, length, take, get_or, IsTrue, Ok, Err, cond, refl, sym, ap, ◌∙◌}
 use Rattle.std.specs.List.{list_all}
 use Rattle.std.proofs.lemmas.List.{take_all}
@@ -12,7 +12,7 @@ not_true : (b : Bool) → ¬ (IsTrue b) → b ≡ false
 not_true true none = absurd (none refl)
 not_true false none = refl
 
--- a set whose expression isn't an integer of 64 bits denies the whole
+-- an assignment whose expression isn't an integer of 64 bits denies the whole
 pub overflows : (sets : List BoundSet) (given row : List Value) (i : ℕ) (set : BoundSet) → i < length sets → set ≡ get_or sets i set
     → ¬ (IsTrue (is_stored (set_value given row set))) → Err denials.Overflow ≡ row_set sets given row
 unfolding row_set

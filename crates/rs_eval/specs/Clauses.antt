@@ -1,4 +1,4 @@
--- Which rows meet clauses.
+-- Which rows satisfy a predicate.
 use Rattle.std.specs.Prelude.{Bool, false, List, Option, Some, None, slice_get}
 use Rattle.std.specs.List.{list_any, list_all}
 use Rattle.std.specs.Ordering.{is_eq, is_ne, is_lt, is_le, is_gt, is_ge}
@@ -11,7 +11,7 @@ use Rattle.rs_ast.specs.declared.bound.BoundSide.TheVariants as sides
 use Rattle.rs_ast.specs.declared.clause.Op.{Op}
 use Rattle.rs_ast.specs.declared.clause.Op.TheVariants as ops
 
--- two values that are so ordered stand in this comparison
+-- two values in this order satisfy the comparison
 abbrev pub allows : Op → Ordering → Bool
 allows ops.Eq order = is_eq order
 allows ops.Ne order = is_ne order
@@ -20,13 +20,13 @@ allows ops.Le order = is_le order
 allows ops.Gt order = is_gt order
 allows ops.Ge order = is_ge order
 
--- the value that stands on the right; a parameter has none before it is filled
+-- the right operand's value; a parameter has none before it is filled
 abbrev pub side_value : List Value → BoundSide → Option Value
-side_value row (sides.Place place) = slice_get row place
+side_value row (sides.Place column_index) = slice_get row column_index
 side_value row (sides.Lit value) = Some value
 side_value row (sides.Param param) = None
 
--- both values are there, and stand in the comparison
+-- both values are there, and satisfy the comparison
 abbrev pub stands : Op → Option Value → Option Value → Bool
 stands op (Some left) (Some right) = allows op (value_cmp left right)
 stands op (Some left) None = false
@@ -39,6 +39,6 @@ cmp_holds row cmp = stands cmp.op (slice_get row cmp.left) (side_value row cmp.r
 abbrev pub clause_holds : List Value → List BoundCmp → Bool
 clause_holds row clause = list_any (cmp_holds row) clause
 
--- the row meets each clause
+-- the row satisfies each clause
 unfoldable pub holds : List (List BoundCmp) → List Value → Bool
 holds clauses row = list_all (clause_holds row) clauses

@@ -1,4 +1,4 @@
-//! Which rows meet clauses.
+//! Which rows satisfy a predicate.
 
 ghost use Rattle.std.specs.Prelude.{◌≡◌, slice_get};
 ghost use Rattle.std.specs.Option.{option_copied};
@@ -8,7 +8,7 @@ use rs_ast::{BoundClause, BoundCmp, BoundSide, Op};
 use rs_base::Value;
 use std::cmp::Ordering;
 
-/// Whether two values that are so ordered stand in the comparison.
+/// Returns whether two values in this order satisfy the comparison.
 pub fn allows(op: Op, order: Ordering) -> bool
     ensures { result ≡ spec.allows op order }
 {
@@ -22,19 +22,19 @@ pub fn allows(op: Op, order: Ordering) -> bool
     }
 }
 
-/// The value at a place of the row, if it has one.
-fn value_at(row: &[Value], place: u16) -> Option<&Value>
-    ensures { option_copied result ≡ slice_get row.now place }
+/// Returns the value at a column index, if the row has one.
+fn value_at(row: &[Value], column_index: u16) -> Option<&Value>
+    ensures { option_copied result ≡ slice_get row.now column_index }
 {
-    row.get(usize::from(place))
+    row.get(usize::from(column_index))
 }
 
-/// The value that stands on the right, if there is one.
+/// Returns the right operand's value, if there is one.
 fn side_value<'a>(row: &'a [Value], side: &'a BoundSide) -> Option<&'a Value>
     ensures { option_copied result ≡ spec.side_value row.now side.now }
 {
     match side {
-        BoundSide::Place(place) => value_at(row, *place),
+        BoundSide::Place(column_index) => value_at(row, *column_index),
         BoundSide::Lit(value) => Some(value),
         BoundSide::Param(_) => None,
     }
@@ -55,7 +55,7 @@ fn clause_holds(row: &[Value], clause: &[BoundCmp]) -> bool
     clause.iter().any(|cmp| cmp_holds(row, cmp))
 }
 
-/// Whether the row meets each clause. A comparison that lacks one of its values doesn't hold.
+/// Returns whether the row satisfies each clause. A comparison that lacks one of its values is false.
 #[tactic(auto, unfolding(crate::specs::Clauses::holds))]
 pub fn holds(clauses: &[BoundClause], row: &[Value]) -> bool
     ensures { result ≡ spec.holds clauses.now row.now }

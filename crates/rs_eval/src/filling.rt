@@ -1,4 +1,4 @@
-//! Clauses with values in place of parameters.
+//! Predicates with values for their parameters.
 
 ghost use Rattle.std.specs.Prelude.{◌≡◌, map, IfOk};
 ghost use Rattle.rs_eval.specs.Filling as spec;
@@ -7,7 +7,7 @@ use rs_ast::{BoundClause, BoundClauses, BoundCmp, BoundSide};
 use rs_base::{NoMemory, Value, with_room};
 use std::alloc::Global;
 
-/// The value of the parameter, or the parameter where it has none.
+/// Returns the value of the parameter, or the parameter if it has none.
 fn filled_param(alloc: Global, values: &[Value], param: u8) -> Result<BoundSide, NoMemory>
     ensures { IfOk result (λ side. side ≡ spec.filled_side values.now (BoundSide.Param param)) }
 {
@@ -21,7 +21,7 @@ fn filled_side(alloc: Global, values: &[Value], side: &BoundSide) -> Result<Boun
     ensures { IfOk result (λ filled. filled ≡ spec.filled_side values.now side.now) }
 {
     match side {
-        BoundSide::Place(place) => Ok(BoundSide::Place(*place)),
+        BoundSide::Place(column_index) => Ok(BoundSide::Place(*column_index)),
         BoundSide::Lit(value) => Ok(BoundSide::Lit(value.copy(alloc)?)),
         BoundSide::Param(param) => filled_param(alloc, values, *param),
     }
@@ -52,8 +52,8 @@ fn filled_clause(
     Ok(filled)
 }
 
-/// A copy of the clauses, each parameter replaced by its value. A parameter that has no value stays. Fails where memory
-/// is wanting.
+/// Copies the predicate, each parameter replaced by its value. A parameter without a value stays. Fails on out of
+/// memory.
 pub fn fill(
     alloc: Global,
     clauses: &[BoundClause],

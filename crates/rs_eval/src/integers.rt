@@ -5,7 +5,7 @@ ghost use Rattle.rs_eval.specs.Integers.{is_i64, computed};
 
 use rs_ast::Arith;
 
-/// The sum, difference or product, where it is an integer of 64 bits.
+/// Returns the sum, difference or product, if it is an integer of 64 bits.
 pub fn compute(op: Arith, x: i64, y: i64) -> Option<i64>
     ensures { SomeIff result (IsTrue (is_i64 (computed op x y))) (computed op x y) }
 {

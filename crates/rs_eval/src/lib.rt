@@ -1,4 +1,4 @@
-//! What bound clauses, sets and tables give: which rows meet clauses, rows after sets, and joined rows.
+//! Evaluation of bound predicates, assignments and joins.
 #![tactic(auto)]
 
 mod clauses;

@@ -1,4 +1,4 @@
-//! The row after the sets of an UPDATE.
+//! The row after the assignments of an UPDATE.
 
 ghost use Rattle.std.specs.Prelude.{◌≡◌, IfOk, IsTrue, SomeIff, pos, slice_set, unwrap_or};
 ghost use Rattle.std.specs.Option.{option_copied};
@@ -9,7 +9,7 @@ use rs_ast::{BoundSet, BoundTerm};
 use rs_base::{Denial, NoMemory, Row, Value, copy_row};
 use std::alloc::Global;
 
-/// A copy of the value, or 0 where there is none.
+/// Copies the value, or returns 0 if there is none.
 fn copy_or_zero(alloc: Global, value: Option<&Value>) -> Result<Value, NoMemory>
     ensures { IfOk result (λ copy. copy ≡ unwrap_or (option_copied value.entry) (Value.Int (pos 0))) }
 {
@@ -19,7 +19,7 @@ fn copy_or_zero(alloc: Global, value: Option<&Value>) -> Result<Value, NoMemory>
     }
 }
 
-/// The value of a term, or 0 where it has none.
+/// Returns the value of a term, or 0 if it has none.
 pub fn term_value(
     alloc: Global,
     values: &[Value],
@@ -29,7 +29,7 @@ pub fn term_value(
     ensures { IfOk result (λ value. value ≡ spec.term_value values.now row.now term.now) }
 {
     match term {
-        BoundTerm::Place(place) => copy_or_zero(alloc, row.get(usize::from(*place))),
+        BoundTerm::Place(column_index) => copy_or_zero(alloc, row.get(usize::from(*column_index))),
         BoundTerm::Lit(value) => value.copy(alloc),
         BoundTerm::Param(param) => copy_or_zero(alloc, values.get(usize::from(*param))),
     }
@@ -53,18 +53,18 @@ fn integer_or_zero(value: Option<&Value>) -> i64
     }
 }
 
-/// The integer that the value of a term is, or 0.
+/// Returns the integer that the value of a term is, or 0.
 fn operand(values: &[Value], row: &[Value], term: &BoundTerm) -> i64
     ensures { result ≡ spec.integer_of (spec.term_value values.now row.now term.now) }
 {
     match term {
-        BoundTerm::Place(place) => integer_or_zero(row.get(usize::from(*place))),
+        BoundTerm::Place(column_index) => integer_or_zero(row.get(usize::from(*column_index))),
         BoundTerm::Lit(value) => integer_of(value),
         BoundTerm::Param(param) => integer_or_zero(values.get(usize::from(*param))),
     }
 }
 
-/// The value. That it is a text or an integer of 64 bits is seen in each of its cases.
+/// Returns the value. That it is a text or an integer of 64 bits is seen in each of its cases.
 fn stored(value: Value) -> Value
     ensures same { result ≡ value }
     ensures stored { IsTrue (spec.is_stored value) }
@@ -75,7 +75,7 @@ fn stored(value: Value) -> Value
     }
 }
 
-/// What the column is set to, or `None` where that isn't an integer of 64 bits.
+/// Returns the new value of the column, or `None` if it isn't an integer of 64 bits.
 fn set_value(
     alloc: Global,
     values: &[Value],
@@ -94,7 +94,7 @@ fn set_value(
     }
 }
 
-/// Sets the column, where the row has it.
+/// Sets the column, if the row has it.
 fn put(row: &mut Row, column: u8, value: Value)
     ensures { row.new ≡ slice_set row.old column value }
 {
@@ -104,8 +104,8 @@ fn put(row: &mut Row, column: u8, value: Value)
     }
 }
 
-/// The row with each column set, all by the old row, or `Overflow` where one of their expressions isn't an integer of 64
-/// bits. Fails where memory is wanting.
+/// Returns the row after all assignments, each by the old row, or `Overflow` if one of their expressions isn't an integer
+/// of 64 bits. Fails on out of memory.
 pub fn set_row(
     alloc: Global,
     sets: &[BoundSet],

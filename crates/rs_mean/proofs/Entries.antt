@@ -1,4 +1,4 @@
--- Entries of a map in order of keys.
+-- Entries of a map sorted by key.
 use Rattle.std.proofs.Common.{◌≡◌, ◌≢◌, List, [], ◌∷◌, Bool, true, false, cond, Some, None, Ordering, Less, Equal, Greater, refl, sym, ap, ◌∙◌, is_eq}
 use Rattle.std.specs.Cmp.{IsTotalOrder}
 use Rattle.std.specs.BTreeMap.{insert_entry, is_at}
@@ -18,14 +18,14 @@ apart {K} {R} exact x y differ =
     at (R x y) refl
 
 module _ {K X : Type 0} {R : K → K → Ordering} (o : IsTotalOrder R) (k : K) where
-  -- no later key is k where an earlier one is above it
+  -- no later key is k if an earlier one is above it
   lookup_below : (e : K) (es : List (K × X)) → R k e ≡ Less → AllByRecursion (λ y. R e y ≡ Less) (keys_of es) → lookup (is_at (R k)) es ≡ None
   lookup_below e [] h all = refl
   lookup_below e (f ∷ es) h all =
       let here : R k f.0 ≡ Less = o.trans k e f.0 h all.0 in
       ap (λ r. cond (is_eq r) (Some f.1) (lookup (is_at (R k)) es)) here ∙ lookup_below e es h all.1
 
-  -- a value written in place of one that is there
+  -- a value replaced
   pub set_value_is_insert_entry : (es : List (K × X)) (v w : X) → IsStrictlySortedBy R (keys_of es) → lookup (is_at (R k)) es ≡ Some v
       → set_value (is_at (R k)) es w ≡ insert_entry R es k w
   set_value_is_insert_entry [] v w up found = cc
@@ -41,7 +41,7 @@ module _ {K X : Type 0} {R : K → K → Ordering} (o : IsTotalOrder R) (k : K) 
       at (R k e.0) refl found
 
   module _ (v : X) where
-    -- the key that was put in has its value
+    -- the inserted key has its value
     pub lookup_put : (es : List (K × X)) → lookup (is_at (R k)) (insert_entry R es k v) ≡ Some v
     lookup_put [] = ap (λ r. cond (is_eq r) (Some v) None) (tied_itself o k)
     lookup_put (e ∷ es) =
@@ -67,7 +67,7 @@ module _ {K X : Type 0} {R : K → K → Ordering} (o : IsTotalOrder R) (k : K) 
         ] in
         at (R k e.0) refl
 
-    -- keys in order stay so
+    -- sorted keys stay sorted
     all_keys_put : (P : K → Type 0) (es : List (K × X)) → P k → AllByRecursion P (keys_of es) → AllByRecursion P (keys_of (insert_entry R es k v))
     all_keys_put P [] here all = (here, tt)
     all_keys_put P (e ∷ es) here all =
@@ -91,7 +91,7 @@ module _ {K X : Type 0} {R : K → K → Ordering} (o : IsTotalOrder R) (k : K) 
         ] in
         at (R k e.0) refl
 
--- ---- entries that are taken out
+---- removed entries
 
 module _ {K X : Type 0} (R : K → K → Ordering) (test : K → Bool) where
   all_keys_left : (P : K → Type 0) (es : List (K × X)) → AllByRecursion P (keys_of es) → AllByRecursion P (keys_of (remove_entry test es))
@@ -99,7 +99,7 @@ module _ {K X : Type 0} (R : K → K → Ordering) (test : K → Bool) where
   all_keys_left P (e ∷ es) all =
       elim (test e.0) as (λ b. AllByRecursion P (keys_of (cond b es (e ∷ remove_entry test es)))) [ true ↦ all.1 | false ↦ (all.0, all_keys_left P es all.1) ]
 
-  -- keys in order stay so
+  -- sorted keys stay sorted
   pub left_in_order : (es : List (K × X)) → IsStrictlySortedBy R (keys_of es) → IsStrictlySortedBy R (keys_of (remove_entry test es))
   unfolding IsStrictlySortedBy
   left_in_order [] up = up
@@ -124,7 +124,7 @@ module _ {K X : Type 0} {R : K → K → Ordering} (o : IsTotalOrder R) where
       ] in
       at (R k e.0) refl
 
-  -- the key that was taken out has no value
+  -- the removed key has no value
   pub lookup_gone : (k : K) (es : List (K × X)) → IsStrictlySortedBy R (keys_of es) → lookup (is_at (R k)) (remove_entry (is_at (R k)) es) ≡ None
   lookup_gone k es up =
       lookup-remove_entry (eq_by_cmp_equiv o) (is_at (R k)) (λ x y h. (eq_by_cmp_equiv o).congr k x y h) k es (IsDistinct-from_sorted R (keys_of es) up)

@@ -1,4 +1,4 @@
--- What effects are: denied, and then without a change; or done.
+-- Effects: denied, and then without a change; or done.
 use Rattle.std.proofs.Common.{◌≡◌, List, [], ◌∷◌, Option, Some, None, Ok, Err, refl, subst, sym}
 use Rattle.rs_base.specs.declared.reply.Answer.{Answer}
 use Rattle.rs_base.specs.declared.reply.Denial.{Denial}
@@ -7,7 +7,7 @@ use Rattle.rs_mean.specs.declared.change.Change.TheVariants as changes
 use Rattle.rs_mean.specs.declared.change.Effect.{Effect}
 use Rattle.rs_mean.specs.Effects.{Outcome, done, denied, unless_denied}
 
--- Where it is denied it has no change, and where it is done its change and its answers are so.
+-- If it is denied it has no change, and if it is done its change and its answers are so.
 pub record IsSo (P : Change → List Answer → Type 0) (effect : Effect) : Type 0 where
   pub idle : (cause : Denial) → effect.outcome ≡ Err cause → effect.change ≡ changes.Nothing
   pub so : (given : List Answer) → effect.outcome ≡ Ok given → P effect.change given

@@ -1,4 +1,4 @@
--- What each table keeps: how large it is, and that its columns and its indexes have names of their own.
+-- Invariants of each table: its size, and that its columns and its indexes have names of their own.
 use Rattle.std.proofs.Common.{◌≡◌, ◌≢◌, ℕ, ◌≤◌, true, false, ◌==◌, not, List, [], ◌∷◌, ◌++◌, length, nat_le, All, AllPairs, Option, Some, None, IfSome, refl, sym, ◌∙◌, arith, leb-true}
 use Rattle.std.specs.Prelude.{bytes_eq}
 use Rattle.std.specs.BTreeMap.{is_at}
@@ -31,11 +31,11 @@ use Rattle.rs_mean.specs.Database.{Database, table_named, with_changed}
 use Rattle.rs_mean.specs.Laws.{EachTable, IsWithin, HasDistinctIndexes}
 use Rattle.rs_rows.specs.Sizes.{rows_size}
 use Rattle.rs_mean.specs.Limits.{max_row_bytes, max_rows, max_table_bytes, fits_row, fits_rows}
-use Rattle.rs_mean.specs.RowChanges.{has_room, may_be_rows, kept}
+use Rattle.rs_mean.specs.RowChanges.{has_room, may_be_rows, other_rows}
 use Rattle.rs_mean.specs.RowStatements.{rows_of}
 use Rattle.rs_mean.specs.TableStatements.{indexes_of, has_index, is_indexed, without_index, is_other_index, new_table}
 use Rattle.rs_mean.proofs.LawTests.{not_false, neither, both}
-use Rattle.rs_mean.proofs.LawRows.{kept_and_met}
+use Rattle.rs_mean.proofs.LawRows.{others_and_matching}
 
 -- ---- each table of the database
 
@@ -43,7 +43,7 @@ use Rattle.rs_mean.proofs.LawRows.{kept_and_met}
 abbrev pub KeepsIn : (Table → Type 0) → Option Table → (Table → Table) → Type 0
 KeepsIn P found change = IfSome found (λ table. P (change table))
 
--- the table that the change puts in its place is so
+-- the table that the change puts in its place satisfies it
 abbrev pub Keeps : (Table → Type 0) → Database → Change → Type 0
 Keeps P db changes.Nothing = Unit {0}
 Keeps P db (changes.PutTable name table) = P table
@@ -86,7 +86,7 @@ rows_fit : (rows : List (List Value)) → list_all fits_row rows ≡ true → Al
 rows_fit rows fit =
     All-weaker (λ row. fits_row row ≡ true) (λ row. row_size row ≤ max_row_bytes) (λ row e. leb-true (row_size row) max_row_bytes e) rows (AllPass-from_list_all fits_row rows fit)
 
--- a table stays within its limits where it has room for the rows
+-- a table stays within its limits if it has room for the rows
 pub longer_within : (found : Option Table) (rows : List (List Value)) → IfSome found IsWithin → has_room (rows_of found) rows ≡ true → KeepsIn IsWithin found (with_rows rows)
 longer_within None rows within room = tt
 longer_within (Some table) rows within room =
@@ -98,7 +98,7 @@ longer_within (Some table) rows within room =
       row_bytes = All-append (λ row. row_size row ≤ max_row_bytes) table.rows rows within.row_bytes (rows_fit rows apart.0);
     }
 
--- a table is within its limits where its rows may be
+-- a table is within its limits if the test of its rows says so
 pub set_within : (found : Option Table) (rows : List (List Value)) → may_be_rows rows ≡ true → KeepsIn IsWithin found (λ table. record table { rows = rows })
 set_within None rows may = tt
 set_within (Some table) rows may =
@@ -106,15 +106,15 @@ set_within (Some table) rows may =
     let limits = both (nat_le (length rows) max_rows) (nat_le (rows_size rows) max_table_bytes) apart.1 in
     record { rows = leb-true (length rows) max_rows limits.0; bytes = leb-true (rows_size rows) max_table_bytes limits.1; row_bytes = rows_fit rows apart.0 }
 
-kept_size : (clauses : List (List BoundCmp)) (rows : List (List Value)) → rows_size (kept clauses rows) ≤ rows_size rows
-kept_size clauses rows = omega (arith, sum_by-filter_both (holds clauses) (λ row. not (holds clauses row)) (λ row. refl) row_size rows)
+others_size : (clauses : List (List BoundCmp)) (rows : List (List Value)) → rows_size (other_rows clauses rows) ≤ rows_size rows
+others_size clauses rows = omega (arith, sum_by-filter_both (holds clauses) (λ row. not (holds clauses row)) (λ row. refl) row_size rows)
 
 -- a table stays within its limits without some of its rows
-pub kept_within : (found : Option Table) (clauses : List (List BoundCmp)) → IfSome found IsWithin → KeepsIn IsWithin found (λ table. record table { rows = kept clauses (rows_of found) })
-kept_within None clauses within = tt
-kept_within (Some table) clauses within = record {
-  rows = omega (arith, kept_and_met clauses table.rows, within.rows);
-  bytes = omega (arith, kept_size clauses table.rows, within.bytes);
+pub others_within : (found : Option Table) (clauses : List (List BoundCmp)) → IfSome found IsWithin → KeepsIn IsWithin found (λ table. record table { rows = other_rows clauses (rows_of found) })
+others_within None clauses within = tt
+others_within (Some table) clauses within = record {
+  rows = omega (arith, others_and_matching clauses table.rows, within.rows);
+  bytes = omega (arith, others_size clauses table.rows, within.bytes);
   row_bytes = All-filter (λ row. not (holds clauses row)) (λ row. row_size row ≤ max_row_bytes) table.rows within.row_bytes;
 }
 
@@ -131,7 +131,7 @@ unnamed (column ∷ columns) name e =
     let apart = neither (bytes_eq column.name name) (has_name columns name) e in
     All-cons (λ (column : ColDef). name ≢ column.name) column columns (λ same. apart_from name column.name apart.0 (sym same)) (unnamed columns name apart.1)
 
--- no two columns have one name where the test says so
+-- no two columns have one name if the test says so
 pub columns_distinct : (columns : List ColDef) → names_differ columns ≡ true → AllPairs (λ (one other : ColDef). one.name ≢ other.name) columns
 columns_distinct [] e = λ i j d less low. absurd (omega arith)
 columns_distinct (column ∷ columns) e =
@@ -153,7 +153,7 @@ module _ (new : IndexOf) where
       let columns = neither (index.column == new.column) (is_indexed indexes new.column) column in
       All-cons (λ one. Differ one new) index indexes (apart_from new.name index.name names.0, eqb-false index.column new.column columns.0) (all_differ indexes names.1 columns.1)
 
-  -- the indexes differ where the one that was put behind them has a name and a column of its own
+  -- the indexes differ if the appended one has a name and a column of its own
   pub added_distinct : (found : Option Table) → IfSome found HasDistinctIndexes → has_index (indexes_of found) new.name ≡ false → is_indexed (indexes_of found) new.column ≡ false
       → KeepsIn HasDistinctIndexes found (λ table. record table { indexes = indexes_of found ++ new ∷ [] })
   added_distinct None distinct name column = tt

@@ -1,4 +1,4 @@
--- The kinds of the values in rows: those that INSERT puts in, and those that UPDATE sets.
+-- The kinds of the values in rows: those of INSERT, and those of UPDATE.
 use Rattle.std.proofs.Common.{◌≡◌, ℕ, ◌<◌, ◌≤◌, Bool, true, false, cond, List, [], ◌∷◌, ◌++◌, map, length, All, Option, Some, None, Result, Ok, Err, pos, flat_map, fold, slice_get, slice_set, get_or, unwrap_or, option_map, bytes_eq, ◌==◌, not, refl, sym, ap, ap₂, ◌∙◌, subst, arith}
 use Rattle.std.specs.Cmp.Lexicographic.{pointwise}
 use Rattle.std.specs.List.{list_any, list_all}
@@ -24,9 +24,9 @@ use Rattle.rs_ast.specs.declared.column.ColRef.{ColRef}
 use Rattle.rs_plan.specs.Kinds.{same_kind, kinds_fit}
 use Rattle.rs_bind.specs.Binding.{bound_term, bound_rows, bound_set}
 use Rattle.rs_bind.specs.Denials.{Test, test, first_denial, term_fits, row_fits, given_tests, row_tests, insert_tests, term_tests, term_kind, more_tests, expr_fits, set_tests, sets_tests}
-use Rattle.rs_bind.specs.Scope.{as_position, columns_as, named_count, place_of, unqualified, column_kind}
+use Rattle.rs_bind.specs.Scope.{as_position, columns_as, named_count, column_index_of, unqualified, column_kind}
 use Rattle.rs_bind.specs.declared.scope.ScopeColumn.{ScopeColumn}
-use Rattle.rs_bind.proofs.OverScope.{kinds_in, kind_known, place_kind, place_within}
+use Rattle.rs_bind.proofs.OverScope.{kinds_in, kind_known, column_index_kind, column_index_within}
 use Rattle.rs_bind.proofs.OverTests.{both_pass}
 use Rattle.rs_eval.specs.Clauses.{holds}
 use Rattle.rs_eval.specs.Setting.{term_value, combined, set_value, is_stored, with_sets, row_set}
@@ -41,7 +41,7 @@ same_kinds kinds.Int kinds.Text e = absurd cc
 same_kinds kinds.Text kinds.Int e = absurd cc
 same_kinds kinds.Text kinds.Text e = refl
 
--- a table's columns have the same kinds whatever the table goes by
+-- a table's columns have the same kinds whatever its alias
 pub kinds_as : (alias : List ℕ) (columns : List ColDef) → kinds_in (columns_as alias columns) ≡ map (λ (column : ColDef). column.kind) columns
 kinds_as alias [] = refl
 kinds_as alias (column ∷ columns) = ap (λ (others : List Kind). column.kind ∷ others) (kinds_as alias columns)
@@ -94,17 +94,17 @@ the_known None there = absurd (there refl)
 the_known (Some kind) there = (kind, refl)
 
 module _ (scope : List ScopeColumn) (few : length scope ≤ 16) where
-  -- so few columns have places
+  -- few columns have indexes of 16 bits
   small : length scope ≤ 96
   small = omega arith
 
-  -- at the place of a column a row has a value of its kind
-  at_place : (row : List Value) (written : ColRef) (kind : Kind) → HasKinds (kinds_in scope) row → column_kind scope written ≡ Some kind
-      → kind_of (unwrap_or (slice_get row (place_of scope written)) (values.Int (pos 0))) ≡ kind
-  at_place row written kind typed is =
-      let place : ℕ = place_of scope written in
-      value_found (slice_get row place) kind
-      (sym (slice_get-map kind_of row place) ∙ ap (λ (these : List Kind). slice_get these place) typed ∙ place_kind scope small written ∙ is)
+  -- a row has a value of its kind at the index of a column
+  at_column_index : (row : List Value) (written : ColRef) (kind : Kind) → HasKinds (kinds_in scope) row → column_kind scope written ≡ Some kind
+      → kind_of (unwrap_or (slice_get row (column_index_of scope written)) (values.Int (pos 0))) ≡ kind
+  at_column_index row written kind typed is =
+      let at_index : ℕ = column_index_of scope written in
+      value_found (slice_get row at_index) kind
+      (sym (slice_get-map kind_of row at_index) ∙ ap (λ (these : List Kind). slice_get these at_index) typed ∙ column_index_kind scope small written ∙ is)
 
   module _ (row : List Value) (typed : HasKinds (kinds_in scope) row) where
     -- a term that isn't denied, and fits a kind, has a value of this kind
@@ -113,11 +113,11 @@ module _ (scope : List ScopeColumn) (few : length scope ≤ 16) where
     term_of_kind kind (terms.Col name) passes fits =
         let written : ColRef = unqualified name in
         let named = (passed (test (named_count scope written == 0) denials.NoColumn) [] passes).0 in
-        at_place row written kind typed (fits_itself kind (column_kind scope written) (kind_known scope small written named) fits)
+        at_column_index row written kind typed (fits_itself kind (column_kind scope written) (kind_known scope small written named) fits)
     term_of_kind kind (terms.Lit value) passes fits = sym (same_kinds kind (kind_of value) fits)
     term_of_kind kind (terms.Param name) passes fits = absurd cc
 
-    -- what the second term is, where there is one
+    -- the second term, if there is one
     abbrev more_value : Option (Arith × Term) → Option (Arith × Value)
     more_value more =
         option_map (λ (bound : Arith × BoundTerm). (bound.0, term_value [] row bound.1)) (option_map (λ (written : Arith × Term). (written.0, bound_term scope [] written.1)) more)
@@ -132,44 +132,44 @@ module _ (scope : List ScopeColumn) (few : length scope ≤ 16) where
         sym (same_kinds kind kinds.Int ones.0)
 
     module _ (set : Set) (before : List Set) (passes : first_denial (set_tests scope [] before set) ≡ None) where
-      -- the column that is set
+      -- the assigned column
       abbrev written : ColRef
       written = unqualified set.column
 
-      -- a set puts a value of the kind that was there
+      -- an assignment keeps the kind of the value
       set_typed : (new : List Value) → HasKinds (kinds_in scope) new
-          → HasKinds (kinds_in scope) (slice_set new (as_position (place_of scope written)) (set_value [] row (bound_set scope [] set)))
+          → HasKinds (kinds_in scope) (slice_set new (as_position (column_index_of scope written)) (set_value [] row (bound_set scope [] set)))
       set_typed new same =
           let first_tests : List Test = term_tests scope [] set.expr.first in
           let fitting : Test = test (not (expr_fits scope [] (column_kind scope written) set.expr.first set.expr.more)) denials.WrongType in
           let there : Test = test (named_count scope written == 0) denials.NoColumn in
           let once : Test = test (list_any (λ (other : Set). bytes_eq other.column set.column) before) denials.TwoColumns in
-          let front = both_pass (there ∷ once ∷ first_tests ++ more_tests scope [] set.expr.more) (fitting ∷ []) passes in
-          let named = passed there (once ∷ first_tests ++ more_tests scope [] set.expr.more) front.0 in
+          let prefix = both_pass (there ∷ once ∷ first_tests ++ more_tests scope [] set.expr.more) (fitting ∷ []) passes in
+          let named = passed there (once ∷ first_tests ++ more_tests scope [] set.expr.more) prefix.0 in
           let terms = both_pass first_tests (more_tests scope [] set.expr.more) (passed once (first_tests ++ more_tests scope [] set.expr.more) named.1).1 in
-          let fits = holds_if (expr_fits scope [] (column_kind scope written) set.expr.first set.expr.more) (passed fitting [] front.1).0 in
+          let fits = holds_if (expr_fits scope [] (column_kind scope written) set.expr.first set.expr.more) (passed fitting [] prefix.1).0 in
           let known = the_known (column_kind scope written) (kind_known scope small written named.0) in
           let value : Value = set_value [] row (bound_set scope [] set) in
           let new_kind : kind_of value ≡ known.0
           = expr_of_kind known.0 set.expr.first set.expr.more terms.0 (subst (λ (kind : Option Kind). expr_fits scope [] kind set.expr.first set.expr.more ≡ true) known.1 fits) in
-          let old_kind : kind_of (get_or new (place_of scope written) (values.Int (pos 0))) ≡ known.0
-          = ap kind_of (sym (unwrap_or-slice_get new (place_of scope written) (values.Int (pos 0)))) ∙ at_place new written known.0 same known.1 in
-          let within : place_of scope written < length scope = place_within scope written named.0 in
-          let place : as_position (place_of scope written) ≡ place_of scope written = omega arith in
-          ap (λ (n : ℕ). map kind_of (slice_set new n value)) place
-          ∙ map-set_same kind_of new (place_of scope written) value (values.Int (pos 0)) (new_kind ∙ sym old_kind)
+          let old_kind : kind_of (get_or new (column_index_of scope written) (values.Int (pos 0))) ≡ known.0
+          = ap kind_of (sym (unwrap_or-slice_get new (column_index_of scope written) (values.Int (pos 0)))) ∙ at_column_index new written known.0 same known.1 in
+          let within : column_index_of scope written < length scope = column_index_within scope written named.0 in
+          let at_index : as_position (column_index_of scope written) ≡ column_index_of scope written = omega arith in
+          ap (λ (n : ℕ). map kind_of (slice_set new n value)) at_index
+          ∙ map-set_same kind_of new (column_index_of scope written) value (values.Int (pos 0)) (new_kind ∙ sym old_kind)
           ∙ same
 
-    -- sets leave each value of the kind that was there
+    -- assignments keep the kind of each value
     sets_typed : (sets before : List Set) (new : List Value) → first_denial (sets_tests scope [] before sets) ≡ None → HasKinds (kinds_in scope) new
         → HasKinds (kinds_in scope) (fold (λ (items : List Value) (set : BoundSet). slice_set items set.column (set_value [] row set)) new (map (bound_set scope []) sets))
     sets_typed [] before new passes same = same
     sets_typed (set ∷ sets) before new passes same =
         let parts = both_pass (set_tests scope [] before set) (sets_tests scope [] (before ++ set ∷ []) sets) passes in
-        sets_typed sets (before ++ set ∷ []) (slice_set new (as_position (place_of scope (unqualified set.column))) (set_value [] row (bound_set scope [] set))) parts.1
+        sets_typed sets (before ++ set ∷ []) (slice_set new (as_position (column_index_of scope (unqualified set.column))) (set_value [] row (bound_set scope [] set))) parts.1
         (set_typed set before parts.0 new same)
 
-  -- a row that was updated has values of the kinds that it had
+  -- an updated row has values of the kinds that it had
   pub row_typed : (sets : List Set) (clauses : List (List BoundCmp)) (row new : List Value) → first_denial (sets_tests scope [] [] sets) ≡ None
       → HasKinds (kinds_in scope) row → updated_row (map (bound_set scope []) sets) clauses row ≡ Ok new → HasKinds (kinds_in scope) new
   unfolding row_set
@@ -181,12 +181,12 @@ module _ (scope : List ScopeColumn) (few : length scope ≤ 16) where
         | true ↦ λ e. (let is : last ≡ new = cc in subst (HasKinds (kinds_in scope)) is (sets_typed row typed sets [] row passes typed))
         | false ↦ λ e. absurd cc
       ] in
-      let Met : Bool → Type 0 = λ met. cond {A = Result (List Value) Denial} met (row_set bound [] row) (Ok row) ≡ Ok new → HasKinds (kinds_in scope) new in
-      let met : (b : Bool) → Met b = λ b. elim b as Met [
+      let Met : Bool → Type 0 = λ matching_count. cond {A = Result (List Value) Denial} matching_count (row_set bound [] row) (Ok row) ≡ Ok new → HasKinds (kinds_in scope) new in
+      let matching_count : (b : Bool) → Met b = λ b. elim b as Met [
         | true ↦ stored (list_all (λ (set : BoundSet). is_stored (set_value [] row set)) bound)
         | false ↦ λ e. (let is : row ≡ new = cc in subst (HasKinds (kinds_in scope)) is typed)
       ] in
-      met (holds clauses row) made
+      matching_count (holds clauses row) made
 
 -- ---- the rows of an UPDATE
 
@@ -197,7 +197,7 @@ module _ (P : List Value → Type 0) where
   first_so item (Ok more) new p rest e = let is : item ∷ more ≡ new = cc in subst (All P) is (All-cons P item more p (rest more refl))
   first_so item (Err cause) new p rest e = absurd cc
 
-  -- the first row is so where it was made, and the others are
+  -- the first row is so if it was made, and the others are
   both_so : (first : Result (List Value) Denial) (others : Result (List (List Value)) Denial) (new : List (List Value)) → ((item : List Value) → first ≡ Ok item → P item)
       → ((more : List (List Value)) → others ≡ Ok more → All P more) → and_others first others ≡ Ok new → All P new
   both_so (Ok item) others new p rest e = first_so item others new (p item refl) rest e

@@ -10,7 +10,7 @@ use Rattle.rs_bind.specs.Binding.{bound_term, bound_rows}
 use Rattle.rs_bind.specs.declared.scope.ScopeColumn.{ScopeColumn}
 use Rattle.rs_eval.specs.Clauses.{holds}
 use Rattle.rs_eval.specs.Setting.{term_value}
-use Rattle.rs_mean.specs.RowChanges.{given_rows, updated_row, with_first, and_others, updated_rows, kept, met}
+use Rattle.rs_mean.specs.RowChanges.{given_rows, updated_row, with_first, and_others, updated_rows, other_rows, matching_count}
 
 -- ---- INSERT
 
@@ -44,14 +44,14 @@ module _ (sets : List BoundSet) (clauses : List (List BoundCmp)) where
   as_many_updated [] new e = let is : [] ≡ new = cc in omega (arith, ap length is)
   as_many_updated (row ∷ rows) new e = both_put row rows (updated_row sets clauses row) new (as_many_updated rows) e
 
--- ---- which rows meet clauses
+---- which rows match
 
-pub met_at_most : (clauses : List (List BoundCmp)) (rows : List (List Value)) → met clauses rows ≤ length rows
-met_at_most clauses rows = omega (arith, length-filter (holds clauses) rows, count_by-le-length (holds clauses) rows)
+pub matching_at_most : (clauses : List (List BoundCmp)) (rows : List (List Value)) → matching_count clauses rows ≤ length rows
+matching_at_most clauses rows = omega (arith, length-filter (holds clauses) rows, count_by-le-length (holds clauses) rows)
 
-pub kept_and_met : (clauses : List (List BoundCmp)) (rows : List (List Value)) → length (kept clauses rows) + met clauses rows ≡ length rows
-kept_and_met clauses [] = omega arith
-kept_and_met clauses (row ∷ rows) =
-    let Claim : Bool → Type 0 = λ b. length (cond (not b) (row ∷ kept clauses rows) (kept clauses rows)) + length (cond b (row ∷ filter (holds clauses) rows) (filter (holds clauses) rows)) ≡ length (row ∷ rows) in
-    let rest : length (kept clauses rows) + met clauses rows ≡ length rows = kept_and_met clauses rows in
+pub others_and_matching : (clauses : List (List BoundCmp)) (rows : List (List Value)) → length (other_rows clauses rows) + matching_count clauses rows ≡ length rows
+others_and_matching clauses [] = omega arith
+others_and_matching clauses (row ∷ rows) =
+    let Claim : Bool → Type 0 = λ b. length (cond (not b) (row ∷ other_rows clauses rows) (other_rows clauses rows)) + length (cond b (row ∷ filter (holds clauses) rows) (filter (holds clauses) rows)) ≡ length (row ∷ rows) in
+    let rest : length (other_rows clauses rows) + matching_count clauses rows ≡ length rows = others_and_matching clauses rows in
     elim (holds clauses row) as Claim [ true ↦ omega arith | false ↦ omega arith ]

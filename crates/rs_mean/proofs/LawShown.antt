@@ -1,4 +1,4 @@
--- The kinds of what a query answers.
+-- The kinds of a query's answer.
 use Rattle.std.proofs.Common.{◌≡◌, ℕ, ◌+◌, ◌*◌, ◌≤◌, suc, Bool, true, false, cond, not, ◌==◌, List, [], ◌∷◌, ◌++◌, map, length, All, Option, Some, None, IfSome, Result, Ok, Err, flat_map, slice_get, nat_lt, refl, sym, ap, ap₂, ◌∙◌, subst, arith, length-append}
 use Rattle.std.specs.List.{range_with_len}
 use Rattle.std.proofs.lemmas.List.{length-map, map-append}
@@ -23,13 +23,13 @@ use Rattle.rs_ast.specs.declared.shape.ShapeItem.{ShapeItem}
 use Rattle.rs_ast.specs.declared.shape.ShapeItem.TheVariants as shape_items
 use Rattle.rs_bind.specs.Binding.{shape_item, items_shown, bound_clauses, shape_of}
 use Rattle.rs_bind.specs.Denials.{Test, test, all_differ, first_denial, column_tests, item_tests, items_tests, key_tests, clauses_tests, names_tests, grouping_test, keys_tests, select_tests}
-use Rattle.rs_bind.specs.Scope.{as_place, alias_of, aliases_of, columns_as, scope_column, query_scope, named_count, place_of, column_kind}
+use Rattle.rs_bind.specs.Scope.{as_u16, alias_of, aliases_of, columns_as, scope_column, query_scope, named_count, column_index_of, column_kind}
 use Rattle.rs_bind.specs.declared.heading.Heading.{Heading}
 use Rattle.rs_bind.specs.declared.scope.ScopeColumn.{ScopeColumn}
-use Rattle.rs_bind.proofs.OverScope.{kinds_in, kind_known, place_kind}
+use Rattle.rs_bind.proofs.OverScope.{kinds_in, kind_known, column_index_kind}
 use Rattle.rs_bind.proofs.OverTests.{both_pass}
 use Rattle.rs_eval.specs.Clauses.{holds}
-use Rattle.rs_eval.specs.Joined.{choices, joined, joined_within, max_joined}
+use Rattle.rs_eval.specs.Joined.{cross_product, joined, joined_within, max_joined}
 use Rattle.rs_answer.specs.Answer.{answer_of}
 use Rattle.rs_answer.specs.Kinds.{HasKinds, item_kind, AreKindsOf}
 use Rattle.rs_answer.proofs.Typed.{answers_have_kinds}
@@ -46,25 +46,25 @@ use Rattle.rs_mean.proofs.LawTests.{passed}
 abbrev kinds_of : List ColDef → List Kind
 kinds_of columns = map (λ (column : ColDef). column.kind) columns
 
--- ---- the choices of rows
+---- the cross product
 
-module _ (front back : List Kind) where
+module _ (prefix back : List Kind) where
   -- a row of these kinds before rows of those
-  before_each : (row : List Value) (others : List (List Value)) → HasKinds front row → All (HasKinds back) others
-      → All (HasKinds (front ++ back)) (map (λ (other : List Value). row ++ other) others)
-  before_each row [] here typed = All-nil (HasKinds (front ++ back))
+  before_each : (row : List Value) (others : List (List Value)) → HasKinds prefix row → All (HasKinds back) others
+      → All (HasKinds (prefix ++ back)) (map (λ (other : List Value). row ++ other) others)
+  before_each row [] here typed = All-nil (HasKinds (prefix ++ back))
   before_each row (other ∷ others) here typed =
-      All-cons (HasKinds (front ++ back)) (row ++ other) (map (λ (more : List Value). row ++ more) others)
+      All-cons (HasKinds (prefix ++ back)) (row ++ other) (map (λ (more : List Value). row ++ more) others)
       (map-append kind_of row other ∙ ap₂ (λ (ones more : List Kind). ones ++ more) here (All-head (HasKinds back) other others typed))
       (before_each row others here (All-tail (HasKinds back) other others typed))
 
-  each_before : (rows others : List (List Value)) → All (HasKinds front) rows → All (HasKinds back) others
-      → All (HasKinds (front ++ back)) (flat_map (λ (row : List Value). map (λ (other : List Value). row ++ other) others) rows)
-  each_before [] others typed others_typed = All-nil (HasKinds (front ++ back))
+  each_before : (rows others : List (List Value)) → All (HasKinds prefix) rows → All (HasKinds back) others
+      → All (HasKinds (prefix ++ back)) (flat_map (λ (row : List Value). map (λ (other : List Value). row ++ other) others) rows)
+  each_before [] others typed others_typed = All-nil (HasKinds (prefix ++ back))
   each_before (row ∷ rows) others typed others_typed =
-      All-append (HasKinds (front ++ back)) (map (λ (other : List Value). row ++ other) others) (flat_map (λ (first : List Value). map (λ (other : List Value). first ++ other) others) rows)
-      (before_each row others (All-head (HasKinds front) row rows typed) others_typed)
-      (each_before rows others (All-tail (HasKinds front) row rows typed) others_typed)
+      All-append (HasKinds (prefix ++ back)) (map (λ (other : List Value). row ++ other) others) (flat_map (λ (first : List Value). map (λ (other : List Value). first ++ other) others) rows)
+      (before_each row others (All-head (HasKinds prefix) row rows typed) others_typed)
+      (each_before rows others (All-tail (HasKinds prefix) row rows typed) others_typed)
 
 found_rows : (found : Option Table) → IfSome found IsTyped → All (HasKinds (kinds_of (columns_of found))) (rows_of found)
 found_rows None typed = All-nil (HasKinds [])
@@ -79,18 +79,18 @@ module _ (db : Database) (each : EachTable IsTyped db) (name : TableRef → Swn)
   abbrev scope_of : List TableRef → List ScopeColumn
   scope_of refs = query_scope refs (map (heading_in db) (map name refs))
 
-  choices_typed : (refs : List TableRef) → All (HasKinds (kinds_in (scope_of refs))) (choices (map (rows_in db) (map name refs)))
-  choices_typed [] = All-cons (HasKinds []) [] [] refl (All-nil (HasKinds []))
-  choices_typed (ref ∷ refs) =
+  cross_product_typed : (refs : List TableRef) → All (HasKinds (kinds_in (scope_of refs))) (cross_product (map (rows_in db) (map name refs)))
+  cross_product_typed [] = All-cons (HasKinds []) [] [] refl (All-nil (HasKinds []))
+  cross_product_typed (ref ∷ refs) =
       let found : Option Table = table_named (name ref) db in
       let alias : List ℕ = alias_of ref (heading_in db (name ref)) in
       let first : List ScopeColumn = columns_as alias (columns_of found) in
       let rest : List ScopeColumn = scope_of refs in
-      let parted : kinds_in (first ++ rest) ≡ kinds_of (columns_of found) ++ kinds_in rest
+      let separated : kinds_in (first ++ rest) ≡ kinds_of (columns_of found) ++ kinds_in rest
       = map-append (λ (column : ScopeColumn). column.kind) first rest ∙ ap (λ (ones : List Kind). ones ++ kinds_in rest) (kinds_as alias (columns_of found)) in
-      subst (λ (known : List Kind). All (HasKinds known) (choices (map (rows_in db) (map name (ref ∷ refs))))) (sym parted)
-      (each_before (kinds_of (columns_of found)) (kinds_in rest) (rows_of found) (choices (map (rows_in db) (map name refs)))
-      (found_rows found (each_named IsTyped db each (name ref))) (choices_typed refs))
+      subst (λ (known : List Kind). All (HasKinds known) (cross_product (map (rows_in db) (map name (ref ∷ refs))))) (sym separated)
+      (each_before (kinds_of (columns_of found)) (kinds_in rest) (rows_of found) (cross_product (map (rows_in db) (map name refs)))
+      (found_rows found (each_named IsTyped db each (name ref))) (cross_product_typed refs))
 
   columns_few : (refs : List TableRef) → length (scope_of refs) ≤ length refs * 16
   columns_few [] = omega arith
@@ -106,19 +106,19 @@ module _ (db : Database) (each : EachTable IsTyped db) (name : TableRef → Swn)
 -- ---- the kinds of items
 
 module _ (columns : List Kind) where
-  -- an item that is the column at a place
+  -- an item that is the column of an index
   abbrev column_at : ℕ → ShapeItem
-  column_at place = shape_items.Col (as_place place)
+  column_at at_index = shape_items.Col (as_u16 at_index)
 
-  -- columns from a place on are shown with their kinds
+  -- columns from an index on are shown with their kinds
   range_kinds : (a : ℕ) (known : List Kind) → a + length known ≤ 96 → ((i : ℕ) → slice_get columns (a + i) ≡ slice_get known i)
       → AreKindsOf (map (item_kind columns) (map column_at (range_with_len a (length known)))) known
   range_kinds a [] few at = refl
   range_kinds a (kind ∷ known) few at =
-      let place : as_place a ≡ a + 0 = omega arith in
+      let at_index : as_u16 a ≡ a + 0 = omega arith in
       let next : (i : ℕ) → slice_get columns (a + 1 + i) ≡ slice_get known i
       = λ i. (let same : a + 1 + i ≡ a + suc i = omega arith in ap (slice_get columns) same ∙ at (suc i)) in
-      ap₂ (λ (one : Option Kind) (others : List (Option Kind)). one ∷ others) (ap (slice_get columns) place ∙ at 0) (range_kinds (a + 1) known (omega arith) next)
+      ap₂ (λ (one : Option Kind) (others : List (Option Kind)). one ∷ others) (ap (slice_get columns) at_index ∙ at 0) (range_kinds (a + 1) known (omega arith) next)
 
 module _ (scope : List ScopeColumn) (small : length scope ≤ 96) where
   -- these are the kinds of what is shown, and of its items
@@ -129,11 +129,11 @@ module _ (scope : List ScopeColumn) (small : length scope ≤ 96) where
   ShowsOne item kind = (kind_shown scope item ≡ Some kind) × (item_kind (kinds_in scope) (shape_item scope item) ≡ Some kind)
 
   column_shows : (written : ColRef) → first_denial (column_tests scope written) ≡ None
-      → (kind : Kind) × ((column_kind scope written ≡ Some kind) × (slice_get (kinds_in scope) (place_of scope written) ≡ Some kind))
+      → (kind : Kind) × ((column_kind scope written ≡ Some kind) × (slice_get (kinds_in scope) (column_index_of scope written) ≡ Some kind))
   column_shows written passes =
       let named = (passed (test (named_count scope written == 0) denials.NoColumn) (test (nat_lt 1 (named_count scope written)) denials.TwoColumns ∷ []) passes).0 in
       let known = the_known (column_kind scope written) (kind_known scope small written named) in
-      (known.0, (known.1, place_kind scope small written ∙ known.1))
+      (known.0, (known.1, column_index_kind scope small written ∙ known.1))
 
   item_shows : (item : Item) → first_denial (item_tests scope item) ≡ None → (kind : Kind) × ShowsOne item kind
   item_shows (items.Col written) passes = column_shows written passes
@@ -195,18 +195,18 @@ within_so : (P : List Value → Type 0) (found all : List (List Value)) (many : 
 within_so P found all true each e = absurd cc
 within_so P found all false each e = let is : found ≡ all = cc in subst (All P) is each
 
--- joined rows are as each choice is
-joined_so : (P : List Value → Type 0) (clauses : List (List BoundCmp)) (tables : List (List (List Value))) (all : List (List Value)) → All P (choices tables)
+-- joined rows are as each row of the cross product is
+joined_so : (P : List Value → Type 0) (clauses : List (List BoundCmp)) (tables : List (List (List Value))) (all : List (List Value)) → All P (cross_product tables)
     → joined_within clauses tables ≡ Ok all → All P all
 unfolding joined joined_within
 joined_so P clauses tables all each e =
-    within_so P (joined clauses tables) all (nat_lt max_joined (length (joined clauses tables))) (All-filter (holds clauses) P (choices tables) each) e
+    within_so P (joined clauses tables) all (nat_lt max_joined (length (joined clauses tables))) (All-filter (holds clauses) P (cross_product tables) each) e
 
 module _ (db : Database) (each : EachTable IsTyped db) (name : TableRef → Swn) (query : Select) (few : length query.from ≤ 6) where
   abbrev columns : List ScopeColumn
   columns = scope_of db each name query.from
 
-  -- a query that is answered answers rows with a value for each item, of its kind
+  -- an answered query has rows with a value for each item, of its kind
   pub rows_shown : (rows : List (List Value)) → first_denial (select_tests query (map (heading_in db) (map name query.from)) []) ≡ None
       → selected (bound_clauses columns [] query.clauses) (shape_of columns query) (map (rows_in db) (map name query.from)) ≡ Ok rows
       → (known : List Kind) × AreKindsOf (kinds_shown columns query.items) known × All (HasKinds known) rows
@@ -218,5 +218,5 @@ module _ (db : Database) (each : EachTable IsTyped db) (name : TableRef → Swn)
       let small : length columns ≤ 96 = omega arith in
       let shown = shown_show columns small query.items (items_pass query (map (heading_in db) (map name query.from)) passes) in
       let found = answered shape (joined_within clauses tables) rows e in
-      let typed = joined_so (HasKinds (kinds_in columns)) clauses tables found.0 (choices_typed db each name query.from) found.1 in
+      let typed = joined_so (HasKinds (kinds_in columns)) clauses tables found.0 (cross_product_typed db each name query.from) found.1 in
       (shown.0, shown.1.0, answers_have_kinds shape (kinds_in columns) shown.0 found.0 rows shown.1.1 typed found.2)

@@ -1,4 +1,4 @@
--- What each statement that is done changes and answers.
+-- What each done statement changes and answers.
 use Rattle.std.proofs.Common.{◌≡◌, ℕ, Bool, true, false, not, cond, ◌||◌, List, [], ◌∷◌, ◌++◌, map, flat_map, length, Option, Some, None, is_some, is_none, Result, Ok, Err, refl, subst}
 use Rattle.rs_base.specs.declared.name.Swn.{Swn}
 use Rattle.rs_base.specs.declared.reply.Answer.{Answer}
@@ -35,9 +35,9 @@ use Rattle.rs_mean.specs.Database.{Database, table_named, target_of}
 use Rattle.rs_mean.specs.Effects.{done}
 use Rattle.rs_mean.specs.Meaning.{effect_of_stmt, effect_of, meaning}
 use Rattle.rs_mean.specs.Names.{name_of, own_synonym, site_test, table_tests}
-use Rattle.rs_mean.specs.RowChanges.{given_rows, has_room, inserted, updated_rows, may_be_rows, within_limits, updated, kept, met}
+use Rattle.rs_mean.specs.RowChanges.{given_rows, has_room, inserted, updated_rows, may_be_rows, within_limits, updated, other_rows, matching_count}
 use Rattle.rs_mean.specs.RowStatements.{rows_in, heading_in, selected, answering, inserting, updating, once_bound, tables_in, select, insert, update, delete, effect_of_dml}
-use Rattle.rs_mean.specs.TableStatements.{create_tests, new_table, create_table, drop_table, columns_of, indexes_of, column_place, has_index, is_indexed, create_index_tests, new_index, create_index, drop_index_tests, without_index, drop_index, create_synonym_tests, create_synonym, drop_synonym_tests, drop_synonym}
+use Rattle.rs_mean.specs.TableStatements.{create_tests, new_table, create_table, drop_table, columns_of, indexes_of, column_index, has_index, is_indexed, create_index_tests, new_index, create_index, drop_index_tests, without_index, drop_index, create_synonym_tests, create_synonym, drop_synonym_tests, drop_synonym}
 use Rattle.rs_mean.proofs.LawTests.{passed, holds_if, absent_if, neither}
 use Rattle.rs_mean.proofs.LawEffects.{IsSo, so_denied, so_done, so_unless}
 
@@ -64,7 +64,7 @@ create_so db txn name columns =
 abbrev pub IsThere : Database → Swn → Type 0
 IsThere db name = is_none (table_named name db) ≡ false
 
--- the tests of a table, and others behind them
+-- the tests of a table, and others after them
 there : (db : Database) (name : Swn) (tests : List Test) → first_denial (table_tests db name ++ tests) ≡ None → IsThere db name × (first_denial tests ≡ None)
 there db name tests e = passed (test (is_none (table_named name db)) denials.NoTable) tests (passed (site_test db name) (test (is_none (table_named name db)) denials.NoTable ∷ tests) e).1
 
@@ -83,27 +83,27 @@ drop_so db name =
 abbrev pub indexes_in : Database → Swn → List IndexOf
 indexes_in db name = indexes_of (table_named name db)
 
-abbrev pub place_in : Database → Swn → List ℕ → ℕ
-place_in db name column = column_place (columns_of (table_named name db)) column
+abbrev pub index_in : Database → Swn → List ℕ → ℕ
+index_in db name column = column_index (columns_of (table_named name db)) column
 
 pub record AddsIndex (db : Database) (txn : Txn) (name : Swn) (index column : List ℕ) (change : Change) (given : List Answer) : Type 0 where
-  pub is : change ≡ changes.SetIndexes name (indexes_in db name ++ new_index txn index (place_in db name column) ∷ [])
+  pub is : change ≡ changes.SetIndexes name (indexes_in db name ++ new_index txn index (index_in db name column) ∷ [])
   pub answers : given ≡ answers.Ok ∷ []
   pub there : IsThere db name
   pub named : has_name (columns_of (table_named name db)) column ≡ true
   pub new_name : has_index (indexes_in db name) index ≡ false
-  pub new_column : is_indexed (indexes_in db name) (place_in db name column) ≡ false
+  pub new_column : is_indexed (indexes_in db name) (index_in db name column) ≡ false
 
 create_index_so : (db : Database) (txn : Txn) (name : Swn) (index column : List ℕ) → IsSo (AddsIndex db txn name index column) (create_index db txn name index column)
 create_index_so db txn name index column =
-    let change : Change = changes.SetIndexes name (indexes_in db name ++ new_index txn index (place_in db name column) ∷ []) in
+    let change : Change = changes.SetIndexes name (indexes_in db name ++ new_index txn index (index_in db name column) ∷ []) in
     so_unless (AddsIndex db txn name index column) (first_denial (create_index_tests db name index column)) (done change answers.Ok)
     (λ e.
-    let clash : Bool = has_index (indexes_in db name) index || is_indexed (indexes_in db name) (place_in db name column) in
+    let clash : Bool = has_index (indexes_in db name) index || is_indexed (indexes_in db name) (index_in db name column) in
     let tests : List Test = test clash denials.IndexExists ∷ [] in
     let table = there db name (test (not (has_name (columns_of (table_named name db)) column)) denials.NoColumn ∷ tests) e in
     let named = passed (test (not (has_name (columns_of (table_named name db)) column)) denials.NoColumn) tests table.1 in
-    let new = neither (has_index (indexes_in db name) index) (is_indexed (indexes_in db name) (place_in db name column)) (passed (test clash denials.IndexExists) [] named.1).0 in
+    let new = neither (has_index (indexes_in db name) index) (is_indexed (indexes_in db name) (index_in db name column)) (passed (test clash denials.IndexExists) [] named.1).0 in
     so_done (AddsIndex db txn name index column) change answers.Ok
     (record { is = refl; answers = refl; there = table.0; named = holds_if (has_name (columns_of (table_named name db)) column) named.0; new_name = new.0; new_column = new.1 }))
 
@@ -241,11 +241,11 @@ insert_so db name rows =
 
 -- ---- UPDATE
 
--- no test of names and kinds denies the sets
+-- no test of names and kinds denies the assignments
 abbrev pub SetsFit : Database → Swn → List Set → Type 0
 SetsFit db name sets = first_denial (sets_tests (scope_in db name) [] [] sets) ≡ None
 
--- the sets of an UPDATE
+-- the assignments of an UPDATE
 abbrev pub sets_in : Database → Swn → List Set → List BoundSet
 sets_in db name sets = map (bound_set (scope_in db name) []) sets
 
@@ -253,7 +253,7 @@ pub record Updates (db : Database) (name : Swn) (sets : List Set) (change : Chan
   pub clauses : List (List BoundCmp)
   pub new : List (List Value)
   pub is : change ≡ changes.SetRows name new
-  pub answers : given ≡ answers.Changed (met clauses (rows_in db name)) ∷ []
+  pub answers : given ≡ answers.Changed (matching_count clauses (rows_in db name)) ∷ []
   pub there : IsThere db name
   pub fit : SetsFit db name sets
   pub made : updated_rows (sets_in db name sets) clauses (rows_in db name) ≡ Ok new
@@ -261,21 +261,21 @@ pub record Updates (db : Database) (name : Swn) (sets : List Set) (change : Chan
 
 module _ (db : Database) (name : Swn) (sets : List Set) (clauses : List (List BoundCmp)) (is_there : IsThere db name) (fit : SetsFit db name sets) where
   within_so : (new : List (List Value)) → updated_rows (sets_in db name sets) clauses (rows_in db name) ≡ Ok new
-      → IsSo (Updates db name sets) (updating name (met clauses (rows_in db name)) (within_limits (Ok new)))
+      → IsSo (Updates db name sets) (updating name (matching_count clauses (rows_in db name)) (within_limits (Ok new)))
   within_so new made =
       let Claim : Bool → Type 0 = λ within. may_be_rows new ≡ within
-      → IsSo (Updates db name sets) (updating name (met clauses (rows_in db name)) (cond {A = Result (List (List Value)) Denial} within (Ok new) (Err denials.TableFull))) in
+      → IsSo (Updates db name sets) (updating name (matching_count clauses (rows_in db name)) (cond {A = Result (List (List Value)) Denial} within (Ok new) (Err denials.TableFull))) in
       let at : (within : Bool) → Claim within = λ within. elim within as Claim [
-        | true ↦ λ e. so_done (Updates db name sets) (changes.SetRows name new) (answers.Changed (met clauses (rows_in db name)))
+        | true ↦ λ e. so_done (Updates db name sets) (changes.SetRows name new) (answers.Changed (matching_count clauses (rows_in db name)))
             (record { clauses = clauses; new = new; is = refl; answers = refl; there = is_there; fit = fit; made = made; within = e })
         | false ↦ λ e. so_denied (Updates db name sets) denials.TableFull
       ] in
       at (may_be_rows new) refl
 
-  updating_so : IsSo (Updates db name sets) (updating name (met clauses (rows_in db name)) (updated (sets_in db name sets) clauses (rows_in db name)))
+  updating_so : IsSo (Updates db name sets) (updating name (matching_count clauses (rows_in db name)) (updated (sets_in db name sets) clauses (rows_in db name)))
   updating_so =
       let Claim : Result (List (List Value)) Denial → Type 0 = λ rows. updated_rows (sets_in db name sets) clauses (rows_in db name) ≡ rows
-      → IsSo (Updates db name sets) (updating name (met clauses (rows_in db name)) (within_limits rows)) in
+      → IsSo (Updates db name sets) (updating name (matching_count clauses (rows_in db name)) (within_limits rows)) in
       let at : (rows : Result (List (List Value)) Denial) → Claim rows = λ rows. elim rows as Claim [
         | Ok new ↦ λ e. within_so new e
         | Err cause ↦ λ e. so_denied (Updates db name sets) cause
@@ -301,8 +301,8 @@ update_so db name sets clauses =
 
 pub record Deletes (db : Database) (name : Swn) (change : Change) (given : List Answer) : Type 0 where
   pub clauses : List (List BoundCmp)
-  pub is : change ≡ changes.SetRows name (kept clauses (rows_in db name))
-  pub answers : given ≡ answers.Changed (met clauses (rows_in db name)) ∷ []
+  pub is : change ≡ changes.SetRows name (other_rows clauses (rows_in db name))
+  pub answers : given ≡ answers.Changed (matching_count clauses (rows_in db name)) ∷ []
   pub there : IsThere db name
 
 delete_so : (db : Database) (name : Swn) (clauses : List Clause) → IsSo (Deletes db name) (delete (tables_in db) name clauses)
@@ -312,7 +312,7 @@ delete_so db name clauses =
     let bound : List (List BoundCmp) = bound_clauses (scope_in db name) [] clauses in
     let Claim : Option Denial → Type 0 = λ denial. IsSo (Deletes db name) (once_bound tables (binding.unless_denied denial (bounds.Delete name bound))) in
     let at : IsThere db name → (denial : Option Denial) → Claim denial = λ is_there denial. elim denial as Claim [
-      | None ↦ so_done (Deletes db name) (changes.SetRows name (kept bound (rows_in db name))) (answers.Changed (met bound (rows_in db name)))
+      | None ↦ so_done (Deletes db name) (changes.SetRows name (other_rows bound (rows_in db name))) (answers.Changed (matching_count bound (rows_in db name)))
           (record { clauses = bound; is = refl; answers = refl; there = is_there })
       | Some cause ↦ so_denied (Deletes db name) cause
     ] in
@@ -327,7 +327,7 @@ DoesOfDml db execution (dmls.Insert written rows) = Inserts db (name_of db execu
 DoesOfDml db execution (dmls.Update written sets clauses) = Updates db (name_of db execution written) sets
 DoesOfDml db execution (dmls.Delete written clauses) = Deletes db (name_of db execution written)
 
--- what the statement changes and answers where it is done
+-- what the statement changes and answers if it is done
 abbrev pub Does : Database → Execution → Stmt → Change → List Answer → Type 0
 Does db execution (stmts.CreateTable written columns) = Creates db execution.txn (name_of db execution written) columns
 Does db execution (stmts.DropTable written) = Drops db (name_of db execution written)
@@ -358,7 +358,7 @@ pub effect_so : (db : Database) (execution : Execution) → IsSo (Does db execut
 unfolding effect_of
 effect_so db execution = stmt_so db execution execution.stmt
 
--- what an execution of this statement changes and answers where it is done
+-- what an execution of this statement changes and answers if it is done
 pub does : (db : Database) (execution : Execution) (stmt : Stmt) (given : List Answer) → execution.stmt ≡ stmt → (meaning db execution).1 ≡ Ok given
     → Does db execution stmt (effect_of db execution).change given
 unfolding meaning

@@ -1,4 +1,4 @@
--- What each table keeps, whatever statement is done.
+-- Invariants of each table, whatever statement is done.
 use Rattle.std.proofs.Common.{List, sym, subst, arith}
 use Rattle.rs_base.specs.declared.name.Swn.{Swn}
 use Rattle.rs_base.specs.declared.reply.Answer.{Answer}
@@ -12,9 +12,9 @@ use Rattle.rs_mean.specs.Database.{Database, table_named}
 use Rattle.rs_mean.specs.Laws.{EachTable, IsWithin, HasDistinctColumns, HasDistinctIndexes, IsTyped, MakesFewColumns}
 use Rattle.rs_mean.specs.Names.{name_of}
 use Rattle.rs_mean.specs.TableStatements.{new_index}
-use Rattle.rs_mean.proofs.LawKept.{Keeps, each_named, empty_within, indexed_within, longer_within, set_within, kept_within, columns_distinct, added_distinct, left_distinct}
-use Rattle.rs_mean.proofs.LawStatements.{DoesOfDml, Does, place_in}
-use Rattle.rs_mean.proofs.LawTyped.{empty_typed, indexed_typed, longer_typed, updated_typed, kept_typed}
+use Rattle.rs_mean.proofs.LawKept.{Keeps, each_named, empty_within, indexed_within, longer_within, set_within, others_within, columns_distinct, added_distinct, left_distinct}
+use Rattle.rs_mean.proofs.LawStatements.{DoesOfDml, Does, index_in}
+use Rattle.rs_mean.proofs.LawTyped.{empty_typed, indexed_typed, longer_typed, updated_typed, others_typed}
 
 module _ (db : Database) (execution : Execution) (change : Change) (given : List Answer) where
   module _ (each : EachTable IsWithin db) where
@@ -27,7 +27,7 @@ module _ (db : Database) (execution : Execution) (change : Change) (given : List
         let name : Swn = name_of db execution written in subst (Keeps IsWithin db) (sym so.is) (set_within (table_named name db) so.new so.within)
     dml_within (dmls.Delete written clauses) so =
         let name : Swn = name_of db execution written in
-        subst (Keeps IsWithin db) (sym so.is) (kept_within (table_named name db) so.clauses (each_named IsWithin db each name))
+        subst (Keeps IsWithin db) (sym so.is) (others_within (table_named name db) so.clauses (each_named IsWithin db each name))
 
     pub stays_within : (stmt : Stmt) → Does db execution stmt change given → Keeps IsWithin db change
     stays_within (stmts.CreateTable written columns) so = subst (Keeps IsWithin db) (sym so.is) (empty_within execution.txn (name_of db execution written) columns)
@@ -69,7 +69,7 @@ module _ (db : Database) (execution : Execution) (change : Change) (given : List
     indexes_stay (stmts.CreateIndex index written column) so =
         let name : Swn = name_of db execution written in
         subst (Keeps HasDistinctIndexes db) (sym so.is)
-        (added_distinct (new_index execution.txn index (place_in db name column)) (table_named name db) (each_named HasDistinctIndexes db each name) so.new_name so.new_column)
+        (added_distinct (new_index execution.txn index (index_in db name column)) (table_named name db) (each_named HasDistinctIndexes db each name) so.new_name so.new_column)
     indexes_stay (stmts.DropIndex index written) so =
         let name : Swn = name_of db execution written in
         subst (Keeps HasDistinctIndexes db) (sym so.is) (left_distinct (table_named name db) index (each_named HasDistinctIndexes db each name))
@@ -88,7 +88,7 @@ module _ (db : Database) (execution : Execution) (change : Change) (given : List
         subst (Keeps IsTyped db) (sym so.is) (updated_typed name.object (table_named name db) sets so.clauses so.new (each_named IsTyped db each name) so.fit so.made)
     dml_typed (dmls.Delete written clauses) so =
         let name : Swn = name_of db execution written in
-        subst (Keeps IsTyped db) (sym so.is) (kept_typed (table_named name db) so.clauses (each_named IsTyped db each name))
+        subst (Keeps IsTyped db) (sym so.is) (others_typed (table_named name db) so.clauses (each_named IsTyped db each name))
 
     pub stays_typed : (stmt : Stmt) → MakesFewColumns stmt → Does db execution stmt change given → Keeps IsTyped db change
     stays_typed (stmts.CreateTable written columns) few so = subst (Keeps IsTyped db) (sym so.is) (empty_typed execution.txn (name_of db execution written) columns few)

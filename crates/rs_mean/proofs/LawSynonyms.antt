@@ -23,16 +23,16 @@ TouchesSynonym target (changes.SetRows name rows) = Unit {0}
 TouchesSynonym target (changes.PutSynonym synonym name) = target ≡ Some synonym
 TouchesSynonym target (changes.DropSynonym synonym) = target ≡ Some synonym
 
--- the synonyms differ where one is the target and the other isn't
+-- the synonyms differ if one is the target and the other isn't
 beside : (target : Option Synonym) (synonym own : Synonym) → target ≡ Some own → target ≢ Some synonym → is_eq (synonym_cmp synonym own) ≡ false
 beside target synonym own is other = apart synonym_exact synonym own (λ (same : synonym ≡ own). other (is ∙ sym (ap (λ n. Some n) same)))
 
 module _ (db : Database) where
-  -- a change of tables leaves what each synonym stands for
+  -- a change of tables leaves what each synonym refers to
   target_stays : (synonym : Synonym) (change : Change) → IsOfTables change → target_of synonym (changed change db) ≡ target_of synonym db
   target_stays synonym change is = ap (λ all. lookup (is_at (synonym_cmp synonym)) all) (synonyms_stay_at change db is)
 
-  -- a change leaves what each other synonym stands for
+  -- a change leaves what each other synonym refers to
   pub other_synonyms_at : (target : Option Synonym) (synonym : Synonym) (change : Change) → target ≢ Some synonym → TouchesSynonym target change
       → target_of synonym (changed change db) ≡ target_of synonym db
   other_synonyms_at target synonym changes.Nothing other only = target_stays synonym changes.Nothing tt
@@ -44,11 +44,11 @@ module _ (db : Database) where
   other_synonyms_at target synonym (changes.PutSynonym own name) other only = lookup_beside synonym_total own name synonym (beside target synonym own only other) db.synonyms
   other_synonyms_at target synonym (changes.DropSynonym own) other only = lookup_left synonym_total synonym own (beside target synonym own only other) db.synonyms
 
-  -- a change of tables leaves synonyms in order
+  -- a change of tables leaves synonyms sorted
   order_stays : AreSynonymsInOrder db → (change : Change) → IsOfTables change → AreSynonymsInOrder (changed change db)
   order_stays up change is = subst (λ all. IsStrictlySortedBy synonym_cmp (keys_of all)) (sym (synonyms_stay_at change db is)) up
 
-  -- synonyms stay in order
+  -- synonyms stay sorted
   pub synonyms_in_order : AreSynonymsInOrder db → (change : Change) → AreSynonymsInOrder (changed change db)
   synonyms_in_order up changes.Nothing = up
   synonyms_in_order up (changes.PutTable name table) = order_stays up (changes.PutTable name table) tt

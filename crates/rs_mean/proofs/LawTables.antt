@@ -12,7 +12,7 @@ use Rattle.rs_mean.specs.Database.{Database, table_named, without_table, changin
 use Rattle.rs_mean.proofs.Entries.{apart, lookup_put, lookup_beside, keys_stay_sorted, left_in_order, lookup_left, lookup_gone}
 use Rattle.rs_mean.proofs.Orders.{name_total, name_exact}
 
--- ---- how many sites there are
+---- the number of sites
 
 sites_changing : (name : Swn) (change : Table → Table) (found : Option Table) (db : Database) → (with_changed name change found db).sites ≡ db.sites
 sites_changing name change None db = refl
@@ -62,7 +62,7 @@ module _ (name own : Swn) (differ : is_eq (name_cmp name own) ≡ false) where
   changing_beside change None db = refl
   changing_beside change (Some table) db = lookup_beside name_total own (change table) name differ db.tables
 
--- the names differ where one is the target and the other isn't
+-- the names differ if one is the target and the other isn't
 beside : (target : Option Swn) (name own : Swn) → target ≡ Some own → target ≢ Some name → is_eq (name_cmp name own) ≡ false
 beside target name own is other = apart name_exact name own (λ (same : name ≡ own). other (is ∙ sym (ap (λ n. Some n) same)))
 
@@ -107,7 +107,7 @@ synonyms_stay_at (changes.DropSynonym synonym) db is = absurd is
 
 -- ---- the table of the name
 
--- the table that was put has its name
+-- the inserted table has its name
 pub named_put : (name : Swn) (table : Table) (db : Database) → table_named name (changed (changes.PutTable name table) db) ≡ Some table
 named_put name table db = lookup_put name_total name table db.tables
 

@@ -1,4 +1,4 @@
--- What is so where tests give these answers.
+-- What follows from the answers of tests.
 use Rattle.std.proofs.Common.{◌≡◌, Bool, true, false, not, cond, ◌&&◌, ◌||◌, List, ◌∷◌, Option, Some, None, is_some, refl}
 use Rattle.rs_base.specs.declared.reply.Denial.{Denial}
 use Rattle.rs_bind.specs.Denials.{Test, first_denial}

@@ -22,7 +22,7 @@ use Rattle.rs_answer.specs.Kinds.{HasKinds}
 use Rattle.rs_mean.specs.declared.table.Table.{Table}
 use Rattle.rs_mean.specs.Changes.{with_rows}
 use Rattle.rs_mean.specs.Laws.{IsTyped}
-use Rattle.rs_mean.specs.RowChanges.{given_rows, updated_rows, kept}
+use Rattle.rs_mean.specs.RowChanges.{given_rows, updated_rows, other_rows}
 use Rattle.rs_mean.specs.RowStatements.{rows_of}
 use Rattle.rs_mean.specs.TableStatements.{columns_of, new_table}
 use Rattle.rs_mean.proofs.LawKept.{KeepsIn}
@@ -36,15 +36,15 @@ kinds_of columns = map (λ (column : ColDef). column.kind) columns
 pub empty_typed : (txn : Txn) (name : Swn) (columns : List ColDef) → length columns ≤ 16 → IsTyped (new_table txn name columns)
 empty_typed txn name columns few = record { few = few; kinds = All-nil (HasKinds (kinds_of columns)) }
 
--- a table stays typed whatever its indexes are
+-- a table stays typed whatever its indexes
 pub indexed_typed : (found : Option Table) (indexes : List IndexOf) → IfSome found IsTyped → KeepsIn IsTyped found (λ table. record table { indexes = indexes })
 indexed_typed found indexes typed = IfSome_then found typed (λ table each. record { few = each.few; kinds = each.kinds })
 
 -- a table stays typed without some of its rows
-pub kept_typed : (found : Option Table) (clauses : List (List BoundCmp)) → IfSome found IsTyped
-    → KeepsIn IsTyped found (λ table. record table { rows = kept clauses (rows_of found) })
-kept_typed None clauses typed = tt
-kept_typed (Some table) clauses typed = record {
+pub others_typed : (found : Option Table) (clauses : List (List BoundCmp)) → IfSome found IsTyped
+    → KeepsIn IsTyped found (λ table. record table { rows = other_rows clauses (rows_of found) })
+others_typed None clauses typed = tt
+others_typed (Some table) clauses typed = record {
   few = typed.few;
   kinds = All-filter (λ row. not (holds clauses row)) (HasKinds (kinds_of table.columns)) table.rows typed.kinds;
 }

@@ -23,14 +23,14 @@ use Rattle.rs_mean.specs.Database.{Database, table_named, target_of}
 use Rattle.rs_mean.specs.Laws.{AnswersAreTyped, DeniedChangesNothing, SelectChangesNothing, SitesStay, NamesStayInOrder, SynonymsStayInOrder, OthersStay, SynonymsStay, OtherSynonymsStay, IndexIsMade, IndexIsDropped, SynonymIsMade, SynonymIsDropped, TableIsMade, TableIsDropped, RowsAreAppended, RowsAreTakenOut, RowsAreChanged, EachTable, IsWithin, TablesStayWithin, HasDistinctColumns, ColumnsStayDistinct, HasDistinctIndexes, IndexesStayDistinct, IsTyped, RowsStayTyped, written_of, synonym_of}
 use Rattle.rs_mean.specs.Meaning.{effect_of, meaning}
 use Rattle.rs_mean.specs.Names.{name_of, own_synonym}
-use Rattle.rs_mean.specs.RowChanges.{kept, met}
+use Rattle.rs_mean.specs.RowChanges.{other_rows, matching_count}
 use Rattle.rs_mean.specs.RowStatements.{rows_of}
-use Rattle.rs_mean.specs.TableStatements.{new_table, columns_of, indexes_of, column_place, has_index, is_indexed, new_index, without_index}
+use Rattle.rs_mean.specs.TableStatements.{new_table, columns_of, indexes_of, column_index, has_index, is_indexed, new_index, without_index}
 use Rattle.rs_mean.proofs.Entries.{lookup_put, lookup_gone}
 use Rattle.rs_mean.proofs.LawEffects.{holds_of_change}
 use Rattle.rs_mean.proofs.LawIndexes.{name_at, none_of_name}
 use Rattle.rs_mean.proofs.LawKept.{Keeps, each_changed, all_differ}
-use Rattle.rs_mean.proofs.LawRows.{given_as_written, as_many_updated, met_at_most, kept_and_met}
+use Rattle.rs_mean.proofs.LawRows.{given_as_written, as_many_updated, matching_at_most, others_and_matching}
 use Rattle.rs_mean.proofs.LawShown.{rows_shown}
 use Rattle.rs_mean.proofs.LawSynonyms.{TouchesSynonym, other_synonyms_at, synonyms_in_order}
 use Rattle.rs_mean.proofs.LawTouches.{touches, of_tables, touches_synonym}
@@ -93,7 +93,7 @@ other_synonyms_stay db execution synonym other =
     (λ given so. touches_synonym db execution (effect_of db execution).change given execution.stmt so) in
     other_synonyms_at db target synonym (effect_of db execution).change other only
 
--- ---- what is there after a statement that was done
+---- what is there after a done statement
 
 is_some_if : (found : Option Table) → is_none found ≡ false → IsSome found
 is_some_if None e = absurd cc
@@ -145,12 +145,12 @@ rows_are_taken_out db execution written clauses given is e =
     let found = found_if (table_named name db) so.there in
     let old : Table = found.0 in
     let rows : rows_of (table_named name db) ≡ old.rows = ap rows_of found.1 in
-    let new : Table = record old { rows = kept so.clauses old.rows } in
+    let new : Table = record old { rows = other_rows so.clauses old.rows } in
     let put : table_named name (changed (effect_of db execution).change db) ≡ Some new
-    = ap (λ change. table_named name (changed change db)) (so.is ∙ ap (λ (all : List (List Value)). changes.SetRows name (kept so.clauses all)) rows)
-    ∙ set_table name (kept so.clauses old.rows) db old found.1 in
-    let tells : given ≡ answers.Changed (met so.clauses old.rows) ∷ [] = so.answers ∙ ap (λ (all : List (List Value)). answers.Changed (met so.clauses all) ∷ []) rows in
-    (met so.clauses old.rows, old, new, tells, found.1, put, record { made = refl; columns = refl; indexes = refl; rows = kept_and_met so.clauses old.rows })
+    = ap (λ change. table_named name (changed change db)) (so.is ∙ ap (λ (all : List (List Value)). changes.SetRows name (other_rows so.clauses all)) rows)
+    ∙ set_table name (other_rows so.clauses old.rows) db old found.1 in
+    let reports : given ≡ answers.Changed (matching_count so.clauses old.rows) ∷ [] = so.answers ∙ ap (λ (all : List (List Value)). answers.Changed (matching_count so.clauses all) ∷ []) rows in
+    (matching_count so.clauses old.rows, old, new, reports, found.1, put, record { made = refl; columns = refl; indexes = refl; rows = others_and_matching so.clauses old.rows })
 
 pub rows_are_changed : RowsAreChanged
 unfolding meaning
@@ -163,9 +163,9 @@ rows_are_changed db execution written sets clauses given is e =
     let new : Table = record old { rows = so.new } in
     let put : table_named name (changed (effect_of db execution).change db) ≡ Some new
     = ap (λ change. table_named name (changed change db)) so.is ∙ set_table name so.new db old found.1 in
-    let tells : given ≡ answers.Changed (met so.clauses old.rows) ∷ [] = so.answers ∙ ap (λ (all : List (List Value)). answers.Changed (met so.clauses all) ∷ []) rows in
+    let reports : given ≡ answers.Changed (matching_count so.clauses old.rows) ∷ [] = so.answers ∙ ap (λ (all : List (List Value)). answers.Changed (matching_count so.clauses all) ∷ []) rows in
     let as_many : length so.new ≡ length old.rows = as_many_updated (sets_in db name sets) so.clauses (rows_of (table_named name db)) so.new so.made ∙ ap (λ (all : List (List Value)). length all) rows in
-    (met so.clauses old.rows, old, new, tells, met_at_most so.clauses old.rows, found.1, put, record { made = refl; columns = refl; indexes = refl; rows = omega arith })
+    (matching_count so.clauses old.rows, old, new, reports, matching_at_most so.clauses old.rows, found.1, put, record { made = refl; columns = refl; indexes = refl; rows = omega arith })
 
 -- the table that was there, and the one with these indexes
 set_indexes : (name : Swn) (indexes : List IndexOf) (db : Database) (old : Table) → table_named name db ≡ Some old
@@ -180,15 +180,15 @@ index_is_made db execution name written column given is e =
     let own : Swn = name_of db execution written in
     let found = found_if (table_named own db) so.there in
     let old : Table = found.0 in
-    let index : IndexOf = new_index execution.txn name (column_place old.columns column) in
+    let index : IndexOf = new_index execution.txn name (column_index old.columns column) in
     let new : Table = record old { indexes = old.indexes ++ index ∷ [] } in
-    let made : Option Table → Change = λ table. changes.SetIndexes own (indexes_of table ++ new_index execution.txn name (column_place (columns_of table) column) ∷ []) in
+    let made : Option Table → Change = λ table. changes.SetIndexes own (indexes_of table ++ new_index execution.txn name (column_index (columns_of table) column) ∷ []) in
     let put : table_named own (changed (effect_of db execution).change db) ≡ Some new
     = ap (λ change. table_named own (changed change db)) (so.is ∙ ap made found.1) ∙ set_indexes own (old.indexes ++ index ∷ []) db old found.1 in
     let named : has_name old.columns column ≡ true = subst (λ table. has_name (columns_of table) column ≡ true) found.1 so.named in
     let new_name : has_index old.indexes name ≡ false = subst (λ table. has_index (indexes_of table) name ≡ false) found.1 so.new_name in
     let new_column : is_indexed old.indexes index.column ≡ false
-    = subst (λ table. is_indexed (indexes_of table) (column_place (columns_of table) column) ≡ false) found.1 so.new_column in (
+    = subst (λ table. is_indexed (indexes_of table) (column_index (columns_of table) column) ≡ false) found.1 so.new_column in (
       old,
       new,
       index,
@@ -235,7 +235,7 @@ synonym_is_dropped db execution synonym given up is e =
 
 -- ---- what every table keeps
 
--- each table stays so after an execution where each statement keeps it so
+-- each table stays so after an execution if each statement keeps it so
 each_after : (P : Table → Type 0) (db : Database) (execution : Execution) → EachTable P db
     → ((given : List Answer) → Does db execution execution.stmt (effect_of db execution).change given → Keeps P db (effect_of db execution).change)
     → EachTable P (changed (effect_of db execution).change db)

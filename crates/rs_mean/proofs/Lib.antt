@@ -14,7 +14,7 @@ mod LawTests
 mod LawTouches
 mod LawTyped
 pub mod Lawful
-mod Meeting
+mod Matching
 pub mod Orders
 mod Selects
 mod UpdatedRows

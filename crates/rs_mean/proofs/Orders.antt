@@ -10,7 +10,7 @@ use Rattle.rs_base.specs.Name.{name_cmp}
 use Rattle.rs_mean.specs.declared.synonym.Synonym.{Synonym}
 use Rattle.rs_mean.specs.Database.{synonym_cmp}
 
--- a chain of two answers is a tie only where both are
+-- a chain of two answers is a tie exactly if both are
 both_tie : (o p : Ordering) → ordering_then o p ≡ Equal → (o ≡ Equal) × (p ≡ Equal)
 both_tie Less p h = cc
 both_tie Equal p h = (refl, h)

@@ -9,7 +9,7 @@ use Rattle.rs_bind.specs.declared.heading.Heading.{Heading}
 use Rattle.rs_bind.specs.declared.scope.Param.{Param}
 use Rattle.rs_mean.specs.Queries.{IsSelect}
 
-unless_denied-select : (told : Option Denial) (given bound : Bound) → IsSelect given → Ok bound ≡ unless_denied told given → IsSelect bound
+unless_denied-select : (answered : Option Denial) (given bound : Bound) → IsSelect given → Ok bound ≡ unless_denied answered given → IsSelect bound
 unless_denied-select None given bound is e = let same : given ≡ bound = cc in subst IsSelect same is
 unless_denied-select (Some cause) given bound is e = absurd cc
 

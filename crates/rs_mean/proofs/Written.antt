@@ -1,4 +1,4 @@
--- A table that was changed, written back in its place.
+-- A changed table, written back.
 use Rattle.std.proofs.Common.{◌≡◌, List, Some, Result, Ok, Err, sym, ap, ◌∙◌}
 use Rattle.std.specs.Result.{OnOk, OnErr}
 use Rattle.std.specs.BTreeMap.{is_at}

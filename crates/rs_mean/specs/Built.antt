@@ -1,11 +1,11 @@
--- Which statements are executed so far: all but those on programs, plans and moves, and those that show.
+-- The supported statements: all but those on programs, plans and moves, and SHOW.
 use Rattle.std.specs.Prelude.{Option, Some, None}
 use Rattle.rs_ast.specs.declared.stmt.Stmt as stmts
 use Rattle.rs_ast.specs.declared.stmt.Stmt.TheVariants as variants
 use Rattle.rs_mean.specs.declared.built.Stmt.{Stmt}
 use Rattle.rs_mean.specs.declared.built.Stmt.TheVariants as built
 
--- the statement as it is executed, if it is executed so far
+-- the statement as it is executed, if it is supported
 abbrev pub built_of : stmts.Stmt → Option Stmt
 built_of (variants.CreateTable name columns) = Some (built.CreateTable name columns)
 built_of (variants.DropTable name) = Some (built.DropTable name)

@@ -11,14 +11,14 @@ use Rattle.rs_base.specs.Name.{name_cmp}
 use Rattle.rs_mean.specs.declared.synonym.Synonym.{Synonym}
 use Rattle.rs_mean.specs.declared.table.Table.{Table}
 
--- how many sites there are; the tables by their system-wide names, in order of names; and what users' synonyms stand for,
--- in order of synonyms
+-- the number of sites; the tables by their system-wide names, sorted by name; and the names that users' synonyms refer to,
+-- sorted by synonym
 pub record Database : Type 0 where
   pub sites : ℕ
   pub tables : List (Swn × Table)
   pub synonyms : List (Synonym × Swn)
 
--- the database of so many sites in which nothing was made yet
+-- the empty database of this number of sites
 abbrev pub empty : ℕ → Database
 empty sites = record { sites = sites; tables = []; synonyms = [] }
 
@@ -36,7 +36,7 @@ with_table name table db = record db { tables = insert_entry name_cmp db.tables 
 abbrev pub without_table : Swn → Database → Database
 without_table name db = record db { tables = remove_entry (is_at (name_cmp name)) db.tables }
 
--- the table put under its name, where there was one
+-- the table stored under its name, if there was one
 abbrev pub with_changed : Swn → (Table → Table) → Option Table → Database → Database
 with_changed name change None db = db
 with_changed name change (Some table) db = with_table name (change table) db
@@ -45,7 +45,7 @@ with_changed name change (Some table) db = with_table name (change table) db
 abbrev pub changing : Swn → (Table → Table) → Database → Database
 changing name change db = with_changed name change (table_named name db) db
 
--- each name stands once, and the names rise
+-- the names are distinct and rise
 abbrev pub IsInOrder : Database → Type 0
 IsInOrder db = IsStrictlySortedBy name_cmp (keys_of db.tables)
 
@@ -56,7 +56,7 @@ abbrev pub synonym_cmp : Synonym → Synonym → Ordering
 synonym_cmp one other = ordering_then (nat_cmp one.site other.site)
     (ordering_then (slice_cmp nat_cmp one.user other.user) (slice_cmp nat_cmp one.name other.name))
 
--- the name that the synonym stands for, if there is such a synonym
+-- the name that the synonym refers to, if there is such a synonym
 abbrev pub target_of : Synonym → Database → Option Swn
 target_of synonym db = lookup (is_at (synonym_cmp synonym)) db.synonyms
 
@@ -68,6 +68,6 @@ with_synonym synonym name db = record db { synonyms = insert_entry synonym_cmp d
 abbrev pub without_synonym : Synonym → Database → Database
 without_synonym synonym db = record db { synonyms = remove_entry (is_at (synonym_cmp synonym)) db.synonyms }
 
--- each synonym stands once, and the synonyms rise
+-- the synonyms are distinct and rise
 abbrev pub AreSynonymsInOrder : Database → Type 0
 AreSynonymsInOrder db = IsStrictlySortedBy synonym_cmp (keys_of db.synonyms)

@@ -6,7 +6,7 @@ use Rattle.rs_mean.specs.declared.change.Change.{Change}
 use Rattle.rs_mean.specs.declared.change.Change.TheVariants as changes
 use Rattle.rs_mean.specs.declared.change.Effect.{Effect}
 
--- an answer for each statement, or why the execution was denied
+-- an answer for each statement, or the cause of the denial
 abbrev pub Outcome : Type 0
 Outcome = Result (List Answer) Denial
 
@@ -16,7 +16,7 @@ done change answer = record { change = change; outcome = Ok (answer ∷ []) }
 abbrev pub denied : Denial → Effect
 denied cause = record { change = changes.Nothing; outcome = Err cause }
 
--- the effect, or why there is none
+-- the effect, or the cause of the denial
 abbrev pub unless_denied : Option Denial → Effect → Effect
 unless_denied None effect = effect
 unless_denied (Some cause) effect = denied cause

@@ -1,4 +1,4 @@
--- What holds of every execution, whatever the database.
+-- Laws of every execution, whatever the database.
 use Rattle.std.specs.Prelude.{◌≡◌, ◌≢◌, ◌≤◌, ℕ, ◌+◌, not, bytes_eq, IsTrue, All, AllPairs, List, [], ◌∷◌, ◌++◌, map, filter, length, slice_get, Option, Some, None, Ok, Err, IsSome, option_map}
 use Rattle.std.specs.List.{list_any}
 use Rattle.std.specs.Map.{values_of}
@@ -49,15 +49,15 @@ DeniedChangesNothing = (db : Database) (execution : Execution) (cause : Denial) 
 abbrev pub SelectChangesNothing : Type 0
 SelectChangesNothing = (db : Database) (execution : Execution) (query : Select) → execution.stmt ≡ stmts.Dml (dmls.Select query) → after db execution ≡ db
 
--- no execution changes how many sites there are
+-- no execution changes the number of sites
 abbrev pub SitesStay : Type 0
 SitesStay = (db : Database) (execution : Execution) → (after db execution).sites ≡ db.sites
 
--- each synonym stands once, and the synonyms rise, at first and after each execution
+-- the synonyms are distinct and rise, at first and after each execution
 abbrev pub SynonymsStayInOrder : Type 0
 SynonymsStayInOrder = ((sites : ℕ) → AreSynonymsInOrder (empty sites)) × ((db : Database) (execution : Execution) → AreSynonymsInOrder db → AreSynonymsInOrder (after db execution))
 
--- each name stands once, and the names rise, at first and after each execution
+-- the names are distinct and rise, at first and after each execution
 abbrev pub NamesStayInOrder : Type 0
 NamesStayInOrder = ((sites : ℕ) → IsInOrder (empty sites)) × ((db : Database) (execution : Execution) → IsInOrder db → IsInOrder (after db execution))
 
@@ -101,7 +101,7 @@ synonym_of (stmts.Dml dml) = None
 abbrev pub target_synonym : Execution → Option Synonym
 target_synonym execution = option_map (own_synonym execution) (synonym_of execution.stmt)
 
--- only statements on synonyms change what synonyms stand for
+-- only statements on synonyms change what synonyms refer to
 abbrev pub SynonymsStay : Type 0
 SynonymsStay = (db : Database) (execution : Execution) → synonym_of execution.stmt ≡ None → (after db execution).synonyms ≡ db.synonyms
 
@@ -109,9 +109,9 @@ SynonymsStay = (db : Database) (execution : Execution) → synonym_of execution.
 abbrev pub OtherSynonymsStay : Type 0
 OtherSynonymsStay = (db : Database) (execution : Execution) (synonym : Synonym) → target_synonym execution ≢ Some synonym → target_of synonym (after db execution) ≡ target_of synonym db
 
--- ---- what is there after a statement that was done
+---- what is there after a done statement
 
--- after a CREATE TABLE that was done its name has the table made, in which there is no row
+-- after a done CREATE TABLE its name has the new table, without a row
 abbrev pub TableIsMade : Type 0
 TableIsMade = (db : Database) (execution : Execution) (written : NameText) (columns : List ColDef) (given : List Answer)
     → execution.stmt ≡ stmts.CreateTable written columns → (meaning db execution).1 ≡ Ok given
@@ -119,7 +119,7 @@ TableIsMade = (db : Database) (execution : Execution) (written : NameText) (colu
     × (table_named (name_of db execution written) db ≡ None)
     × (table_named (name_of db execution written) (after db execution) ≡ Some (record { made = execution.txn; place = (name_of db execution written).birth; columns = columns; indexes = []; rows = [] }))
 
--- after a DROP TABLE that was done no table has its name, which one had before
+-- after a done DROP TABLE no table has its name, which one had before
 abbrev pub TableIsDropped : Type 0
 TableIsDropped = (db : Database) (execution : Execution) (written : NameText) (given : List Answer)
     → IsInOrder db → execution.stmt ≡ stmts.DropTable written → (meaning db execution).1 ≡ Ok given
@@ -127,7 +127,7 @@ TableIsDropped = (db : Database) (execution : Execution) (written : NameText) (g
     × IsSome (table_named (name_of db execution written) db)
     × (table_named (name_of db execution written) (after db execution) ≡ None)
 
--- after an INSERT of values that was done its name has the table that it had, with the rows of these values at its end
+-- after a done INSERT of values its name has the table that it had, with the rows of these values appended
 abbrev pub RowsAreAppended : Type 0
 RowsAreAppended = (db : Database) (execution : Execution) (written : NameText) (rows : List (List Value)) (given : List Answer)
     → execution.stmt ≡ stmts.Dml (dmls.Insert written (map (map terms.Lit) rows)) → (meaning db execution).1 ≡ Ok given
@@ -135,38 +135,38 @@ RowsAreAppended = (db : Database) (execution : Execution) (written : NameText) (
     × IsSome (table_named (name_of db execution written) db)
     × (table_named (name_of db execution written) (after db execution) ≡ option_map (with_rows rows) (table_named (name_of db execution written) db))
 
--- A table has so many rows less.
+-- A table has this number of rows less.
 pub record HasLost (count : ℕ) (old new : Table) : Type 0 where
   pub made : new.made ≡ old.made
   pub columns : new.columns ≡ old.columns
   pub indexes : new.indexes ≡ old.indexes
   pub rows : length new.rows + count ≡ length old.rows
 
--- after a DELETE that was done its table has as many rows less as it tells
+-- after a done DELETE its table has as many rows less as it reports
 abbrev pub RowsAreTakenOut : Type 0
 RowsAreTakenOut = (db : Database) (execution : Execution) (written : NameText) (clauses : List Clause) (given : List Answer)
     → execution.stmt ≡ stmts.Dml (dmls.Delete written clauses) → (meaning db execution).1 ≡ Ok given
     → (count : ℕ) × (old : Table) × (new : Table) × (given ≡ answers.Changed count ∷ [])
     × (table_named (name_of db execution written) db ≡ Some old) × (table_named (name_of db execution written) (after db execution) ≡ Some new) × HasLost count old new
 
--- after an UPDATE that was done its table has as many rows as before, and it tells at most so many
+-- after a done UPDATE its table has as many rows as before, and it reports at most that number
 abbrev pub RowsAreChanged : Type 0
 RowsAreChanged = (db : Database) (execution : Execution) (written : NameText) (sets : List Set) (clauses : List Clause) (given : List Answer)
     → execution.stmt ≡ stmts.Dml (dmls.Update written sets clauses) → (meaning db execution).1 ≡ Ok given
     → (count : ℕ) × (old : Table) × (new : Table) × (given ≡ answers.Changed count ∷ []) × (count ≤ length old.rows)
     × (table_named (name_of db execution written) db ≡ Some old) × (table_named (name_of db execution written) (after db execution) ≡ Some new) × HasLost 0 old new
 
--- the column at this place has this name
+-- the column at this index has this name
 abbrev pub IsNameAt : List ℕ → List ColDef → ℕ → Type 0
 IsNameAt name columns place = option_map (λ column. column.name) (slice_get columns place) ≡ Some name
 
--- A table has an index more, at the end of those that it had, none of which has its name or is on its column.
+-- A table has one index more, after those that it had, none of which has its name or is on its column.
 pub record HasGained (index : IndexOf) (old new : Table) : Type 0 where
   pub fresh : All (λ other. (other.name ≢ index.name) × (other.column ≢ index.column)) old.indexes
   pub is : new ≡ record old { indexes = old.indexes ++ index ∷ [] }
 
--- after a CREATE INDEX that was done its table has the index, of this name, made by the execution, and on the column of that name where it
--- has at most 16 columns
+-- after a done CREATE INDEX its table has the index, of this name, made by the execution, and on the column of that name if the
+-- table has at most 16 columns
 abbrev pub IndexIsMade : Type 0
 IndexIsMade = (db : Database) (execution : Execution) (name : List ℕ) (written : NameText) (column : List ℕ) (given : List Answer)
     → execution.stmt ≡ stmts.CreateIndex name written column → (meaning db execution).1 ≡ Ok given
@@ -180,14 +180,14 @@ pub record HasNoMore (name : List ℕ) (old new : Table) : Type 0 where
   pub gone : All (λ index. index.name ≢ name) new.indexes
   pub is : new ≡ record old { indexes = filter (λ index. not (bytes_eq index.name name)) old.indexes }
 
--- after a DROP INDEX that was done its table has no more index of this name
+-- after a done DROP INDEX its table has no index of this name
 abbrev pub IndexIsDropped : Type 0
 IndexIsDropped = (db : Database) (execution : Execution) (name : List ℕ) (written : NameText) (given : List Answer)
     → execution.stmt ≡ stmts.DropIndex name written → (meaning db execution).1 ≡ Ok given
     → (old : Table) × (new : Table) × (given ≡ answers.Ok ∷ [])
     × (table_named (name_of db execution written) db ≡ Some old) × (table_named (name_of db execution written) (after db execution) ≡ Some new) × HasNoMore name old new
 
--- after a CREATE SYNONYM that was done the user's synonym at the asked site, which wasn't there, stands for the name
+-- after a done CREATE SYNONYM the user's synonym at the asked site, which wasn't there, refers to the name
 abbrev pub SynonymIsMade : Type 0
 SynonymIsMade = (db : Database) (execution : Execution) (synonym : List ℕ) (written : NameText) (given : List Answer)
     → execution.stmt ≡ stmts.CreateSynonym synonym written → (meaning db execution).1 ≡ Ok given
@@ -195,7 +195,7 @@ SynonymIsMade = (db : Database) (execution : Execution) (synonym : List ℕ) (wr
     × (target_of (own_synonym execution synonym) db ≡ None)
     × (target_of (own_synonym execution synonym) (after db execution) ≡ Some (name_of db execution written))
 
--- after a DROP SYNONYM that was done the user's synonym at the asked site, which was there, is no more
+-- after a done DROP SYNONYM the user's synonym at the asked site, which was there, is gone
 abbrev pub SynonymIsDropped : Type 0
 SynonymIsDropped = (db : Database) (execution : Execution) (synonym : List ℕ) (given : List Answer)
     → AreSynonymsInOrder db → execution.stmt ≡ stmts.DropSynonym synonym → (meaning db execution).1 ≡ Ok given
@@ -203,7 +203,7 @@ SynonymIsDropped = (db : Database) (execution : Execution) (synonym : List ℕ) 
     × IsSome (target_of (own_synonym execution synonym) db)
     × (target_of (own_synonym execution synonym) (after db execution) ≡ None)
 
--- ---- what every table keeps
+---- invariants of every table
 
 -- each table of the database is so
 abbrev pub EachTable : (Table → Type 0) → Database → Type 0
@@ -262,13 +262,13 @@ RowsStayTyped =
     ((sites : ℕ) → EachTable IsTyped (empty sites))
     × ((db : Database) (execution : Execution) → MakesFewColumns execution.stmt → EachTable IsTyped db → EachTable IsTyped (after db execution))
 
--- ---- what a query answers
+---- a query's answer
 
 -- the columns that a query may name
 abbrev pub columns_named : Database → Execution → Select → List ScopeColumn
 columns_named db execution query = query_scope query.from (map (heading_in db) (map (λ table. name_of db execution table.name) query.from))
 
--- the kind of what an item answers, if its column is there
+-- the kind of an item, if its column is there
 abbrev pub kind_shown : List ScopeColumn → Item → Option Kind
 kind_shown columns (items.Col written) = column_kind columns written
 kind_shown columns items.Count = Some kinds.Int
@@ -276,12 +276,12 @@ kind_shown columns (items.Sum written) = Some kinds.Int
 kind_shown columns (items.Min written) = column_kind columns written
 kind_shown columns (items.Max written) = column_kind columns written
 
--- the kinds of what a query answers; `*` shows every column
+-- the kinds of a query's items; `*` shows every column
 abbrev pub kinds_shown : List ScopeColumn → Option (List Item) → List (Option Kind)
 kinds_shown columns None = map (λ column. Some column.kind) columns
 kinds_shown columns (Some shown) = map (kind_shown columns) shown
 
--- a query of at most 6 tables that is answered has a kind for each item, and each row that it answers a value for each, of its kind
+-- over typed tables, a query of at most 6 tables that is answered has a kind for each item, and each row that it answers a value for each, of its kind
 abbrev pub AnswersAreTyped : Type 0
 AnswersAreTyped = (db : Database) (execution : Execution) (query : Select) (given : List Answer)
     → EachTable IsTyped db → length query.from ≤ 6 → execution.stmt ≡ stmts.Dml (dmls.Select query) → (meaning db execution).1 ≡ Ok given

@@ -1,18 +1,18 @@
--- How large rows and tables may be.
+-- The limits of rows and tables.
 use Rattle.std.specs.Prelude.{ℕ, Bool, ◌&&◌, nat_le, List, length}
 use Rattle.rs_base.specs.declared.value.Value.{Value}
 use Rattle.rs_base.specs.Sizes.{row_size}
 use Rattle.rs_rows.specs.Sizes.{rows_size}
 
--- the most bytes of a row
+-- the largest size of a row, in bytes
 abbrev pub max_row_bytes : ℕ
 max_row_bytes = 1024
 
--- the most rows of a table
+-- the largest number of rows of a table
 abbrev pub max_rows : ℕ
 max_rows = 65536
 
--- the most bytes of a table
+-- the largest size of a table, in bytes
 abbrev pub max_table_bytes : ℕ
 max_table_bytes = 8388608
 

@@ -1,4 +1,4 @@
--- What an execution means: the database after it, and its outcome. A denied one changes nothing.
+-- The meaning of an execution: the database after it, and its outcome. A denied one changes nothing.
 use Rattle.rs_mean.specs.declared.built.Stmt.{Stmt}
 use Rattle.rs_mean.specs.declared.built.Stmt.TheVariants as stmts
 use Rattle.rs_mean.specs.declared.change.Effect.{Effect}

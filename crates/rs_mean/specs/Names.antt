@@ -1,4 +1,4 @@
--- What the names in a statement stand for, and when one can't be used.
+-- What the names in a statement refer to, and when one can't be used.
 use Rattle.std.specs.Prelude.{ℕ, Bool, ◌||◌, nat_lt, is_none, List, [], ◌∷◌}
 use Rattle.rs_base.specs.declared.name.NameText.{NameText}
 use Rattle.rs_base.specs.declared.name.Swn.{Swn}
@@ -13,12 +13,12 @@ use Rattle.rs_mean.specs.Database.{Database, table_named, target_of}
 abbrev pub own_synonym : Execution → List ℕ → Synonym
 own_synonym execution name = record { site = execution.site; user = execution.user; name = name }
 
--- A name of one identifier alone stands for the user's synonym at the asked site, if there is one; and any other for its
--- parts, the missing ones of the user and the asked site.
+-- A name of one identifier refers to the user's synonym at the asked site, if there is one; any other name is resolved
+-- from its parts, the missing ones of the user and the asked site.
 abbrev pub name_of : Database → Execution → NameText → Swn
 name_of db execution written = resolved written execution.user execution.site (target_of (own_synonym execution written.object) db)
 
--- the creator's site, or the birth site, is none
+-- the creator's site, or the birth site, doesn't exist
 abbrev pub names_no_site : Database → Swn → Bool
 names_no_site db name = nat_lt db.sites name.creator_site || nat_lt db.sites name.birth
 

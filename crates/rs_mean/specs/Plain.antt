@@ -1,4 +1,4 @@
--- What a statement on rows answers over given tables, where no name has a synonym and sites aren't counted.
+-- The answer of a statement on rows over given tables, without synonyms and whatever the number of sites.
 use Rattle.std.specs.Prelude.{ℕ, is_none, List, [], ◌∷◌, map, find, Option, Some, None, Result, Ok, Err}
 use Rattle.std.specs.Ordering.{is_eq}
 use Rattle.rs_base.specs.declared.name.Swn.{Swn}
@@ -47,7 +47,7 @@ plain_tables tables = record { tests = plain_tests tables; heading = plain_headi
 
 -- ---- statements
 
--- what a statement does for this user, who asks at this site
+-- the effect of a statement for this user, who asks at this site
 abbrev pub plain_effect : List PlainTable → List ℕ → ℕ → Dml → Effect
 plain_effect tables user site dml = effect_over (plain_tables tables) (λ written. resolve written user site) dml
 

@@ -1,4 +1,4 @@
--- What changes of rows make of the rows of a table.
+-- The rows of a table after a change of rows.
 use Rattle.std.specs.Prelude.{ℕ, Bool, not, ◌&&◌, List, [], ◌∷◌, ◌++◌, map, filter, length, Result, Ok, Err, if◌then◌else◌}
 use Rattle.std.specs.List.{list_all}
 use Rattle.rs_base.specs.declared.reply.Denial.{Denial}
@@ -13,21 +13,21 @@ use Rattle.rs_mean.specs.Limits.{fits_row, fits_rows}
 
 -- ---- INSERT
 
--- the rows that are put in
+-- the inserted rows
 abbrev pub given_rows : List (List BoundTerm) → List (List Value)
 given_rows rows = map (λ row. map (term_value [] []) row) rows
 
--- each of the rows may be stored, and there is room for them behind those that are there
+-- each of the rows may be stored, and there is room for them after those of the table
 abbrev pub has_room : List (List Value) → List (List Value) → Bool
 has_room rows more = list_all fits_row more && fits_rows (rows ++ more)
 
--- the rows that are put in behind those of the table, or TableFull
+-- the rows appended to those of the table, or TableFull
 abbrev pub inserted : List (List BoundTerm) → List (List Value) → Result (List (List Value)) Denial
 inserted given rows = if has_room rows (given_rows given) then Ok (given_rows given) else Err denials.TableFull
 
 -- ---- UPDATE
 
--- a row that meets the clauses is set, and another stays
+-- a matching row is updated, and another stays
 abbrev pub updated_row : List BoundSet → List (List BoundCmp) → List Value → Result (List Value) Denial
 updated_row sets clauses row = if holds clauses row then row_set sets [] row else Ok row
 
@@ -39,7 +39,7 @@ abbrev pub and_others : {A : Type 0} → Result A Denial → Result (List A) Den
 and_others (Ok item) others = with_first item others
 and_others (Err cause) others = Err cause
 
--- each row updated, or why one can't be
+-- each row updated, or the first denial
 abbrev pub updated_rows : List BoundSet → List (List BoundCmp) → List (List Value) → Result (List (List Value)) Denial
 updated_rows sets clauses [] = Ok []
 updated_rows sets clauses (row ∷ rows) = and_others (updated_row sets clauses row) (updated_rows sets clauses rows)
@@ -52,17 +52,17 @@ abbrev pub within_limits : Result (List (List Value)) Denial → Result (List (L
 within_limits (Ok rows) = if may_be_rows rows then Ok rows else Err denials.TableFull
 within_limits (Err cause) = Err cause
 
--- The rows after an UPDATE; or Overflow, where an expression over a row that meets the clauses isn't an integer of 64 bits;
--- or else TableFull.
+-- The rows after an UPDATE; or Overflow, if an expression over a matching row isn't an integer of 64 bits; or else
+-- TableFull.
 abbrev pub updated : List BoundSet → List (List BoundCmp) → List (List Value) → Result (List (List Value)) Denial
 updated sets clauses rows = within_limits (updated_rows sets clauses rows)
 
 -- ---- DELETE
 
--- the rows that don't meet the clauses
-abbrev pub kept : List (List BoundCmp) → List (List Value) → List (List Value)
-kept clauses rows = filter (λ row. not (holds clauses row)) rows
+-- the other rows: those that don't match
+abbrev pub other_rows : List (List BoundCmp) → List (List Value) → List (List Value)
+other_rows clauses rows = filter (λ row. not (holds clauses row)) rows
 
--- how many rows meet the clauses
-abbrev pub met : List (List BoundCmp) → List (List Value) → ℕ
-met clauses rows = length (filter (holds clauses) rows)
+-- the number of matching rows
+abbrev pub matching_count : List (List BoundCmp) → List (List Value) → ℕ
+matching_count clauses rows = length (filter (holds clauses) rows)

@@ -1,4 +1,4 @@
--- What statements on rows do.
+-- The effects of statements on rows.
 use Rattle.std.specs.Prelude.{ℕ, List, [], ◌∷◌, map, flat_map, length, Option, Some, None, Result, Ok, Err}
 use Rattle.rs_base.specs.declared.name.NameText.{NameText}
 use Rattle.rs_base.specs.declared.name.Swn.{Swn}
@@ -27,7 +27,7 @@ use Rattle.rs_mean.specs.declared.table.Table.{Table}
 use Rattle.rs_mean.specs.Database.{Database, table_named}
 use Rattle.rs_mean.specs.Effects.{done, denied, unless_denied}
 use Rattle.rs_mean.specs.Names.{name_of, table_tests}
-use Rattle.rs_mean.specs.RowChanges.{inserted, updated, kept, met}
+use Rattle.rs_mean.specs.RowChanges.{inserted, updated, other_rows, matching_count}
 use Rattle.rs_mean.specs.TableStatements.{columns_of}
 
 -- ---- tables of a database
@@ -66,27 +66,27 @@ updating name count (Ok rows) = done (changes.SetRows name rows) (answers.Change
 updating name count (Err cause) = denied cause
 
 abbrev pub deleting : Swn → List (List BoundCmp) → List (List Value) → Effect
-deleting name clauses rows = done (changes.SetRows name (kept clauses rows)) (answers.Changed (met clauses rows))
+deleting name clauses rows = done (changes.SetRows name (other_rows clauses rows)) (answers.Changed (matching_count clauses rows))
 
 -- the rows of the one table of a change
 abbrev pub only : List (List (List Value)) → List (List Value)
 only [] = []
 only (rows ∷ tables) = rows
 
--- what a bound statement does, over the rows of its tables in order
+-- the effect of a bound statement, over the rows of its tables in order
 abbrev pub effect_of_bound : List (List (List Value)) → Bound → Effect
 effect_of_bound tables (bounds.Select names aliases widths clauses shape) = answering (selected clauses shape tables)
 effect_of_bound tables (bounds.Insert name rows) = inserting name (inserted rows (only tables))
-effect_of_bound tables (bounds.Update name sets clauses) = updating name (met clauses (only tables)) (updated sets clauses (only tables))
+effect_of_bound tables (bounds.Update name sets clauses) = updating name (matching_count clauses (only tables)) (updated sets clauses (only tables))
 effect_of_bound tables (bounds.Delete name clauses) = deleting name clauses (only tables)
 
 abbrev pub once_bound : List (List (List Value)) → Result Bound Denial → Effect
 once_bound tables (Ok bound) = effect_of_bound tables bound
 once_bound tables (Err cause) = denied cause
 
--- ---- statements: which tables there are; the names and kinds; and what is found in the rows
+---- statements: whether the tables exist; the names and kinds; and then the rows
 
--- What a statement on rows sees of tables: the tests of a name, which has to be that of a table, and its columns and rows.
+-- A statement's view of tables: the tests of a name, which has to be that of a table, and its columns and rows.
 pub record Tables : Type 0 where
   pub tests : Swn → List Test
   pub heading : Swn → Heading
@@ -96,7 +96,7 @@ abbrev pub select : Tables → List Swn → Select → Effect
 select tables names query =
     unless_denied (first_denial (flat_map tables.tests names)) (once_bound (map tables.rows names) (select_bound query (map tables.heading names) []))
 
--- a query, where a written name stands for this one
+-- a query, with names resolved by this function
 abbrev pub query : Tables → (NameText → Swn) → Select → Effect
 query tables name given = select tables (map (λ table. name table.name) given.from) given
 
@@ -113,7 +113,7 @@ update tables name sets clauses = change tables name (λ heading. update_bound s
 abbrev pub delete : Tables → Swn → List Clause → Effect
 delete tables name clauses = change tables name (λ heading. delete_bound clauses heading [])
 
--- a statement on rows, where a written name stands for this one
+-- a statement on rows, with names resolved by this function
 abbrev pub effect_over : Tables → (NameText → Swn) → Dml → Effect
 effect_over tables name (dmls.Select given) = query tables name given
 effect_over tables name (dmls.Insert written rows) = insert tables (name written) rows

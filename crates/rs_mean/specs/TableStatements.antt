@@ -1,4 +1,4 @@
--- What statements on tables, indexes and synonyms do.
+-- The effects of statements on tables, indexes and synonyms.
 use Rattle.std.specs.Prelude.{ℕ, Bool, ◌||◌, not, ◌==◌, is_some, List, [], ◌∷◌, ◌++◌, filter, bytes_eq, Option, Some, None}
 use Rattle.std.specs.List.{list_any, position_or_len}
 use Rattle.rs_base.specs.declared.name.Swn.{Swn}
@@ -47,9 +47,9 @@ abbrev pub indexes_of : Option Table → List IndexOf
 indexes_of None = []
 indexes_of (Some table) = table.indexes
 
--- the place of the column of that name
-abbrev pub column_place : List ColDef → List ℕ → ℕ
-column_place columns name = as_position (position_or_len (λ column. bytes_eq column.name name) columns)
+-- the index of the column of that name
+abbrev pub column_index : List ColDef → List ℕ → ℕ
+column_index columns name = as_position (position_or_len (λ column. bytes_eq column.name name) columns)
 
 -- an index has this name
 abbrev pub has_index : List IndexOf → List ℕ → Bool
@@ -59,24 +59,24 @@ has_index indexes name = list_any (λ index. bytes_eq index.name name) indexes
 abbrev pub is_indexed : List IndexOf → ℕ → Bool
 is_indexed indexes column = list_any (λ index. index.column == column) indexes
 
--- the table can't be used; it has no such column; the name is taken on the table, or the column has an index
+-- the table can't be used; it has no such column; the name is in use on the table, or the column has an index
 abbrev pub create_index_tests : Database → Swn → List ℕ → List ℕ → List Test
 create_index_tests db name index column =
     let columns = columns_of (table_named name db) in let indexes = indexes_of (table_named name db) in
     table_tests db name
     ++ test (not (has_name columns column)) denials.NoColumn
-    ∷ test (has_index indexes index || is_indexed indexes (column_place columns column)) denials.IndexExists
+    ∷ test (has_index indexes index || is_indexed indexes (column_index columns column)) denials.IndexExists
     ∷ []
 
 abbrev pub new_index : Txn → List ℕ → ℕ → IndexOf
 new_index txn index column = record { name = index; column = column; made = txn }
 
--- the index stands behind those that the table has
+-- the index comes after those that the table has
 abbrev pub create_index : Database → Txn → Swn → List ℕ → List ℕ → Effect
 create_index db txn name index column =
     let columns = columns_of (table_named name db) in let indexes = indexes_of (table_named name db) in
     unless_denied (first_denial (create_index_tests db name index column))
-    (done (changes.SetIndexes name (indexes ++ new_index txn index (column_place columns column) ∷ [])) answers.Ok)
+    (done (changes.SetIndexes name (indexes ++ new_index txn index (column_index columns column) ∷ [])) answers.Ok)
 
 -- the table can't be used; it has no index of that name
 abbrev pub drop_index_tests : Database → Swn → List ℕ → List Test
@@ -102,7 +102,7 @@ abbrev pub create_synonym_tests : Database → Execution → List ℕ → Swn �
 create_synonym_tests db execution synonym name =
     site_test db name ∷ test (is_some (target_of (own_synonym execution synonym) db)) denials.SynonymExists ∷ []
 
--- the name needs not be that of a table
+-- the name need not be that of a table
 abbrev pub create_synonym : Database → Execution → List ℕ → Swn → Effect
 create_synonym db execution synonym name =
     unless_denied (first_denial (create_synonym_tests db execution synonym name)) (done (changes.PutSynonym (own_synonym execution synonym) name) answers.Ok)

@@ -1,4 +1,4 @@
-//! The statements that are executed so far.
+//! The supported statements.
 
 ghost use Rattle.std.specs.Prelude.{◌≡◌};
 ghost use Rattle.rs_mean.specs.Built.{built_of};
@@ -6,8 +6,8 @@ ghost use Rattle.rs_mean.specs.Built.{built_of};
 use rs_ast::{ColDefs, Dml};
 use rs_base::{Ident, NameText};
 
-/// A statement that is executed so far.
-#[derive(Debug, Drop)]
+/// A supported statement.
+#[derive(Drop)]
 pub enum Stmt {
     CreateTable {
         name: NameText,
@@ -36,8 +36,8 @@ pub enum Stmt {
 }
 
 impl Stmt {
-    /// The statement as it is executed, or `None` where it isn't executed so far: those on programs and on plans, that
-    /// which moves a table, and those that show.
+    /// Returns the statement as it is executed, or `None` if it isn't supported: those on programs and on plans, MIGRATE, and
+    /// SHOW.
     pub fn built(stmt: rs_ast::Stmt) -> Option<Stmt>
         ensures { result ≡ built_of stmt }
     {

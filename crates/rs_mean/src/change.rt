@@ -1,4 +1,4 @@
-//! What an execution changes.
+//! Changes of the database.
 
 ghost use Rattle.std.specs.Prelude.{◌≡◌, IfOk};
 ghost use Rattle.rs_mean.specs.Effects as spec;
@@ -11,8 +11,8 @@ use rs_base::{Answer, Denial, NoMemory, Swn, one_item};
 use rs_rows::StoredRows;
 use std::alloc::Global;
 
-/// A change of the database. That of a table which isn't there changes nothing.
-#[derive(Debug, Drop)]
+/// A change of the database. That of a missing table changes nothing.
+#[derive(Drop)]
 pub enum Change {
     Nothing,
     PutTable { name: Swn, table: Table },
@@ -25,14 +25,14 @@ pub enum Change {
 }
 
 /// What an execution changes, and what it answers.
-#[derive(Debug, Drop)]
+#[derive(Drop)]
 pub struct Effect {
     pub change: Change,
     pub outcome: Outcome,
 }
 
 impl Effect {
-    /// That of one statement that is done.
+    /// Makes the effect of one statement that is done.
     pub(crate) fn done(alloc: Global, change: Change, answer: Answer) -> Result<Effect, NoMemory>
         ensures { IfOk result (λ effect. effect ≡ spec.done change answer) }
     {
@@ -43,7 +43,7 @@ impl Effect {
         })
     }
 
-    /// That of an execution that is denied: none.
+    /// Makes the effect of a denied execution, without a change.
     pub(crate) fn denied(cause: Denial) -> Effect
         ensures { result ≡ spec.denied cause }
     {

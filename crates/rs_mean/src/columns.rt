@@ -7,14 +7,14 @@ use rs_ast::{ColDef, ColDefs};
 use rs_base::{Ident, NoMemory, with_room};
 use std::alloc::Global;
 
-/// Whether one of the columns has this name.
+/// Returns whether one of the columns has this name.
 pub(crate) fn has_name(columns: &[ColDef], name: Ident) -> bool
     ensures { result ≡ spec.has_name columns.now name }
 {
     columns.iter().any(|column| column.name == name)
 }
 
-/// Whether no two columns have one name. It takes time proportional to the square of their number.
+/// Returns whether no two columns have one name. Quadratic in their number.
 pub(crate) fn names_differ(columns: &[ColDef]) -> bool
     ensures { result ≡ spec.names_differ columns.now }
 {
@@ -27,7 +27,7 @@ pub(crate) fn names_differ(columns: &[ColDef]) -> bool
     names_differ(others)
 }
 
-/// A copy of the columns.
+/// Copies the columns.
 pub(crate) fn copy_columns(alloc: Global, columns: &[ColDef]) -> Result<ColDefs, NoMemory>
     ensures { IfOk result (λ copy. copy ≡ columns.now) }
 {

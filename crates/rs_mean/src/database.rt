@@ -15,8 +15,8 @@ use std::alloc::Global;
 use std::collections::BTreeMap;
 use std::marker::Model;
 
-/// The one database that all executions work on: tables by their system-wide names, in order of names, and what users'
-/// synonyms stand for.
+/// The one database that all executions work on: tables by their system-wide names, sorted by name, and the names that
+/// users' synonyms refer to.
 #[derive(Drop)]
 pub struct Database {
     sites: SiteNo,
@@ -33,7 +33,7 @@ impl Model for Database {
 }
 
 impl Database {
-    /// The database of so many sites, in which nothing was made yet.
+    /// Makes the empty database of this number of sites.
     pub fn new(alloc: Global, sites: SiteNo) -> Database
         ensures { result ≡ empty sites }
     {
@@ -44,35 +44,35 @@ impl Database {
         }
     }
 
-    /// How many sites there are.
+    /// Returns the number of sites.
     pub fn sites(&self) -> SiteNo
         ensures { result ≡ self.now.sites }
     {
         self.sites
     }
 
-    /// The tables, in order of names.
+    /// Returns the tables, sorted by name.
     pub fn tables(&self) -> &BTreeMap<Swn, Table>
         ensures { result.now.entries ≡ self.now.tables }
     {
         &self.tables
     }
 
-    /// The table of this name, if there is one.
+    /// Returns the table of this name, if there is one.
     pub fn table(&self, name: &Swn) -> Option<&Table>
         ensures { option_copied result ≡ table_named name.now self.now }
     {
         self.tables.get(name)
     }
 
-    /// The name that a synonym stands for, if there is such a synonym.
+    /// Returns the name that a synonym refers to, if there is such a synonym.
     pub fn target(&self, synonym: &Synonym) -> Option<Swn>
         ensures { result ≡ target_of synonym.now self.now }
     {
         self.synonyms.get(synonym).copied()
     }
 
-    /// Puts the table under this name, in place of the one that has it. Where memory is wanting, nothing changes.
+    /// Stores the table under this name, replacing the one that has it. On out of memory nothing changes.
     fn put_table(&mut self, name: Swn, table: Table) -> Result<(), NoMemory>
         ensures ok { OnOk result (self.new ≡ with_table name table self.old) }
         ensures err { OnErr result (self.new ≡ self.old) }
@@ -110,8 +110,7 @@ impl Database {
         table.indexes = indexes;
     }
 
-    /// Moves the rows to the end of the table, in time proportional to them and to a look-up. Where memory is wanting,
-    /// nothing changes.
+    /// Appends the rows to the table, in time linear in them and one look-up. On out of memory nothing changes.
     fn append_rows(&mut self, name: &Swn, rows: StoredRows) -> Result<(), NoMemory>
         ensures ok { OnOk result (self.new ≡ changing name.now (with_rows rows) self.old) }
         ensures err { OnErr result (self.new ≡ self.old) }
@@ -131,7 +130,7 @@ impl Database {
         table.rows = rows;
     }
 
-    /// Makes the change. Where memory is wanting, nothing changes.
+    /// Applies the change. On out of memory nothing changes.
     pub fn apply(&mut self, change: Change) -> Result<(), NoMemory>
         ensures ok { OnOk result (self.new ≡ changed change self.old) }
         ensures err { OnErr result (self.new ≡ self.old) }

@@ -1,4 +1,4 @@
-//! What an execution changes and answers.
+//! The effect of an execution.
 
 ghost use Rattle.std.specs.Prelude.{◌≡◌, IfOk};
 ghost use Rattle.rs_mean.specs.Changes.{changed};
@@ -49,8 +49,8 @@ impl Database {
         }
     }
 
-    /// What an execution changes and answers. It changes nothing before the change is applied; applied to this database it
-    /// makes the one that the execution means. A denied execution has no change. `NoMemory` says nothing of it.
+    /// Returns what an execution changes and answers. Nothing changes before the change is applied; applied to this database
+    /// it makes the one that the execution means. A denied execution has no change.
     #[tactic(auto, unfolding(crate::specs::Meaning::meaning))]
     pub fn effect_of(&self, alloc: Global, execution: &Execution) -> Result<Effect, NoMemory>
         ensures effect { IfOk result (λ effect. effect ≡ spec.effect_of self.now execution.now) }

@@ -4,7 +4,7 @@ use crate::built::Stmt;
 use rs_base::{Answers, Denial, Ident, SiteNo, Txn};
 
 /// A statement, the transaction that executes it, and the user who asked for it at a site.
-#[derive(Debug, Drop)]
+#[derive(Drop)]
 pub struct Execution {
     pub txn: Txn,
     pub user: Ident,
@@ -12,5 +12,5 @@ pub struct Execution {
     pub stmt: Stmt,
 }
 
-/// An answer for each statement, or why the execution was denied.
+/// An answer for each statement, or the cause of the denial.
 pub type Outcome = Result<Answers, Denial>;

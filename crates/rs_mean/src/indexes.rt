@@ -19,9 +19,9 @@ fn position_of(columns: &[ColDef], name: Ident) -> Option<usize>
     columns.iter().position(|column| column.name == name)
 }
 
-/// The place of the column of that name, in 8 bits; where there is none, it is behind the last.
-fn column_place(columns: &[ColDef], name: Ident) -> u8
-    ensures { result ≡ spec.column_place columns.now name }
+/// Returns the index of the column of that name, in 8 bits; if there is none, the number of columns.
+fn column_index(columns: &[ColDef], name: Ident) -> u8
+    ensures { result ≡ spec.column_index columns.now name }
 {
     as_position(position_of(columns, name).unwrap_or(columns.len()))
 }
@@ -38,7 +38,7 @@ fn is_indexed(indexes: &[IndexOf], column: u8) -> bool
     indexes.iter().any(|index| index.column == column)
 }
 
-/// The indexes, and this one behind them.
+/// Appends an index to copies of the indexes.
 fn with_index(alloc: Global, indexes: &[IndexOf], index: IndexOf) -> Result<IndexOfs, NoMemory>
     ensures { IfOk result (λ more. more ≡ indexes.now ++ index ∷ []) }
 {
@@ -56,7 +56,7 @@ fn is_other_index(name: Ident, index: &IndexOf) -> bool
     index.name != name
 }
 
-/// The indexes but those of this name.
+/// Copies the indexes of other names.
 fn without_index(alloc: Global, indexes: &[IndexOf], name: Ident) -> Result<IndexOfs, NoMemory>
     ensures { IfOk result (λ others. others ≡ spec.without_index name indexes.now) }
 {
@@ -96,14 +96,14 @@ impl Database {
             Some(cause)
         } else if !has_name(columns, column) {
             Some(Denial::NoColumn)
-        } else if has_index(indexes, index) || is_indexed(indexes, column_place(columns, column)) {
+        } else if has_index(indexes, index) || is_indexed(indexes, column_index(columns, column)) {
             Some(Denial::IndexExists)
         } else {
             None
         }
     }
 
-    /// Puts an index on a column of the table.
+    /// Creates an index on a column of the table.
     pub(crate) fn create_index(
         &self,
         alloc: Global,
@@ -119,7 +119,7 @@ impl Database {
         }
         let made = IndexOf {
             name: index,
-            column: column_place(self.columns_of(&name), column),
+            column: column_index(self.columns_of(&name), column),
             made: txn,
         };
         let indexes = with_index(alloc, self.indexes_of(&name), made)?;
@@ -138,7 +138,7 @@ impl Database {
         }
     }
 
-    /// Takes the index of this name from the table.
+    /// Drops the index of this name.
     pub(crate) fn drop_index(
         &self,
         alloc: Global,

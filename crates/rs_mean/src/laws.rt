@@ -1,5 +1,5 @@
-//! What holds of every execution, whatever the database. Each function here is a law: its contract says it, and its
-//! body does nothing.
+//! Laws of every execution, whatever the database. Each function here is a law: its contract states it, and its body
+//! does nothing.
 
 ghost use Rattle.rs_mean.specs.Laws.{AnswersAreTyped, ColumnsStayDistinct, DeniedChangesNothing, IndexIsDropped, IndexIsMade, IndexesStayDistinct, NamesStayInOrder, OtherSynonymsStay, OthersStay, RowsAreAppended, RowsAreChanged, RowsAreTakenOut, RowsStayTyped, SelectChangesNothing, SitesStay, SynonymIsDropped, SynonymIsMade, SynonymsStay, SynonymsStayInOrder, TableIsDropped, TableIsMade, TablesStayWithin};
 
@@ -13,17 +13,17 @@ pub fn select_changes_nothing()
     ensures { SelectChangesNothing }
 {}
 
-/// No execution changes how many sites there are.
+/// No execution changes the number of sites.
 pub fn sites_stay()
     ensures { SitesStay }
 {}
 
-/// Each name stands once, and the names rise, at first and after each execution.
+/// The names are distinct and rise, at first and after each execution.
 pub fn names_stay_in_order()
     ensures { NamesStayInOrder }
 {}
 
-/// Each synonym stands once, and the synonyms rise, at first and after each execution.
+/// The synonyms are distinct and rise, at first and after each execution.
 pub fn synonyms_stay_in_order()
     ensures { SynonymsStayInOrder }
 {}
@@ -33,7 +33,7 @@ pub fn others_stay()
     ensures { OthersStay }
 {}
 
-/// Only statements on synonyms change what synonyms stand for.
+/// Only statements on synonyms change what synonyms refer to.
 pub fn synonyms_stay()
     ensures { SynonymsStay }
 {}
@@ -43,48 +43,48 @@ pub fn other_synonyms_stay()
     ensures { OtherSynonymsStay }
 {}
 
-/// After a CREATE TABLE that was done its name, which no table had, has the table made, in which there is no row.
+/// After a done CREATE TABLE its name, which no table had, has the new table, without a row.
 pub fn table_is_made()
     ensures { TableIsMade }
 {}
 
-/// After a DROP TABLE that was done no table has its name, which one had before.
+/// After a done DROP TABLE no table has its name, which one had before.
 pub fn table_is_dropped()
     ensures { TableIsDropped }
 {}
 
-/// After an INSERT of values that was done its name has the table that it had, with the rows of these values at its end.
+/// After a done INSERT of values its name has the table that it had, with the rows of these values appended.
 pub fn rows_are_appended()
     ensures { RowsAreAppended }
 {}
 
-/// After a DELETE that was done its table has as many rows less as it tells.
+/// After a done DELETE its table has as many rows less as it reports.
 pub fn rows_are_taken_out()
     ensures { RowsAreTakenOut }
 {}
 
-/// After an UPDATE that was done its table has as many rows as before, and it tells at most so many.
+/// After a done UPDATE its table has as many rows as before, and it reports at most that number.
 pub fn rows_are_changed()
     ensures { RowsAreChanged }
 {}
 
-/// After a CREATE INDEX that was done its table has the index, of this name, at the end of those that it had; it is on the
-/// column of that name where the table has at most 16 columns.
+/// After a done CREATE INDEX its table has the index, of this name, after those that it had; it is on the column of that
+/// name if the table has at most 16 columns.
 pub fn index_is_made()
     ensures { IndexIsMade }
 {}
 
-/// After a DROP INDEX that was done its table, which had an index of this name, has none of it, and its others.
+/// After a done DROP INDEX its table, which had an index of this name, has its other indexes.
 pub fn index_is_dropped()
     ensures { IndexIsDropped }
 {}
 
-/// After a CREATE SYNONYM that was done the user's synonym at the asked site, which wasn't there, stands for the name.
+/// After a done CREATE SYNONYM the user's synonym at the asked site, which wasn't there, refers to the name.
 pub fn synonym_is_made()
     ensures { SynonymIsMade }
 {}
 
-/// After a DROP SYNONYM that was done the user's synonym at the asked site, which was there, is no more.
+/// After a done DROP SYNONYM the user's synonym at the asked site, which was there, is gone.
 pub fn synonym_is_dropped()
     ensures { SynonymIsDropped }
 {}
@@ -111,8 +111,8 @@ pub fn rows_stay_typed()
     ensures { RowsStayTyped }
 {}
 
-/// A SELECT of at most 6 tables, as one that is written has, that is answered has a kind for each item: that of its column,
-/// and INT for COUNT and SUM. Each row that it answers has a value for each, of its kind.
+/// Over typed tables, a SELECT of at most 6 tables, as one that is written has, that is answered has a kind for each item:
+/// that of its column, and INT for COUNT and SUM. Each row that it answers has a value for each, of its kind.
 pub fn answers_are_typed()
     ensures { AnswersAreTyped }
 {}

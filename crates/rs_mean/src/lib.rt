@@ -1,4 +1,4 @@
-//! What statements mean over one database.
+//! The meaning of statements over one database.
 #![tactic(auto)]
 
 mod bound_effect;

@@ -1,4 +1,4 @@
-//! What the names in a statement stand for, and when one can't be used.
+//! What the names in a statement refer to, and when one can't be used.
 
 ghost use Rattle.std.specs.Prelude.{◌≡◌, [], ◌∷◌};
 ghost use Rattle.rs_bind.specs.Denials.{first_denial};
@@ -11,7 +11,7 @@ use rs_base::{Denial, Ident, NameText, Swn};
 use rs_name::resolve;
 
 impl Execution {
-    /// The user's synonym of this name at the asked site.
+    /// Returns the name that the user's synonym at the asked site refers to, if there is one.
     pub(crate) fn own_synonym(&self, name: Ident) -> Synonym
         ensures { result ≡ spec.own_synonym self.now name }
     {
@@ -24,7 +24,7 @@ impl Execution {
 }
 
 impl Database {
-    /// What a name stands for in this execution.
+    /// Resolves a name in this execution.
     pub(crate) fn name_of(&self, execution: &Execution, written: &NameText) -> Swn
         ensures { result ≡ spec.name_of self.now execution.now written.now }
     {
@@ -39,7 +39,7 @@ impl Database {
         sites < name.creator_site.number() || sites < name.birth.number()
     }
 
-    /// `NoSite` where a site of the name is none.
+    /// Returns `NoSite` if a site of the name doesn't exist.
     pub(crate) fn site_denial(&self, name: &Swn) -> Option<Denial>
         ensures { result ≡ first_denial (spec.site_test self.now name.now ∷ []) }
     {
@@ -50,7 +50,7 @@ impl Database {
         }
     }
 
-    /// `NoSite` where a site of the name is none, or else `NoTable` where no table has the name.
+    /// Returns `NoSite` if a site of the name doesn't exist, or else `NoTable` if no table has the name.
     pub(crate) fn table_denial(&self, name: &Swn) -> Option<Denial>
         ensures { result ≡ first_denial (spec.table_tests self.now name.now) }
     {

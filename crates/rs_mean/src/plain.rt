@@ -1,4 +1,4 @@
-//! The plain evaluator: what a statement on rows answers over given tables.
+//! The plain evaluator: the answer of a statement on rows over given tables.
 
 ghost use Rattle.std.specs.Prelude.{◌≡◌, [], ◌∷◌, map, flat_map, find, IfOk};
 ghost use Rattle.std.specs.Option.{option_copied};
@@ -10,7 +10,7 @@ ghost use Rattle.rs_mean.specs.Queries.{IsSelect};
 ghost use Rattle.rs_mean.specs.RowStatements as statements;
 
 use crate::bound_effect::rows_of_query;
-use crate::row_changes::{inserted, met, updated};
+use crate::row_changes::{inserted, matching_count, updated};
 use crate::selecting::selected;
 use rs_ast::{Clause, ColDefs, Columns, Dml, Select, Set, TableRef, TermRow};
 use rs_base::{Answer, Denial, Ident, NoMemory, Rows, SiteNo, Swn, with_room};
@@ -21,7 +21,7 @@ use sqlite_items::Items;
 use std::alloc::Global;
 
 /// A table: its name, its columns, and its rows in order of insertion.
-#[derive(Debug, Drop)]
+#[derive(Drop)]
 pub struct PlainTable {
     pub name: Swn,
     pub columns: Columns,
@@ -30,8 +30,8 @@ pub struct PlainTable {
 
 pub type PlainTables = Items<PlainTable>;
 
-/// An answer, or why there is none.
-type Told = Result<Answer, Denial>;
+/// An answer, or the cause of the denial.
+type Answered = Result<Answer, Denial>;
 
 fn has_name(name: &Swn, table: &PlainTable) -> bool
     ensures { result ≡ is_eq (name_cmp name.now table.now.name) }
@@ -138,7 +138,7 @@ fn names_of(alloc: Global, tables: &[TableRef], user: Ident, site: SiteNo) -> Re
     Ok(names)
 }
 
-fn told_rows(rows: Result<Rows, Denial>) -> Told
+fn answered_rows(rows: Result<Rows, Denial>) -> Answered
     ensures { spec.outcome_of result ≡ (statements.answering rows).outcome }
 {
     match rows {
@@ -147,7 +147,7 @@ fn told_rows(rows: Result<Rows, Denial>) -> Told
     }
 }
 
-fn told_count(rows: Result<StoredRows, Denial>, count: usize) -> Told
+fn changed_count(rows: Result<StoredRows, Denial>, count: usize) -> Answered
     ensures { (name : Swn) → spec.outcome_of result ≡ (statements.updating name count rows).outcome }
 {
     match rows {
@@ -156,7 +156,7 @@ fn told_count(rows: Result<StoredRows, Denial>, count: usize) -> Told
     }
 }
 
-fn told_length(rows: Result<StoredRows, Denial>) -> Told
+fn inserted_count(rows: Result<StoredRows, Denial>) -> Answered
     ensures { (name : Swn) → spec.outcome_of result ≡ (statements.inserting name rows).outcome }
 {
     match rows {
@@ -165,40 +165,40 @@ fn told_length(rows: Result<StoredRows, Denial>) -> Told
     }
 }
 
-/// What a bound statement answers over the rows of one table.
-fn answer_over(alloc: Global, bound: &Bound, rows: &StoredRows) -> Result<Told, NoMemory>
-    ensures { IfOk result (λ told. spec.outcome_of told ≡ (statements.effect_of_bound (rows.now ∷ []) bound.now).outcome) }
+/// Returns the answer of a bound statement over the rows of one table.
+fn answer_over(alloc: Global, bound: &Bound, rows: &StoredRows) -> Result<Answered, NoMemory>
+    ensures { IfOk result (λ answered. spec.outcome_of answered ≡ (statements.effect_of_bound (rows.now ∷ []) bound.now).outcome) }
 {
     match bound {
-        Bound::Select { clauses, shape, .. } => Ok(told_rows(selected(
+        Bound::Select { clauses, shape, .. } => Ok(answered_rows(selected(
             alloc,
             clauses.as_slice(),
             shape,
             &[rows.as_run()],
         )?)),
         Bound::Insert { rows: given, .. } => {
-            Ok(told_length(inserted(alloc, given.as_slice(), rows)?))
+            Ok(inserted_count(inserted(alloc, given.as_slice(), rows)?))
         }
         Bound::Update { sets, clauses, .. } => {
-            let count = met(clauses.as_slice(), &rows.as_run());
+            let count = matching_count(clauses.as_slice(), &rows.as_run());
             let new = updated(alloc, sets.as_slice(), clauses.as_slice(), &rows.as_run())?;
-            Ok(told_count(new, count))
+            Ok(changed_count(new, count))
         }
         Bound::Delete { clauses, .. } => {
-            let count = met(clauses.as_slice(), &rows.as_run());
+            let count = matching_count(clauses.as_slice(), &rows.as_run());
             Ok(Ok(Answer::Changed(count as u64)))
         }
     }
 }
 
-/// What a change of this table answers, once it is bound.
+/// Returns the answer of a change of this table, once it is bound.
 fn answer_once_bound(
     alloc: Global,
     outcome: Result<Bound, Denial>,
     tables: &[PlainTable],
     name: &Swn,
-) -> Result<Told, NoMemory>
-    ensures { IfOk result (λ told. spec.outcome_of told ≡ (statements.once_bound (spec.plain_rows tables.now name.now ∷ []) outcome).outcome) }
+) -> Result<Answered, NoMemory>
+    ensures { IfOk result (λ answered. spec.outcome_of answered ≡ (statements.once_bound (spec.plain_rows tables.now name.now ∷ []) outcome).outcome) }
 {
     match outcome {
         Ok(bound) => answer_over(alloc, &bound, &rows(alloc, tables, name)?),
@@ -206,19 +206,19 @@ fn answer_once_bound(
     }
 }
 
-/// What a bound query answers over its tables in order.
+/// Returns the answer of a bound query over its tables in order.
 fn answer_query(
     alloc: Global,
     bound: &Bound,
     tables: &[PlainTable],
     names: &[Swn],
-) -> Result<Told, NoMemory>
+) -> Result<Answered, NoMemory>
     requires { IsSelect bound.now }
-    ensures { IfOk result (λ told. spec.outcome_of told ≡ (statements.effect_of_bound (map (spec.plain_rows tables.now) names.now) bound.now).outcome) }
+    ensures { IfOk result (λ answered. spec.outcome_of answered ≡ (statements.effect_of_bound (map (spec.plain_rows tables.now) names.now) bound.now).outcome) }
 {
     let found = all_rows(alloc, tables, names)?;
     let lent = lent(alloc, found.as_slice())?;
-    Ok(told_rows(rows_of_query(alloc, bound, lent.as_slice())?))
+    Ok(answered_rows(rows_of_query(alloc, bound, lent.as_slice())?))
 }
 
 fn select(
@@ -226,8 +226,8 @@ fn select(
     tables: &[PlainTable],
     names: &[Swn],
     query: &Select,
-) -> Result<Told, NoMemory>
-    ensures { IfOk result (λ told. spec.outcome_of told ≡ (statements.select (spec.plain_tables tables.now) names.now query.now).outcome) }
+) -> Result<Answered, NoMemory>
+    ensures { IfOk result (λ answered. spec.outcome_of answered ≡ (statements.select (spec.plain_tables tables.now) names.now query.now).outcome) }
 {
     if let Some(cause) = first_missing(tables, names) {
         return Ok(Err(cause));
@@ -245,8 +245,8 @@ fn query(
     user: Ident,
     site: SiteNo,
     query: &Select,
-) -> Result<Told, NoMemory>
-    ensures { IfOk result (λ told. spec.outcome_of told ≡ (statements.query (spec.plain_tables tables.now) (λ written. resolve written user site) query.now).outcome) }
+) -> Result<Answered, NoMemory>
+    ensures { IfOk result (λ answered. spec.outcome_of answered ≡ (statements.query (spec.plain_tables tables.now) (λ written. resolve written user site) query.now).outcome) }
 {
     let names = names_of(alloc, query.from.as_slice(), user, site)?;
     select(alloc, tables, names.as_slice(), query)
@@ -257,8 +257,8 @@ fn insert(
     tables: &[PlainTable],
     name: &Swn,
     given: &[TermRow],
-) -> Result<Told, NoMemory>
-    ensures { IfOk result (λ told. spec.outcome_of told ≡ (statements.insert (spec.plain_tables tables.now) name.now given.now).outcome) }
+) -> Result<Answered, NoMemory>
+    ensures { IfOk result (λ answered. spec.outcome_of answered ≡ (statements.insert (spec.plain_tables tables.now) name.now given.now).outcome) }
 {
     if let Some(cause) = denial(tables, name) {
         return Ok(Err(cause));
@@ -274,8 +274,8 @@ fn update(
     name: &Swn,
     sets: &[Set],
     clauses: &[Clause],
-) -> Result<Told, NoMemory>
-    ensures { IfOk result (λ told. spec.outcome_of told ≡ (statements.update (spec.plain_tables tables.now) name.now sets.now clauses.now).outcome) }
+) -> Result<Answered, NoMemory>
+    ensures { IfOk result (λ answered. spec.outcome_of answered ≡ (statements.update (spec.plain_tables tables.now) name.now sets.now clauses.now).outcome) }
 {
     if let Some(cause) = denial(tables, name) {
         return Ok(Err(cause));
@@ -290,8 +290,8 @@ fn delete(
     tables: &[PlainTable],
     name: &Swn,
     clauses: &[Clause],
-) -> Result<Told, NoMemory>
-    ensures { IfOk result (λ told. spec.outcome_of told ≡ (statements.delete (spec.plain_tables tables.now) name.now clauses.now).outcome) }
+) -> Result<Answered, NoMemory>
+    ensures { IfOk result (λ answered. spec.outcome_of answered ≡ (statements.delete (spec.plain_tables tables.now) name.now clauses.now).outcome) }
 {
     if let Some(cause) = denial(tables, name) {
         return Ok(Err(cause));
@@ -301,8 +301,8 @@ fn delete(
     answer_once_bound(alloc, outcome, tables, name)
 }
 
-/// The slow evaluator, over whole tables: what `user` who asks at `site` is answered, or the first denial but `NoSite`.
-/// Names have no synonyms, and no table is changed. Fails where memory is wanting.
+/// Returns what `user` who asks at `site` is answered over whole tables, or the first denial but `NoSite`. Names have no
+/// synonyms, and no table is changed. It is slow. Fails on out of memory.
 pub fn answer_plain(
     alloc: Global,
     tables: &[PlainTable],
@@ -310,7 +310,7 @@ pub fn answer_plain(
     user: Ident,
     site: SiteNo,
 ) -> Result<Result<Answer, Denial>, NoMemory>
-    ensures { IfOk result (λ told. spec.outcome_of told ≡ (spec.plain_effect tables.now user site dml.now).outcome) }
+    ensures { IfOk result (λ answered. spec.outcome_of answered ≡ (spec.plain_effect tables.now user site dml.now).outcome) }
 {
     match dml {
         Dml::Select(given) => query(alloc, tables, user, site, given),

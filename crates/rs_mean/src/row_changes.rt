@@ -1,4 +1,4 @@
-//! What changes of rows make of the rows of a table.
+//! The rows of a table after a change of rows.
 
 ghost use Rattle.std.specs.Prelude.{◌≡◌, [], ◌∷◌, ◌++◌, drop, length, take, map, IfOk, OnOk};
 ghost use Rattle.rs_eval.specs.Setting.{row_set, term_value};
@@ -14,7 +14,7 @@ use std::alloc::Global;
 
 // ---- INSERT
 
-/// The values of a row that is put in.
+/// Returns the values of an inserted row.
 fn given_row(alloc: Global, row: &[BoundTerm]) -> Result<Row, NoMemory>
     ensures { IfOk result (λ values. values ≡ map (term_value [] []) row.now) }
 {
@@ -25,7 +25,7 @@ fn given_row(alloc: Global, row: &[BoundTerm]) -> Result<Row, NoMemory>
     Ok(values)
 }
 
-/// The rows that are put in.
+/// Returns the inserted rows.
 fn given_rows(alloc: Global, rows: &[BoundRow]) -> Result<StoredRows, NoMemory>
     ensures { IfOk result (λ given. given ≡ spec.given_rows rows.now) }
 {
@@ -37,14 +37,14 @@ fn given_rows(alloc: Global, rows: &[BoundRow]) -> Result<StoredRows, NoMemory>
     Ok(given)
 }
 
-/// Whether the rows may be stored, and there is room for them behind those that are there.
+/// Returns whether the rows may be stored, and there is room for them after those of the table.
 fn may_be_added(rows: &StoredRows, more: &StoredRows) -> bool
     ensures { result ≡ spec.has_room rows.now more.now }
 {
     all_fit_row(&more.as_run()) && has_room(rows, more)
 }
 
-/// The rows that are put in behind those of a table, or `TableFull`.
+/// Returns the rows to append to those of a table, or `TableFull`.
 pub(crate) fn inserted(
     alloc: Global,
     given: &[BoundRow],
@@ -62,7 +62,7 @@ pub(crate) fn inserted(
 
 // ---- UPDATE
 
-/// Puts the row at the end as it is after the sets, or tells why it can't be set.
+/// Appends the row as it is after the assignments, or returns the denial.
 fn push_set(
     alloc: Global,
     sets: &[BoundSet],
@@ -80,7 +80,7 @@ fn push_set(
     }
 }
 
-/// Puts the row at the end, set where it meets the clauses, or tells why it can't be set.
+/// Appends the row, updated if it matches, or returns the denial.
 fn push_updated(
     alloc: Global,
     sets: &[BoundSet],
@@ -98,7 +98,7 @@ fn push_updated(
     }
 }
 
-/// Each row updated, or why one can't be.
+/// Returns each row updated, or the first denial.
 fn updated_rows(
     alloc: Global,
     sets: &[BoundSet],
@@ -108,7 +108,7 @@ fn updated_rows(
     ensures { IfOk result (λ new. new ≡ spec.updated_rows sets.now clauses.now rows.now) }
 {
     let mut new = StoredRows::new(alloc);
-    let mut rest = rows.again();
+    let mut rest = rows.view();
     while let Some((row, others)) = rest.split_first() {
         if let Err(cause) = push_updated(alloc, sets, clauses, row, &mut new)? {
             return Ok(Err(cause));
@@ -118,7 +118,7 @@ fn updated_rows(
     Ok(Ok(new))
 }
 
-/// The rows after an UPDATE, or `Overflow`, or `TableFull`.
+/// Returns the rows after an UPDATE, or `Overflow`, or `TableFull`.
 pub(crate) fn updated(
     alloc: Global,
     sets: &[BoundSet],
@@ -134,7 +134,7 @@ pub(crate) fn updated(
     }
 }
 
-/// Whether a table may have these rows.
+/// Returns whether a table may have these rows.
 fn may_be_rows(rows: &StoredRows) -> bool
     ensures { result ≡ spec.may_be_rows rows.now }
 {
@@ -143,31 +143,31 @@ fn may_be_rows(rows: &StoredRows) -> bool
 
 // ---- DELETE
 
-/// The rows that don't meet the clauses.
-pub(crate) fn kept(
+/// Returns the other rows: those that don't match.
+pub(crate) fn other_rows(
     alloc: Global,
     clauses: &[BoundClause],
     rows: &RowRun<'_>,
 ) -> Result<StoredRows, NoMemory>
-    ensures { IfOk result (λ kept. kept ≡ spec.kept clauses.now rows.now) }
+    ensures { IfOk result (λ other_rows. other_rows ≡ spec.other_rows clauses.now rows.now) }
 {
-    let mut kept = StoredRows::new(alloc);
-    let mut rest = rows.again();
+    let mut other_rows = StoredRows::new(alloc);
+    let mut rest = rows.view();
     while let Some((row, others)) = rest.split_first() {
         if !holds(clauses, row) {
-            kept.push(alloc, row)?;
+            other_rows.push(alloc, row)?;
         }
         rest = others;
     }
-    Ok(kept)
+    Ok(other_rows)
 }
 
-/// How many rows meet the clauses.
-pub(crate) fn met(clauses: &[BoundClause], rows: &RowRun<'_>) -> usize
-    ensures { result ≡ spec.met clauses.now rows.now }
+/// Counts the matching rows.
+pub(crate) fn matching_count(clauses: &[BoundClause], rows: &RowRun<'_>) -> usize
+    ensures { result ≡ spec.matching_count clauses.now rows.now }
 {
     let mut count = 0;
-    let mut rest = rows.again();
+    let mut rest = rows.view();
     while let Some((row, others)) = rest.split_first() {
         if holds(clauses, row) {
             prove!(count < rows.len());

@@ -108,7 +108,7 @@ impl Database {
         self.select(alloc, names.as_slice(), query)
     }
 
-    /// The effect of a change of this table, once it is bound.
+    /// Returns the effect of a change of this table, once it is bound.
     fn once_bound(
         &self,
         alloc: Global,
@@ -171,7 +171,7 @@ impl Database {
         self.once_bound(alloc, name, outcome)
     }
 
-    /// What a statement on rows changes and answers.
+    /// Returns what a statement on rows changes and answers.
     #[tactic(auto, unfolding(crate::specs::RowStatements::effect_of_dml))]
     pub(crate) fn effect_of_dml(
         &self,

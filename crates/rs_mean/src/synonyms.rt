@@ -28,7 +28,7 @@ impl Database {
         }
     }
 
-    /// Makes the user's synonym for the name, which needs not be that of a table.
+    /// Creates the user's synonym for the name, which need not be that of a table.
     pub(crate) fn create_synonym(
         &self,
         alloc: Global,
@@ -45,7 +45,7 @@ impl Database {
         Effect::done(alloc, Change::PutSynonym { synonym, name }, Answer::Ok)
     }
 
-    /// Takes the user's synonym away.
+    /// Drops the user's synonym.
     pub(crate) fn drop_synonym(
         &self,
         alloc: Global,

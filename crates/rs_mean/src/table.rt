@@ -7,9 +7,9 @@ use rs_ast::{ColDefs, IndexOfs};
 use rs_base::{NoMemory, SiteNo, Txn};
 use rs_rows::StoredRows;
 
-/// A table: the transaction that made it, the site that stores it, its columns, its indexes in order of making, and its
-/// rows in order of insertion.
-#[derive(Debug, Drop)]
+/// A table: the transaction that created it, the site that stores it, its columns, its indexes in order of creation, and
+/// its rows in order of insertion.
+#[derive(Drop)]
 pub struct Table {
     pub made: Txn,
     pub place: SiteNo,
@@ -19,7 +19,7 @@ pub struct Table {
 }
 
 impl Table {
-    /// Moves the rows to the end, in time proportional to them. Where memory is wanting, nothing changes.
+    /// Appends the rows, in time linear in them. On out of memory nothing changes.
     pub(crate) fn append(&mut self, rows: StoredRows) -> Result<(), NoMemory>
         ensures ok { OnOk result (self.new ≡ with_rows rows self.old) }
         ensures err { OnErr result (self.new ≡ self.old) }

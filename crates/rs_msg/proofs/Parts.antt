@@ -1,4 +1,4 @@
--- The fields of messages: what is read is what is spelled, and nothing is spelled in two ways.
+-- The fields of messages: reading and encoding are inverse, and a value has one encoding.
 use Rattle.std.proofs.Common.{◌≡◌, ℕ, ◌^◌, ◌<◌, ◌≤◌, Bool, cond, true, ◌&&◌, leb, List, [], ◌∷◌, ◌++◌, length, Option, Some, None, refl, sym, ap, subst, ◌∙◌, arith, append_assoc}
 use Rattle.std.specs.Int.{w32, w64, to_be_bytes}
 use Rattle.std.proofs.lemmas.Bool.{and_parts, and_from, leb-true, le-leb}
@@ -6,8 +6,8 @@ use Rattle.std.proofs.lemmas.Option.{same_Some, cond_some}
 use Rattle.rs_base.specs.Ident.{is_ident}
 use Rattle.rs_base.specs.Reading.{◌>>=◌}
 use Rattle.rs_base.specs.declared.txn.Origin.{Origin}
-use Rattle.rs_codec.specs.Spelling.{IsByte, IsU32, IsU64, IsText, Takes}
-use Rattle.rs_codec.specs.Laws.{IsReadBy, IsSpelledOnce}
+use Rattle.rs_codec.specs.Encoding.{IsByte, IsU32, IsU64, IsText, Takes}
+use Rattle.rs_codec.specs.Laws.{IsReadBy, IsEncodedOnce}
 use Rattle.rs_codec.specs.Reader.{byte_at, u32_at, u64_at, text_at}
 use Rattle.rs_base.proofs.Steps.{bind_some}
 use Rattle.rs_codec.proofs.Readers.{bind_at, read_by, read_again, byte_read, u32_read, u64_read, text_read}
@@ -18,13 +18,13 @@ use Rattle.rs_msg.specs.Limits.{ask_limit, IsAskWithin, IsOriginWithin, IsReplyW
 use Rattle.rs_msg.specs.Message.{IsAsk, IsOrigin, IsReply}
 use Rattle.rs_msg.specs.Reader.{user_at, short_text_at, site_at, origin_at, ask_at, reply_at}
 
--- ---- what was taken
+-- ---- consumed bytes
 
--- two parts in a row
-joins : (bytes front middle back rest : List ℕ) → bytes ≡ front ++ middle → middle ≡ back ++ rest → bytes ≡ (front ++ back) ++ rest
-joins bytes front middle back rest e f = e ∙ ap (λ (bs : List ℕ). front ++ bs) f ∙ sym (append_assoc front back rest)
+-- two parts joined
+joins : (bytes prefix middle back rest : List ℕ) → bytes ≡ prefix ++ middle → middle ≡ back ++ rest → bytes ≡ (prefix ++ back) ++ rest
+joins bytes prefix middle back rest e f = e ∙ ap (λ (bs : List ℕ). prefix ++ bs) f ∙ sym (append_assoc prefix back rest)
 
--- parts in a row, and what stands behind them
+-- parts in a row, and the bytes after them
 spread_3 : (bytes a b c rest : List ℕ) → bytes ≡ a ++ b ++ c → bytes ++ rest ≡ a ++ (b ++ (c ++ rest))
 spread_3 bytes a b c rest p = ap (λ (bs : List ℕ). bs ++ rest) p ∙ append_assoc (a ++ b) c rest ∙ append_assoc a b (c ++ rest)
 
@@ -38,19 +38,19 @@ spread_5 bytes a b c d e rest p =
 takes_u32 : (bytes rest : List ℕ) (n : ℕ) → u32_at bytes ≡ Some (n, rest) → (n < 2 ^ 32) × (bytes ≡ to_be_bytes w32 n ++ rest)
 takes_u32 bytes rest n e =
     let t = (u32_read bytes rest n).1 e in
-    (t.spelled.0, t.parts ∙ ap (λ (bs : List ℕ). bs ++ rest) t.spelled.1)
+    (t.encoded.0, t.parts ∙ ap (λ (bs : List ℕ). bs ++ rest) t.encoded.1)
 
 takes_u64 : (bytes rest : List ℕ) (n : ℕ) → u64_at bytes ≡ Some (n, rest) → (n < 2 ^ 64) × (bytes ≡ to_be_bytes w64 n ++ rest)
 takes_u64 bytes rest n e =
     let t = (u64_read bytes rest n).1 e in
-    (t.spelled.0, t.parts ∙ ap (λ (bs : List ℕ). bs ++ rest) t.spelled.1)
+    (t.encoded.0, t.parts ∙ ap (λ (bs : List ℕ). bs ++ rest) t.encoded.1)
 
 pub takes_byte : (bytes rest : List ℕ) (n : ℕ) → byte_at bytes ≡ Some (n, rest) → bytes ≡ n ∷ rest
 takes_byte bytes rest n e =
     let t = (byte_read bytes rest n).1 e in
-    t.parts ∙ ap (λ (bs : List ℕ). bs ++ rest) t.spelled.1
+    t.parts ∙ ap (λ (bs : List ℕ). bs ++ rest) t.encoded.1
 
--- ---- what is read
+-- ---- numbers are read
 
 reads_u32 : (rest : List ℕ) (n : ℕ) → n < 2 ^ 32 → u32_at (to_be_bytes w32 n ++ rest) ≡ Some (n, rest)
 reads_u32 rest n below = read_again IsU32 u32_at u32_read (to_be_bytes w32 n) rest n (below, refl)
@@ -61,7 +61,7 @@ reads_u64 rest n below = read_again IsU64 u64_at u64_read (to_be_bytes w64 n) re
 -- ---- fields with a test
 
 module _ {X : Type 0} (IsX : List ℕ → X → Type 0) (x_at : List ℕ → Option (X × List ℕ)) (test : X → Bool) where
-  -- such a field, where the test holds of it
+  -- a field whose value satisfies the test
   abbrev pub IsTested : List ℕ → X → Type 0
   IsTested bytes x = IsX bytes x × (test x ≡ true)
 
@@ -73,10 +73,10 @@ module _ {X : Type 0} (IsX : List ℕ → X → Type 0) (x_at : List ℕ → Opt
       let s = bind_some (x_at bytes) _ (x, rest) e in
       let c = cond_some (test s.0.0) s.0 (x, rest) s.2 in
       let t = (reads bytes s.0.1 s.0.0).1 s.1 in
-      subst (λ (p : X × List ℕ). Takes IsTested bytes p.1 p.0) c.1 (record { spelling = t.spelling; spelled = (t.spelled, c.0); parts = t.parts })
+      subst (λ (p : X × List ℕ). Takes IsTested bytes p.1 p.0) c.1 (record { encoding = t.encoding; encoded = (t.encoded, c.0); parts = t.parts })
 
-  tested_forth : IsReadBy IsX x_at → (spelling rest : List ℕ) (x : X) → IsTested spelling x → tested_at (spelling ++ rest) ≡ Some (x, rest)
-  tested_forth reads spelling rest x is = bind_at (x_at (spelling ++ rest)) _ (x, rest) (read_again IsX x_at reads spelling rest x is.0) ∙ rw is.1 refl
+  tested_forth : IsReadBy IsX x_at → (encoding rest : List ℕ) (x : X) → IsTested encoding x → tested_at (encoding ++ rest) ≡ Some (x, rest)
+  tested_forth reads encoding rest x is = bind_at (x_at (encoding ++ rest)) _ (x, rest) (read_again IsX x_at reads encoding rest x is.0) ∙ rw is.1 refl
 
   pub tested_read : IsReadBy IsX x_at → IsReadBy IsTested tested_at
   tested_read reads = read_by IsTested tested_at (tested_forth reads) (tested_back reads)
@@ -108,8 +108,8 @@ ask_taken bytes r1 r2 r3 r4 rest user text ask within user_is text_is e1 e2 e3 e
     let number = to_be_bytes w64 ask.number in
     let part = to_be_bytes w32 ask.part in
     record {
-      spelling = user ++ epoch ++ number ++ part ++ text;
-      spelled = record { within = within; user = user; user_is = user_is; text = text; text_is = text_is; parts = refl };
+      encoding = user ++ epoch ++ number ++ part ++ text;
+      encoded = record { within = within; user = user; user_is = user_is; text = text; text_is = text_is; parts = refl };
       parts = joins bytes (user ++ epoch ++ number ++ part) r4 text rest
           (joins bytes (user ++ epoch ++ number) r3 part r4
           (joins bytes (user ++ epoch) r2 number r3
@@ -130,21 +130,21 @@ ask_back bytes rest ask e =
     let part = takes_u32 c.0.1 d.0.1 d.0.0 d.1 in
     let text = (short_read ask_limit d.0.1 f.0.1 f.0.0).1 f.1 in
     let found : Ask = record { user = a.0.0; epoch = b.0.0; number = c.0.0; part = d.0.0; text = f.0.0 } in
-    let within : IsAskWithin found = record { user = user.spelled.1; epoch = epoch.0; number = number.0; part = part.0; text = leb-true (length f.0.0) ask_limit text.spelled.1 } in
+    let within : IsAskWithin found = record { user = user.encoded.1; epoch = epoch.0; number = number.0; part = part.0; text = leb-true (length f.0.0) ask_limit text.encoded.1 } in
     subst (λ (p : Ask × List ℕ). Takes IsAsk bytes p.1 p.0) (same_Some (found, f.0.1) (ask, rest) f.2)
-    (ask_taken bytes a.0.1 b.0.1 c.0.1 d.0.1 f.0.1 user.spelling text.spelling found within user.spelled.0 text.spelled.0 user.parts epoch.1 number.1 part.1 text.parts)
+    (ask_taken bytes a.0.1 b.0.1 c.0.1 d.0.1 f.0.1 user.encoding text.encoding found within user.encoded.0 text.encoded.0 user.parts epoch.1 number.1 part.1 text.parts)
 
-ask_forth : (spelling rest : List ℕ) (ask : Ask) → IsAsk spelling ask → ask_at (spelling ++ rest) ≡ Some (ask, rest)
+ask_forth : (encoding rest : List ℕ) (ask : Ask) → IsAsk encoding ask → ask_at (encoding ++ rest) ≡ Some (ask, rest)
 unfolding ask_at
-ask_forth spelling rest ask is =
+ask_forth encoding rest ask is =
     let text = is.text ++ rest in
     let part = to_be_bytes w32 ask.part ++ text in
     let number = to_be_bytes w64 ask.number ++ part in
     let epoch = to_be_bytes w32 ask.epoch ++ number in
-    let parts : spelling ++ rest ≡ is.user ++ epoch = spread_5 spelling is.user (to_be_bytes w32 ask.epoch) (to_be_bytes w64 ask.number) (to_be_bytes w32 ask.part) is.text rest is.parts in
+    let parts : encoding ++ rest ≡ is.user ++ epoch = spread_5 encoding is.user (to_be_bytes w32 ask.epoch) (to_be_bytes w64 ask.number) (to_be_bytes w32 ask.part) is.text rest is.parts in
     let one = ap user_at parts ∙ read_again (IsTested IsText text_at is_ident) user_at user_read is.user epoch ask.user (is.user_is, is.within.user) in
     let five = read_again (IsTested IsText text_at (is_short ask_limit)) (short_text_at ask_limit) (short_read ask_limit) is.text rest ask.text (is.text_is, le-leb (length ask.text) ask_limit is.within.text) in
-    bind_at (user_at (spelling ++ rest)) _ (ask.user, epoch) one
+    bind_at (user_at (encoding ++ rest)) _ (ask.user, epoch) one
     ∙ bind_at (u32_at epoch) _ (ask.epoch, number) (reads_u32 number ask.epoch is.within.epoch)
     ∙ bind_at (u64_at number) _ (ask.number, part) (reads_u64 part ask.number is.within.number)
     ∙ bind_at (u32_at part) _ (ask.part, text) (reads_u32 text ask.part is.within.part)
@@ -164,14 +164,14 @@ site_to n h = and_from (leb 1 n) (leb n 16) (le-leb 1 n h.0) (le-leb n 16 h.1)
 origin_taken : (bytes r0 r1 r2 rest user : List ℕ) (origin : Origin) → IsOriginWithin origin → IsText user origin.user
     → bytes ≡ origin.site ∷ r0 → r0 ≡ user ++ r1 → r1 ≡ to_be_bytes w32 origin.epoch ++ r2 → r2 ≡ to_be_bytes w64 origin.number ++ rest → Takes IsOrigin bytes rest origin
 origin_taken bytes r0 r1 r2 rest user origin within user_is e0 e1 e2 e3 =
-    let front = origin.site ∷ user in
+    let prefix = origin.site ∷ user in
     let epoch = to_be_bytes w32 origin.epoch in
     let number = to_be_bytes w64 origin.number in
-    let first : bytes ≡ front ++ r1 = e0 ∙ ap (λ (bs : List ℕ). origin.site ∷ bs) e1 in
+    let first : bytes ≡ prefix ++ r1 = e0 ∙ ap (λ (bs : List ℕ). origin.site ∷ bs) e1 in
     record {
-      spelling = front ++ epoch ++ number;
-      spelled = record { within = within; user = user; user_is = user_is; parts = refl };
-      parts = joins bytes (front ++ epoch) r2 number rest (joins bytes front r1 epoch r2 first e2) e3;
+      encoding = prefix ++ epoch ++ number;
+      encoded = record { within = within; user = user; user_is = user_is; parts = refl };
+      parts = joins bytes (prefix ++ epoch) r2 number rest (joins bytes prefix r1 epoch r2 first e2) e3;
     }
 
 origin_back : (bytes rest : List ℕ) (origin : Origin) → origin_at bytes ≡ Some (origin, rest) → Takes IsOrigin bytes rest origin
@@ -186,21 +186,21 @@ origin_back bytes rest origin e =
     let epoch = takes_u32 b.0.1 c.0.1 c.0.0 c.1 in
     let number = takes_u64 c.0.1 d.0.1 d.0.0 d.1 in
     let found : Origin = record { site = a.0.0; user = b.0.0; epoch = c.0.0; number = d.0.0 } in
-    let within : IsOriginWithin found = record { site = site_from a.0.0 site.spelled.1; user = user.spelled.1; epoch = epoch.0; number = number.0 } in
-    let first : bytes ≡ a.0.0 ∷ a.0.1 = site.parts ∙ ap (λ (bs : List ℕ). bs ++ a.0.1) site.spelled.0.1 in
+    let within : IsOriginWithin found = record { site = site_from a.0.0 site.encoded.1; user = user.encoded.1; epoch = epoch.0; number = number.0 } in
+    let first : bytes ≡ a.0.0 ∷ a.0.1 = site.parts ∙ ap (λ (bs : List ℕ). bs ++ a.0.1) site.encoded.0.1 in
     subst (λ (p : Origin × List ℕ). Takes IsOrigin bytes p.1 p.0) (same_Some (found, d.0.1) (origin, rest) d.2)
-    (origin_taken bytes a.0.1 b.0.1 c.0.1 d.0.1 user.spelling found within user.spelled.0 first user.parts epoch.1 number.1)
+    (origin_taken bytes a.0.1 b.0.1 c.0.1 d.0.1 user.encoding found within user.encoded.0 first user.parts epoch.1 number.1)
 
-origin_forth : (spelling rest : List ℕ) (origin : Origin) → IsOrigin spelling origin → origin_at (spelling ++ rest) ≡ Some (origin, rest)
+origin_forth : (encoding rest : List ℕ) (origin : Origin) → IsOrigin encoding origin → origin_at (encoding ++ rest) ≡ Some (origin, rest)
 unfolding origin_at
-origin_forth spelling rest origin is =
+origin_forth encoding rest origin is =
     let number = to_be_bytes w64 origin.number ++ rest in
     let epoch = to_be_bytes w32 origin.epoch ++ number in
     let user = is.user ++ epoch in
-    let parts : spelling ++ rest ≡ (origin.site ∷ []) ++ user = spread_3 spelling (origin.site ∷ is.user) (to_be_bytes w32 origin.epoch) (to_be_bytes w64 origin.number) rest is.parts in
+    let parts : encoding ++ rest ≡ (origin.site ∷ []) ++ user = spread_3 encoding (origin.site ∷ is.user) (to_be_bytes w32 origin.epoch) (to_be_bytes w64 origin.number) rest is.parts in
     let small : origin.site < 256 = omega (arith, is.within.site.1) in
     let one = ap site_at parts ∙ read_again (IsTested IsByte byte_at is_site) site_at site_read (origin.site ∷ []) user origin.site ((small, refl), site_to origin.site is.within.site) in
-    bind_at (site_at (spelling ++ rest)) _ (origin.site, user) one
+    bind_at (site_at (encoding ++ rest)) _ (origin.site, user) one
     ∙ bind_at (user_at user) _ (origin.user, epoch) (read_again (IsTested IsText text_at is_ident) user_at user_read is.user epoch origin.user (is.user_is, is.within.user))
     ∙ bind_at (u32_at epoch) _ (origin.epoch, number) (reads_u32 number origin.epoch is.within.epoch)
     ∙ bind_at (u64_at number) _ (origin.number, rest) (reads_u64 rest origin.number is.within.number)
@@ -210,15 +210,15 @@ origin_read = read_by IsOrigin origin_at origin_forth origin_back
 
 -- ---- replies
 
-reply_taken : (bytes r1 r2 r3 rest origin said : List ℕ) (reply : ReplyPart) → IsReplyWithin reply → IsOrigin origin reply.origin → IsText said reply.bytes
-    → bytes ≡ origin ++ r1 → r1 ≡ to_be_bytes w32 reply.part ++ r2 → r2 ≡ to_be_bytes w32 reply.parts ++ r3 → r3 ≡ said ++ rest → Takes IsReply bytes rest reply
-reply_taken bytes r1 r2 r3 rest origin said reply within origin_is said_is e1 e2 e3 e4 =
+reply_taken : (bytes r1 r2 r3 rest origin body : List ℕ) (reply : ReplyPart) → IsReplyWithin reply → IsOrigin origin reply.origin → IsText body reply.bytes
+    → bytes ≡ origin ++ r1 → r1 ≡ to_be_bytes w32 reply.part ++ r2 → r2 ≡ to_be_bytes w32 reply.parts ++ r3 → r3 ≡ body ++ rest → Takes IsReply bytes rest reply
+reply_taken bytes r1 r2 r3 rest origin body reply within origin_is body_is e1 e2 e3 e4 =
     let part = to_be_bytes w32 reply.part in
     let all = to_be_bytes w32 reply.parts in
     record {
-      spelling = origin ++ part ++ all ++ said;
-      spelled = record { within = within; origin = origin; origin_is = origin_is; said = said; said_is = said_is; parts = refl };
-      parts = joins bytes (origin ++ part ++ all) r3 said rest
+      encoding = origin ++ part ++ all ++ body;
+      encoded = record { within = within; origin = origin; origin_is = origin_is; body = body; body_is = body_is; parts = refl };
+      parts = joins bytes (origin ++ part ++ all) r3 body rest
           (joins bytes (origin ++ part) r2 all r3
           (joins bytes origin r1 part r2 e1 e2) e3) e4;
     }
@@ -233,40 +233,40 @@ reply_back bytes rest reply e =
     let origin = (origin_read bytes a.0.1 a.0.0).1 a.1 in
     let part = takes_u32 a.0.1 b.0.1 b.0.0 b.1 in
     let all = takes_u32 b.0.1 c.0.1 c.0.0 c.1 in
-    let said = (text_read c.0.1 d.0.1 d.0.0).1 d.1 in
+    let body = (text_read c.0.1 d.0.1 d.0.0).1 d.1 in
     let found : ReplyPart = record { origin = a.0.0; part = b.0.0; parts = c.0.0; bytes = d.0.0 } in
-    let within : IsReplyWithin found = record { origin = origin.spelled.within; part = part.0; parts = all.0; bytes = said.spelled.counted.below } in
+    let within : IsReplyWithin found = record { origin = origin.encoded.within; part = part.0; parts = all.0; bytes = body.encoded.counted.below } in
     subst (λ (p : ReplyPart × List ℕ). Takes IsReply bytes p.1 p.0) (same_Some (found, d.0.1) (reply, rest) d.2)
-    (reply_taken bytes a.0.1 b.0.1 c.0.1 d.0.1 origin.spelling said.spelling found within origin.spelled said.spelled origin.parts part.1 all.1 said.parts)
+    (reply_taken bytes a.0.1 b.0.1 c.0.1 d.0.1 origin.encoding body.encoding found within origin.encoded body.encoded origin.parts part.1 all.1 body.parts)
 
-reply_forth : (spelling rest : List ℕ) (reply : ReplyPart) → IsReply spelling reply → reply_at (spelling ++ rest) ≡ Some (reply, rest)
+reply_forth : (encoding rest : List ℕ) (reply : ReplyPart) → IsReply encoding reply → reply_at (encoding ++ rest) ≡ Some (reply, rest)
 unfolding reply_at
-reply_forth spelling rest reply is =
-    let said = is.said ++ rest in
-    let all = to_be_bytes w32 reply.parts ++ said in
+reply_forth encoding rest reply is =
+    let body = is.body ++ rest in
+    let all = to_be_bytes w32 reply.parts ++ body in
     let part = to_be_bytes w32 reply.part ++ all in
-    let parts : spelling ++ rest ≡ is.origin ++ part = spread_4 spelling is.origin (to_be_bytes w32 reply.part) (to_be_bytes w32 reply.parts) is.said rest is.parts in
+    let parts : encoding ++ rest ≡ is.origin ++ part = spread_4 encoding is.origin (to_be_bytes w32 reply.part) (to_be_bytes w32 reply.parts) is.body rest is.parts in
     let one = ap origin_at parts ∙ read_again IsOrigin origin_at origin_read is.origin part reply.origin is.origin_is in
-    bind_at (origin_at (spelling ++ rest)) _ (reply.origin, part) one
+    bind_at (origin_at (encoding ++ rest)) _ (reply.origin, part) one
     ∙ bind_at (u32_at part) _ (reply.part, all) (reads_u32 all reply.part is.within.part)
-    ∙ bind_at (u32_at all) _ (reply.parts, said) (reads_u32 said reply.parts is.within.parts)
-    ∙ bind_at (text_at said) _ (reply.bytes, rest) (read_again IsText text_at text_read is.said rest reply.bytes is.said_is)
+    ∙ bind_at (u32_at all) _ (reply.parts, body) (reads_u32 body reply.parts is.within.parts)
+    ∙ bind_at (text_at body) _ (reply.bytes, rest) (read_again IsText text_at text_read is.body rest reply.bytes is.body_is)
 
 pub reply_read : IsReadBy IsReply reply_at
 reply_read = read_by IsReply reply_at reply_forth reply_back
 
--- ---- one spelling
+-- ---- uniqueness
 
-pub once_ask : IsSpelledOnce IsAsk
+pub once_ask : IsEncodedOnce IsAsk
 once_ask a b ask p q =
     let fixed = λ (user text : List ℕ). user ++ to_be_bytes w32 ask.epoch ++ to_be_bytes w64 ask.number ++ to_be_bytes w32 ask.part ++ text in
     p.parts ∙ ap (λ (user : List ℕ). fixed user p.text) (once_text p.user q.user ask.user p.user_is q.user_is) ∙ ap (λ (text : List ℕ). fixed q.user text) (once_text p.text q.text ask.text p.text_is q.text_is) ∙ sym q.parts
 
-once_origin : IsSpelledOnce IsOrigin
+once_origin : IsEncodedOnce IsOrigin
 once_origin a b origin p q =
     p.parts ∙ ap (λ (user : List ℕ). origin.site ∷ user ++ to_be_bytes w32 origin.epoch ++ to_be_bytes w64 origin.number) (once_text p.user q.user origin.user p.user_is q.user_is) ∙ sym q.parts
 
-pub once_reply : IsSpelledOnce IsReply
+pub once_reply : IsEncodedOnce IsReply
 once_reply a b reply p q =
-    let fixed = λ (origin said : List ℕ). origin ++ to_be_bytes w32 reply.part ++ to_be_bytes w32 reply.parts ++ said in
-    p.parts ∙ ap (λ (origin : List ℕ). fixed origin p.said) (once_origin p.origin q.origin reply.origin p.origin_is q.origin_is) ∙ ap (λ (said : List ℕ). fixed q.origin said) (once_text p.said q.said reply.bytes p.said_is q.said_is) ∙ sym q.parts
+    let fixed = λ (origin body : List ℕ). origin ++ to_be_bytes w32 reply.part ++ to_be_bytes w32 reply.parts ++ body in
+    p.parts ∙ ap (λ (origin : List ℕ). fixed origin p.body) (once_origin p.origin q.origin reply.origin p.origin_is q.origin_is) ∙ ap (λ (body : List ℕ). fixed q.origin body) (once_text p.body q.body reply.bytes p.body_is q.body_is) ∙ sym q.parts

@@ -1,4 +1,4 @@
--- How many bytes a message takes.
+-- The length of a message's encoding in bytes.
 use Rattle.std.proofs.Common.{◌≡◌, ℕ, ◌+◌, ◌≤◌, List, ◌∷◌, ◌++◌, length, arith, length-append}
 use Rattle.std.specs.Int.{w32, w64, to_be_bytes}
 use Rattle.rs_base.specs.declared.txn.Origin.{Origin}
@@ -14,7 +14,7 @@ use Rattle.rs_msg.proofs.Whole.{length_ident}
 length_text : (text : List ℕ) → length (text_bytes text) ≤ 10 + length text
 length_text text = omega (arith, length_count (length text), length-append (count_bytes (length text)) text)
 
--- parts in a row
+-- the length of parts in a row
 sum_3 : (a b c : List ℕ) → length (a ++ b ++ c) ≡ length a + length b + length c
 sum_3 a b c = omega (arith, length-append (a ++ b) c, length-append a b)
 

@@ -1,4 +1,4 @@
--- Whole messages: what is read is what is spelled, and each message is spelled in one way.
+-- Whole messages: reading and encoding are inverse, and a message has one encoding.
 use Rattle.std.proofs.Common.{◌≡◌, ℕ, ◌^◌, ◌<◌, ◌≤◌, cond, ◌&&◌, eqb, leb, List, [], ◌∷◌, ◌++◌, length, Option, Some, None, Result, Ok, Err, IfOk, IsTrue, refl, sym, ap, subst, ◌∙◌, arith, inl, inr}
 use Rattle.std.proofs.lemmas.Bool.{and_parts, leb-true, eqb-true}
 use Rattle.std.proofs.lemmas.List.{append-nil}
@@ -16,81 +16,81 @@ use Rattle.rs_msg.specs.declared.message.ReplyPart.{ReplyPart}
 use Rattle.rs_msg.specs.declared.message.Message.{Message}
 use Rattle.rs_msg.specs.declared.message.Message.TheVariants as messages
 use Rattle.rs_msg.specs.Limits.{IsWithin}
-use Rattle.rs_msg.specs.Message.{mark, IsAsk, IsReply, IsMessage}
-use Rattle.rs_msg.specs.Reader.{ask_at, reply_at, as_ask, as_reply, fields_at, kind_at, message_at, alone, message_of}
+use Rattle.rs_msg.specs.Message.{magic, IsAsk, IsReply, IsMessage}
+use Rattle.rs_msg.specs.Reader.{ask_at, reply_at, as_ask, as_reply, fields_at, kind_at, message_at, if_at_end, message_of}
 use Rattle.rs_msg.specs.Written.{ask_bytes, origin_bytes, reply_bytes, message_bytes}
 use Rattle.rs_msg.proofs.Parts.{takes_byte, ask_read, reply_read, once_ask, once_reply}
 
--- ---- what is spelled is read
+-- ---- what is encoded is read
 
 forth : (bytes : List ℕ) (m : Message) → IsMessage bytes m → message_of bytes ≡ Some m
 unfolding message_of message_at
 forth bytes (messages.Ask ask) is =
     let read : ask_at is.0 ≡ Some (ask, []) = ap ask_at (sym (append-nil is.0)) ∙ read_again IsAsk ask_at ask_read is.0 [] ask is.1 in
-    ap message_of is.2 ∙ ap (λ (o : Option (Ask × List ℕ)). (o >>= as_ask) >>= alone) read
+    ap message_of is.2 ∙ ap (λ (o : Option (Ask × List ℕ)). (o >>= as_ask) >>= if_at_end) read
 forth bytes (messages.Reply reply) is =
     let read : reply_at is.0 ≡ Some (reply, []) = ap reply_at (sym (append-nil is.0)) ∙ read_again IsReply reply_at reply_read is.0 [] reply is.1 in
-    ap message_of is.2 ∙ ap (λ (o : Option (ReplyPart × List ℕ)). (o >>= as_reply) >>= alone) read
+    ap message_of is.2 ∙ ap (λ (o : Option (ReplyPart × List ℕ)). (o >>= as_reply) >>= if_at_end) read
 
--- ---- what is read is spelled so
+-- ---- what is read is encoded
 
-alone_is : (x : Message × List ℕ) (m : Message) → alone x ≡ Some m → x ≡ (m, [])
-alone_is (message, []) m e = ap (λ (n : Message). (n, [])) (same_Some message m e)
-alone_is (message, b ∷ bytes) m e = absurd cc
+if_at_end_is : (x : Message × List ℕ) (m : Message) → if_at_end x ≡ Some m → x ≡ (m, [])
+if_at_end_is (message, []) m e = ap (λ (n : Message). (n, [])) (same_Some message m e)
+if_at_end_is (message, b ∷ bytes) m e = absurd cc
 
-ask_is : (fields : List ℕ) (m : Message) → (ask_at fields >>= as_ask) ≡ Some (m, []) → IsMessage (mark ∷ 1 ∷ fields) m
+ask_is : (fields : List ℕ) (m : Message) → (ask_at fields >>= as_ask) ≡ Some (m, []) → IsMessage (magic ∷ 1 ∷ fields) m
 ask_is fields m e =
     let s = bind_some (ask_at fields) as_ask (m, []) e in
     let same = same_Some (messages.Ask s.0.0, s.0.1) (m, []) s.2 in
     let t = (ask_read fields s.0.1 s.0.0).1 s.1 in
-    let end : fields ≡ t.spelling = t.parts ∙ ap (λ (x : Message × List ℕ). t.spelling ++ x.1) same ∙ append-nil t.spelling in
-    let found : IsMessage (mark ∷ 1 ∷ fields) (messages.Ask s.0.0) = (t.spelling, t.spelled, ap (λ (bs : List ℕ). mark ∷ 1 ∷ bs) end) in
-    subst (λ (x : Message × List ℕ). IsMessage (mark ∷ 1 ∷ fields) x.0) same found
+    let end : fields ≡ t.encoding = t.parts ∙ ap (λ (x : Message × List ℕ). t.encoding ++ x.1) same ∙ append-nil t.encoding in
+    let found : IsMessage (magic ∷ 1 ∷ fields) (messages.Ask s.0.0) = (t.encoding, t.encoded, ap (λ (bs : List ℕ). magic ∷ 1 ∷ bs) end) in
+    subst (λ (x : Message × List ℕ). IsMessage (magic ∷ 1 ∷ fields) x.0) same found
 
-reply_is : (fields : List ℕ) (m : Message) → (reply_at fields >>= as_reply) ≡ Some (m, []) → IsMessage (mark ∷ 2 ∷ fields) m
+reply_is : (fields : List ℕ) (m : Message) → (reply_at fields >>= as_reply) ≡ Some (m, []) → IsMessage (magic ∷ 2 ∷ fields) m
 reply_is fields m e =
     let s = bind_some (reply_at fields) as_reply (m, []) e in
     let same = same_Some (messages.Reply s.0.0, s.0.1) (m, []) s.2 in
     let t = (reply_read fields s.0.1 s.0.0).1 s.1 in
-    let end : fields ≡ t.spelling = t.parts ∙ ap (λ (x : Message × List ℕ). t.spelling ++ x.1) same ∙ append-nil t.spelling in
-    let found : IsMessage (mark ∷ 2 ∷ fields) (messages.Reply s.0.0) = (t.spelling, t.spelled, ap (λ (bs : List ℕ). mark ∷ 2 ∷ bs) end) in
-    subst (λ (x : Message × List ℕ). IsMessage (mark ∷ 2 ∷ fields) x.0) same found
+    let end : fields ≡ t.encoding = t.parts ∙ ap (λ (x : Message × List ℕ). t.encoding ++ x.1) same ∙ append-nil t.encoding in
+    let found : IsMessage (magic ∷ 2 ∷ fields) (messages.Reply s.0.0) = (t.encoding, t.encoded, ap (λ (bs : List ℕ). magic ∷ 2 ∷ bs) end) in
+    subst (λ (x : Message × List ℕ). IsMessage (magic ∷ 2 ∷ fields) x.0) same found
 
-fields_are : (kind : ℕ) (fields : List ℕ) (m : Message) → fields_at kind fields ≡ Some (m, []) → IsMessage (mark ∷ kind ∷ fields) m
+fields_are : (kind : ℕ) (fields : List ℕ) (m : Message) → fields_at kind fields ≡ Some (m, []) → IsMessage (magic ∷ kind ∷ fields) m
 fields_are kind fields m e =
     elim (either (eqb kind 1) (ask_at fields >>= as_ask) (cond (eqb kind 2) (reply_at fields >>= as_reply) None) (m, []) e) [
-      | inl h ↦ subst (λ (k : ℕ). IsMessage (mark ∷ k ∷ fields) m) (sym (eqb-true kind 1 h.0)) (ask_is fields m h.1)
+      | inl h ↦ subst (λ (k : ℕ). IsMessage (magic ∷ k ∷ fields) m) (sym (eqb-true kind 1 h.0)) (ask_is fields m h.1)
       | inr h ↦
           let k = held (eqb kind 2) (reply_at fields >>= as_reply) (m, []) h.1 in
-          subst (λ (k : ℕ). IsMessage (mark ∷ k ∷ fields) m) (sym (eqb-true kind 2 k.0)) (reply_is fields m k.1)
+          subst (λ (k : ℕ). IsMessage (magic ∷ k ∷ fields) m) (sym (eqb-true kind 2 k.0)) (reply_is fields m k.1)
     ]
 
 back : (bytes : List ℕ) (m : Message) → message_of bytes ≡ Some m → IsMessage bytes m
 unfolding message_of message_at
 back bytes m e =
-    let s = bind_some (message_at bytes) alone m e in
-    let read : message_at bytes ≡ Some (m, []) = s.1 ∙ ap (λ (x : Message × List ℕ). Some x) (alone_is s.0 m s.2) in
+    let s = bind_some (message_at bytes) if_at_end m e in
+    let read : message_at bytes ≡ Some (m, []) = s.1 ∙ ap (λ (x : Message × List ℕ). Some x) (if_at_end_is s.0 m s.2) in
     let first = bind_some (byte_at bytes) _ (m, []) read in
-    let marked = held (eqb first.0.0 mark) (kind_at first.0.1) (m, []) first.2 in
+    let marked = held (eqb first.0.0 magic) (kind_at first.0.1) (m, []) first.2 in
     let kind = bind_some (byte_at first.0.1) _ (m, []) marked.1 in
-    let behind : first.0.1 ≡ kind.0.0 ∷ kind.0.1 = takes_byte first.0.1 kind.0.1 kind.0.0 kind.1 in
+    let suffix : first.0.1 ≡ kind.0.0 ∷ kind.0.1 = takes_byte first.0.1 kind.0.1 kind.0.0 kind.1 in
     let begins : bytes ≡ first.0.0 ∷ first.0.1 = takes_byte bytes first.0.1 first.0.0 first.1 in
-    let whole : bytes ≡ mark ∷ kind.0.0 ∷ kind.0.1 = begins ∙ ap (λ (b : ℕ). b ∷ first.0.1) (eqb-true first.0.0 mark marked.0) ∙ ap (λ (bs : List ℕ). mark ∷ bs) behind in
+    let whole : bytes ≡ magic ∷ kind.0.0 ∷ kind.0.1 = begins ∙ ap (λ (b : ℕ). b ∷ first.0.1) (eqb-true first.0.0 magic marked.0) ∙ ap (λ (bs : List ℕ). magic ∷ bs) suffix in
     subst (λ (bs : List ℕ). IsMessage bs m) (sym whole) (fields_are kind.0.0 kind.0.1 m kind.2)
 
 pub message_read : (bytes : List ℕ) (m : Message) → (IsMessage bytes m → message_of bytes ≡ Some m) × (message_of bytes ≡ Some m → IsMessage bytes m)
 message_read bytes m = (forth bytes m, back bytes m)
 
--- ---- one spelling, of one message
+-- ---- uniqueness
 
 pub once_message : (a b : List ℕ) (m : Message) → IsMessage a m → IsMessage b m → a ≡ b
-once_message a b (messages.Ask ask) p q = p.2 ∙ ap (λ (bs : List ℕ). mark ∷ 1 ∷ bs) (once_ask p.0 q.0 ask p.1 q.1) ∙ sym q.2
-once_message a b (messages.Reply reply) p q = p.2 ∙ ap (λ (bs : List ℕ). mark ∷ 2 ∷ bs) (once_reply p.0 q.0 reply p.1 q.1) ∙ sym q.2
+once_message a b (messages.Ask ask) p q = p.2 ∙ ap (λ (bs : List ℕ). magic ∷ 1 ∷ bs) (once_ask p.0 q.0 ask p.1 q.1) ∙ sym q.2
+once_message a b (messages.Reply reply) p q = p.2 ∙ ap (λ (bs : List ℕ). magic ∷ 2 ∷ bs) (once_reply p.0 q.0 reply p.1 q.1) ∙ sym q.2
 
 pub one_message : (bytes : List ℕ) (m n : Message) → IsMessage bytes m → IsMessage bytes n → m ≡ n
 one_message bytes m n p q = same_Some m n (sym (forth bytes m p) ∙ forth bytes n q)
 
--- ---- as it is written
+-- ---- the function gives encodings
 
 pub length_ident : (bytes : List ℕ) → IsTrue (is_ident bytes) → length bytes ≤ 24
 length_ident bytes is =
@@ -119,8 +119,8 @@ written_message (messages.Reply reply) w =
         within = w;
         origin = origin_bytes reply.origin;
         origin_is = record { within = w.origin; user = text_bytes reply.origin.user; user_is = written_text reply.origin.user small; parts = refl };
-        said = text_bytes reply.bytes;
-        said_is = written_text reply.bytes w.bytes;
+        body = text_bytes reply.bytes;
+        body_is = written_text reply.bytes w.bytes;
         parts = refl;
       },
       refl,

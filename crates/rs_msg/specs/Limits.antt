@@ -1,4 +1,4 @@
--- The limits of what messages hold: those of the fields' types, and of a request's text.
+-- The limits of messages: those of the fields' types, and the longest text of a request.
 use Rattle.std.specs.Prelude.{ℕ, ◌^◌, ◌<◌, ◌≤◌, length, IsTrue}
 use Rattle.rs_base.specs.Ident.{is_ident}
 use Rattle.rs_base.specs.declared.txn.Origin.{Origin}
@@ -34,7 +34,7 @@ abbrev pub IsWithin : Message → Type 0
 IsWithin (messages.Ask ask) = IsAskWithin ask
 IsWithin (messages.Reply reply) = IsReplyWithin reply
 
--- what the types leave open: a request's text may be too long
+-- the limit that the types don't guarantee: the length of a request's text
 abbrev pub HasRoom : Message → Type 0
 HasRoom (messages.Ask ask) = length ask.text ≤ ask_limit
 HasRoom (messages.Reply reply) = Unit {0}

@@ -1,4 +1,4 @@
--- The message that bytes spell, or None: read from the left, field by field.
+-- The message whose encoding the bytes are, or None: read from the left, field by field.
 use Rattle.std.specs.Prelude.{ℕ, ◌==◌, ◌&&◌, nat_le, List, [], ◌∷◌, length, Option, Some, None, if◌then◌else◌}
 use Rattle.rs_base.specs.Ident.{is_ident}
 use Rattle.rs_base.specs.Reading.{◌>>=◌}
@@ -9,7 +9,7 @@ use Rattle.rs_msg.specs.declared.message.ReplyPart.{ReplyPart}
 use Rattle.rs_msg.specs.declared.message.Message.{Message}
 use Rattle.rs_msg.specs.declared.message.Message.TheVariants as messages
 use Rattle.rs_msg.specs.Limits.{ask_limit}
-use Rattle.rs_msg.specs.Message.{mark}
+use Rattle.rs_msg.specs.Message.{magic}
 
 -- ---- fields
 
@@ -19,7 +19,7 @@ user_at bytes = do
   text ← text_at bytes
   if is_ident text.0 then Some text else None
 
--- a text of at most so many bytes
+-- a text of at most `limit` bytes
 unfoldable pub short_text_at : ℕ → List ℕ → Option (List ℕ × List ℕ)
 short_text_at limit bytes = do
   text ← text_at bytes
@@ -55,8 +55,8 @@ reply_at bytes = do
   origin ← origin_at bytes
   part ← u32_at origin.1
   parts ← u32_at part.1
-  said ← text_at parts.1
-  Some (record { origin = origin.0; part = part.0; parts = parts.0; bytes = said.0 }, said.1)
+  body ← text_at parts.1
+  Some (record { origin = origin.0; part = part.0; parts = parts.0; bytes = body.0 }, body.1)
 
 -- ---- messages
 
@@ -76,16 +76,16 @@ kind_at bytes = do
   kind ← byte_at bytes
   fields_at kind.0 kind.1
 
--- the mark, the kind and the fields
+-- the first byte, the kind and the fields
 unfoldable pub message_at : List ℕ → Option (Message × List ℕ)
 message_at bytes = do
   first ← byte_at bytes
-  if first.0 == mark then kind_at first.1 else None
+  if first.0 == magic then kind_at first.1 else None
 
--- and nothing behind them
-abbrev pub alone : Message × List ℕ → Option Message
-alone (message, []) = Some message
-alone (message, b ∷ bytes) = None
+-- the message, if no bytes are left after it
+abbrev pub if_at_end : Message × List ℕ → Option Message
+if_at_end (message, []) = Some message
+if_at_end (message, b ∷ bytes) = None
 
 unfoldable pub message_of : List ℕ → Option Message
-message_of bytes = message_at bytes >>= alone
+message_of bytes = message_at bytes >>= if_at_end

@@ -1,4 +1,4 @@
-//! The messages of sites and clients: how each is spelled in a datagram, and read again.
+//! The messages between sites and clients, and their encoding as datagrams.
 #![tactic(auto)]
 
 mod laws;
@@ -7,7 +7,7 @@ mod put;
 mod read;
 
 pub use laws::{
-    ask_fits, each_message, one_spelling, read_is_spelled, reply_fits, written_is_read,
+    ask_fits, each_message, one_encoding, read_is_encoded, reply_fits, written_is_read,
 };
 pub use message::{ASK_LIMIT, Ask, Message, ReplyPart};
 pub use put::encode;

@@ -1,4 +1,4 @@
-//! The bytes of a message.
+//! The encoder of messages.
 
 ghost use Rattle.std.specs.Prelude.{◌≡◌, ◌≤◌, [], ◌∷◌, ◌++◌, length, OnOk, OnErr};
 ghost use Rattle.rs_msg.specs.Limits.{ask_limit, HasRoom, IsAskWithin, IsOriginWithin, IsReplyWithin, IsWithin};
@@ -10,16 +10,16 @@ use rs_base::{Bytes, NoMemory, Origin};
 use rs_codec::{put_byte, put_text, put_u32, put_u64};
 use std::alloc::Global;
 
-/// Room for most messages.
+/// The capacity in bytes that most messages fit.
 const ROOM: usize = 128;
 
-/// What each message begins with.
-pub const MARK: u8 = 0x52;
+/// The byte that each message begins with.
+pub const MAGIC: u8 = 0x52;
 
-/// The kind of a request.
+/// The kind byte of a request.
 pub const ASK: u8 = 1;
 
-/// The kind of a reply.
+/// The kind byte of a reply.
 pub const REPLY: u8 = 2;
 
 #[tactic(auto, unfolding(crate::specs::Written::ask_bytes))]
@@ -59,7 +59,7 @@ fn put_reply(out: &mut Bytes, reply: &ReplyPart) -> Result<(), NoMemory>
 fn put_kind(out: &mut Bytes, kind: u8) -> Result<(), NoMemory>
     ensures { OnOk result (out.new ≡ out.old ++ 82 ∷ kind ∷ []) }
 {
-    put_byte(out, MARK)?;
+    put_byte(out, MAGIC)?;
     put_byte(out, kind)
 }
 
@@ -79,11 +79,11 @@ fn put_message(out: &mut Bytes, message: &Message) -> Result<(), NoMemory>
     }
 }
 
-/// Puts the bytes of a message at the end of `out`. They spell it where its text is not too long. Where memory is
-/// wanting `out` stays as it was.
+/// Appends the bytes of a message to `out`. They are its encoding if its text is at most `ASK_LIMIT` bytes long. On out
+/// of memory nothing changes. Linear in the message's length.
 pub fn encode(alloc: Global, message: &Message, out: &mut Bytes) -> Result<(), NoMemory>
     ensures ok { OnOk result (out.new ≡ out.old ++ written.message_bytes message.now) }
-    ensures spelled { HasRoom message.now → OnOk result (IsMessage (written.message_bytes message.now) message.now) }
+    ensures encoded { HasRoom message.now → OnOk result (IsMessage (written.message_bytes message.now) message.now) }
     ensures err { OnErr result (out.new ≡ out.old) }
 {
     let mut whole = Bytes::with_room(alloc, ROOM)?;

@@ -1,4 +1,4 @@
-//! The message of bytes.
+//! The decoder of messages.
 
 ghost use Rattle.std.specs.Prelude.{Some, IfOk};
 ghost use Rattle.rs_base.specs.Reading.{Reads, Gives};
@@ -7,7 +7,7 @@ ghost use Rattle.rs_msg.specs.Message.{IsMessage};
 ghost use Rattle.rs_msg.specs.Reader as reader;
 
 use crate::message::{ASK_LIMIT, Ask, Message, ReplyPart};
-use crate::put::{ASK, MARK, REPLY};
+use crate::put::{ASK, MAGIC, REPLY};
 use rs_base::{Bytes, Ident, Origin, ReadFault, SiteNo};
 use rs_codec::Fields;
 use std::alloc::Global;
@@ -106,7 +106,7 @@ fn read_message(alloc: Global, fields: &mut Fields<'_>) -> Result<Message, ReadF
     ensures { Reads (reader.message_at fields.old) result fields.new }
 {
     let first = fields.read_byte()?;
-    if first != MARK {
+    if first != MAGIC {
         return Err(ReadFault::Malformed);
     }
     let kind = fields.read_byte()?;
@@ -125,7 +125,8 @@ fn read_whole(alloc: Global, bytes: &[u8]) -> Result<Message, ReadFault>
     }
 }
 
-/// The message that these bytes spell. Where they spell none the fault is `Malformed`.
+/// Decodes a whole datagram. Fails with `Malformed` only if the bytes are the encoding of no message, and with
+/// `NoMemory` if an allocation fails. Linear in the datagram's length.
 pub fn decode(alloc: Global, bytes: &[u8]) -> Result<Message, ReadFault>
     ensures found { IfOk result (λ message. IsMessage bytes.now message) }
     ensures only { (message : Message) → IsMessage bytes.now message → Gives (λ m. m) result (Some message) }

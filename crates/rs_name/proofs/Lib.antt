@@ -1,4 +1,4 @@
-pub mod Parting
+pub mod Separating
 pub mod Sites
 pub mod Steps
 pub mod Whole

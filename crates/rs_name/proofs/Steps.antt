@@ -1,4 +1,4 @@
--- Steps of reading that did not fail.
+-- Steps of a reader that gave a value.
 use Rattle.std.proofs.Common.{◌≡◌, Bool, true, false, cond, Option, Some, None, refl, ap}
 use Rattle.rs_base.specs.Reading.{◌>>=◌}
 
@@ -7,7 +7,7 @@ pub bind_some : {A B : Type 0} (read : Option A) (f : A → Option B) (y : B) �
 bind_some (Some x) f y e = (x, refl, e)
 bind_some None f y e = absurd cc
 
--- what comes of its value
+-- the value's continuation
 pub bind_at : {A B : Type 0} (read : Option A) (f : A → Option B) (x : A) → read ≡ Some x → (read >>= f) ≡ f x
 bind_at read f x e = ap (λ (o : Option _). o >>= f) e
 

@@ -1,4 +1,4 @@
--- The system-wide name that bytes are the text of, or None: parted at its marks, part by part.
+-- The system-wide name whose text the bytes are, or None: split at its separators, then read part by part.
 use Rattle.std.specs.Prelude.{ℕ, ◌+◌, ◌-◌, Bool, ◌&&◌, not, ◌==◌, nat_le, List, [], ◌∷◌, take, drop, Option, Some, None, if◌then◌else◌}
 use Rattle.std.specs.List.{prefix_len}
 use Rattle.rs_base.specs.Ident.{is_ident}
@@ -17,40 +17,40 @@ number_of (units ∷ []) = digit_of units
 number_of (tens ∷ units ∷ []) = if tens == 49 then (digit_of units >>= λ n. Some (10 + n)) else None
 number_of (hundreds ∷ tens ∷ units ∷ digits) = None
 
--- such a number from 1 to 16
+-- a number from 1 to 16
 unfoldable pub site_of : List ℕ → Option ℕ
 site_of digits = number_of digits >>= λ n. if nat_le 1 n && nat_le n 16 then Some n else None
 
 -- ---- parts
 
 abbrev pub is_before : ℕ → ℕ → Bool
-is_before mark b = not (b == mark)
+is_before separator b = not (b == separator)
 
-abbrev pub behind : List ℕ → List ℕ → Option (List ℕ × List ℕ)
-behind front [] = None
-behind front (b ∷ rest) = Some (front, rest)
+abbrev pub suffix : List ℕ → List ℕ → Option (List ℕ × List ℕ)
+suffix prefix [] = None
+suffix prefix (b ∷ rest) = Some (prefix, rest)
 
--- what stands before the first such mark, and what stands behind it
-unfoldable pub parted : ℕ → List ℕ → Option (List ℕ × List ℕ)
-parted mark bytes = behind (take (prefix_len (is_before mark) bytes) bytes) (drop (prefix_len (is_before mark) bytes) bytes)
+-- the bytes before the first separator, and the bytes after it
+unfoldable pub separated : ℕ → List ℕ → Option (List ℕ × List ℕ)
+separated separator bytes = suffix (take (prefix_len (is_before separator) bytes) bytes) (drop (prefix_len (is_before separator) bytes) bytes)
 
 abbrev pub ident_of : List ℕ → Option (List ℕ)
 ident_of bytes = if is_ident bytes then Some bytes else None
 
--- an identifier and its site, with `@` between them
-unfoldable pub placed_of : List ℕ → Option (List ℕ × ℕ)
-placed_of bytes = do
-  parts ← parted 64 bytes
+-- `identifier@site`
+unfoldable pub ident_at_site : List ℕ → Option (List ℕ × ℕ)
+ident_at_site bytes = do
+  parts ← separated 64 bytes
   ident ← ident_of parts.0
   site ← site_of parts.1
   Some (ident, site)
 
 -- ---- names
 
--- the creator and the object, with `.` between them
+-- the creator and the object, separated by `.`
 unfoldable pub swn_of : List ℕ → Option Swn
 swn_of bytes = do
-  parts ← parted 46 bytes
-  creator ← placed_of parts.0
-  object ← placed_of parts.1
+  parts ← separated 46 bytes
+  creator ← ident_at_site parts.0
+  object ← ident_at_site parts.1
   Some (record { creator = creator.0; creator_site = creator.1; object = object.0; birth = object.1 })

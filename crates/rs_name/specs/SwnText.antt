@@ -1,4 +1,4 @@
--- Which bytes are the text of a system-wide name: what is printed of a name whose parts are two identifiers and two sites.
+-- The text of a system-wide name: the printed form of a name whose parts are two identifiers and two sites.
 use Rattle.std.specs.Prelude.{◌≡◌, ℕ, ◌≤◌, List, IsTrue}
 use Rattle.rs_base.specs.Ident.{is_ident}
 use Rattle.rs_base.specs.Printing.{printed_swn}

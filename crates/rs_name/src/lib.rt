@@ -1,4 +1,4 @@
-//! System-wide names: what a written name stands for, and the text of a name.
+//! System-wide names: resolving written names, and parsing and printing.
 #![tactic(auto)]
 
 mod laws;

@@ -1,4 +1,4 @@
-//! The name of a text.
+//! Parsing of system-wide names.
 
 ghost use Rattle.std.specs.Prelude.{◌≡◌, ◌≤◌, length, Some, None, IfSome, IfNone};
 ghost use Rattle.std.specs.List.{prefix_len};
@@ -18,7 +18,7 @@ fn digit_of(byte: u8) -> Option<u16>
     }
 }
 
-/// The number below 20 that these digits are, without a leading zero.
+/// Parses a number below 20 in decimal, without a leading zero.
 fn number_of(digits: &[u8]) -> Option<u16>
     ensures { result ≡ spec.number_of digits.now }
 {
@@ -36,31 +36,31 @@ fn site_of(digits: &[u8]) -> Option<SiteNo>
     SiteNo::new(number_of(digits)?)
 }
 
-/// How many bytes stand before the first such mark.
-fn len_before(mark: u8, bytes: &[u8]) -> usize
-    ensures value { result ≡ prefix_len (spec.is_before mark) bytes.now }
+/// Returns the number of bytes before the first separator.
+fn len_before(separator: u8, bytes: &[u8]) -> usize
+    ensures value { result ≡ prefix_len (spec.is_before separator) bytes.now }
     ensures within { result ≤ length bytes.now }
 {
-    bytes.iter().take_while(|byte| **byte != mark).count()
+    bytes.iter().take_while(|byte| **byte != separator).count()
 }
 
-/// What stands before the first such mark, and what stands behind it.
-#[tactic(auto, unfolding(crate::specs::Reader::parted))]
-fn parted(mark: u8, bytes: &[u8]) -> Option<(&[u8], &[u8])>
-    ensures found { IfSome result (λ parts. spec.parted mark bytes.now ≡ Some (parts.0.now, parts.1.now)) }
-    ensures none { IfNone result (spec.parted mark bytes.now ≡ None) }
+/// Splits the bytes at the first separator, which belongs to neither part.
+#[tactic(auto, unfolding(crate::specs::Reader::separated))]
+fn separated(separator: u8, bytes: &[u8]) -> Option<(&[u8], &[u8])>
+    ensures found { IfSome result (λ parts. spec.separated separator bytes.now ≡ Some (parts.0.now, parts.1.now)) }
+    ensures none { IfNone result (spec.separated separator bytes.now ≡ None) }
 {
-    let (front, rest) = bytes.split_at(len_before(mark, bytes));
-    let (_, behind) = rest.split_first()?;
-    Some((front, behind))
+    let (prefix, rest) = bytes.split_at(len_before(separator, bytes));
+    let (_, suffix) = rest.split_first()?;
+    Some((prefix, suffix))
 }
 
-/// An identifier and its site, with `@` between them.
-#[tactic(auto, unfolding(crate::specs::Reader::placed_of))]
-fn placed_of(bytes: &[u8]) -> Option<(Ident, SiteNo)>
-    ensures { result ≡ spec.placed_of bytes.now }
+/// Parses `identifier@site`.
+#[tactic(auto, unfolding(crate::specs::Reader::ident_at_site))]
+fn ident_at_site(bytes: &[u8]) -> Option<(Ident, SiteNo)>
+    ensures { result ≡ spec.ident_at_site bytes.now }
 {
-    let (ident, site) = parted(b'@', bytes)?;
+    let (ident, site) = separated(b'@', bytes)?;
     let ident = Ident::new(ident)?;
     let site = site_of(site)?;
     Some((ident, site))
@@ -70,9 +70,9 @@ fn placed_of(bytes: &[u8]) -> Option<(Ident, SiteNo)>
 fn swn_of(bytes: &[u8]) -> Option<Swn>
     ensures { result ≡ spec.swn_of bytes.now }
 {
-    let (creator, object) = parted(b'.', bytes)?;
-    let (creator, creator_site) = placed_of(creator)?;
-    let (object, birth) = placed_of(object)?;
+    let (creator, object) = separated(b'.', bytes)?;
+    let (creator, creator_site) = ident_at_site(creator)?;
+    let (object, birth) = ident_at_site(object)?;
     Some(Swn {
         creator,
         creator_site,
@@ -81,8 +81,9 @@ fn swn_of(bytes: &[u8]) -> Option<Swn>
     })
 }
 
-/// The system-wide name that is printed as these bytes: `creator@creator_site.object@birth`. It is `None` exactly where
-/// no name is.
+/// Parses a system-wide name, `creator@creator_site.object@birth`: identifiers of at most 24 bytes, and sites from 1 to
+/// 16 in decimal without leading zeros. Returns `None` exactly if the bytes are the text of no name. Linear in the text's
+/// length.
 pub fn parse_swn(bytes: &[u8]) -> Option<Swn>
     ensures found { IfSome result (λ name. IsSwnText bytes.now name) }
     ensures only { (name : Swn) → IsSwnText bytes.now name → result ≡ Some name }

@@ -1,4 +1,4 @@
-//! What a written name stands for.
+//! Resolution of written names.
 
 ghost use Rattle.std.specs.Prelude.{◌≡◌};
 ghost use Rattle.rs_name.specs.Resolving as spec;
@@ -11,9 +11,9 @@ fn is_plain(text: &NameText) -> bool
     text.creator.is_none() && text.creator_site.is_none() && text.birth.is_none()
 }
 
-/// The system-wide name that a written name stands for where `user` asks at `site`. A name of one identifier alone is
-/// the user's synonym there, if one is given. In any other name a missing creator is the user at that site, a creator
-/// without a site is of that site, and a missing birth site is that site.
+/// Resolves a written name to the system-wide name for `user` at `site`. A name of one identifier is the synonym, if one
+/// is given. Otherwise a missing creator is the user at that site, and a missing site of the creator or of birth is that
+/// site.
 pub fn resolve(text: &NameText, user: Ident, site: SiteNo, synonym: Option<Swn>) -> Swn
     ensures { result ≡ spec.resolved text.now user site synonym }
 {

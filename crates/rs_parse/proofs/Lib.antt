@@ -20,7 +20,7 @@ pub mod Respelled
 pub mod PrintedWords
 pub mod PrintedNumbers
 pub mod PrintedTexts
-pub mod PrintedMarks
+pub mod PrintedSymbols
 pub mod PrintedTokens
 pub mod OnceLaws
 pub mod PrintedLaws

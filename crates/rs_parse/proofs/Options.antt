@@ -1,4 +1,4 @@
--- What it takes for a reader of several steps to give a value.
+-- The conditions for a reader of several steps to give a value.
 use Rattle.std.proofs.Common.{◌≡◌, Bool, true, false, cond, List, ◌∷◌, Option, Some, None, refl, ap}
 use Rattle.std.proofs.lemmas.Option.{same_Some}
 use Rattle.rs_base.specs.Reading.{push_first}

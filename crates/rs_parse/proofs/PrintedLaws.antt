@@ -1,5 +1,5 @@
--- What is printed of a statement that some text spells spells that statement: printed tokens are split again, and the tokens
--- that are printed of a statement spell it.
+-- The printed text of a statement that has a text is one of its texts: printed tokens are split again, and the printed
+-- tokens of a statement are a phrase of it.
 use Rattle.std.proofs.Common.{◌≡◌, ℕ, true, List, [], ◌∷◌, ◌++◌, refl, sym, subst, inl}
 use Rattle.std.proofs.lemmas.List.{append-nil}
 use Rattle.rs_ast.specs.declared.stmt.Stmt.{Stmt}
@@ -11,32 +11,32 @@ use Rattle.rs_parse.specs.Grammar.{IsStmt, IsRequest}
 use Rattle.rs_parse.specs.Parsing.{Spells}
 use Rattle.rs_parse.proofs.TokenForms.{AreFormed}
 
--- a front of tokens that a text may have
-front_formed : (front behind : List Token) → AreFormed (front ++ behind) → AreFormed front
-front_formed [] behind formed = tt
-front_formed (t ∷ front) behind formed = (formed.0, front_formed front behind formed.1)
+-- a prefix of tokens that a text may have
+prefix_formed : (prefix suffix : List Token) → AreFormed (prefix ++ suffix) → AreFormed prefix
+prefix_formed [] suffix formed = tt
+prefix_formed (t ∷ prefix) suffix formed = (formed.0, prefix_formed prefix suffix formed.1)
 
--- a statement is a request, with no semicolon behind it
+-- a statement is a request, without a semicolon
 stmt_requests : (stmt : Stmt) (ts : List Token) → IsStmt stmt ts → IsRequest stmt ts
 stmt_requests stmt ts is = (ts, [], is, inl refl, sym (append-nil ts))
 
--- the tokens of a statement that some text spells
-tokens_of : (stmt : Stmt) (ts : List Token) → IsRequest stmt ts → AreFormed ts → (front : List Token) × IsStmt stmt front × AreFormed front
-tokens_of stmt ts (front, behind, is, ends, parted) formed = (front, is, front_formed front behind (subst AreFormed parted formed))
+-- the tokens of a statement that has a text
+tokens_of : (stmt : Stmt) (ts : List Token) → IsRequest stmt ts → AreFormed ts → (prefix : List Token) × IsStmt stmt prefix × AreFormed prefix
+tokens_of stmt ts (prefix, suffix, is, ends, separated) formed = (prefix, is, prefix_formed prefix suffix (subst AreFormed separated formed))
 
--- tokens that are printed are split again
+-- printed tokens are split again
 abbrev pub PrintedIsSplit : Type 0
 PrintedIsSplit = (ts : List Token) → AreFormed ts → ((split_of (printed_tokens ts)).tokens ≡ ts) × ((split_of (printed_tokens ts)).whole ≡ true)
 
--- the tokens of a text are such tokens
+-- the tokens of a text are formed
 abbrev pub TokensAreFormed : Type 0
 TokensAreFormed = (text : List ℕ) → AreFormed (split_of text).tokens
 
--- a statement that such tokens spell is spelled by the tokens that are printed of it
+-- the printed tokens of a statement that has formed tokens are a phrase of it
 abbrev pub StmtIsRespelled : Type 0
 StmtIsRespelled = (stmt : Stmt) (ts : List Token) → IsStmt stmt ts → AreFormed ts → IsStmt stmt (spelled_stmt stmt) × AreFormed (spelled_stmt stmt)
 
--- What is printed of a statement that some text spells spells that statement.
+-- The printed text of a statement that has a text is one of its texts.
 pub printed_is_read : PrintedIsSplit → TokensAreFormed → StmtIsRespelled → (text : List ℕ) (stmt : Stmt) → Spells text stmt → Spells (printed_stmt stmt) stmt
 printed_is_read split_of_printed tokens_formed stmt_respelled text stmt (whole, is) =
     let of_text = tokens_of stmt (split_of text).tokens is (tokens_formed text) in

@@ -1,4 +1,4 @@
--- A number that is printed is read again, where no digit follows.
+-- A printed number is read again, if no digit follows.
 use Rattle.std.proofs.Common.{◌≡◌, ℕ, ◌+◌, ◌-◌, ◌*◌, ◌^◌, ◌<◌, ◌≤◌, Bool, true, false, cond, ◌&&◌, leb, List, [], ◌∷◌, ◌++◌, length, take, drop, Option, Some, None, decimal, refl, sym, ap, ◌∙◌, arith, rules, take_at, drop_at}
 use Rattle.std.specs.List.{fold, list_all, prefix_len}
 use Rattle.std.proofs.lemmas.Bool.{and_parts, and_from, and_left, or_from, leb-true, le-leb, lt-leb, cond-true}
@@ -16,8 +16,8 @@ use Rattle.rs_parse.proofs.PrintedWords.{prefix_all}
 abbrev are_digits : List ℕ → Bool
 are_digits digits = list_all is_digit digits
 
-tells : IsDigitsTest (λ digits. are_digits digits ≡ true)
-tells = search rules
+reports : IsDigitsTest (λ digits. are_digits digits ≡ true)
+reports = search rules
 
 abbrev folded : ℕ → List ℕ → ℕ
 folded n digits = fold (λ n digit. 10 * n + (digit - 48)) n digits
@@ -26,7 +26,7 @@ folds : FoldsDigits folded
 folds = search rules
 
 own : IsNumeralModel (λ digits. are_digits digits ≡ true) digits_value
-own = numerals_by_fold _ tells folded folds
+own = numerals_by_fold _ reports folded folds
 
 digit_no_letter : (b : ℕ) → is_digit b ≡ true → is_letter b ≡ false
 digit_no_letter b h =
@@ -48,10 +48,10 @@ digits_here (b ∷ digits) rest some all = digit_here b (digits ++ rest) (and_pa
 abbrev as_number : ℕ → ℕ → List ℕ → Option (Token × List ℕ)
 as_number len value rest = cond (leb len 19 && leb value 9223372036854775807) (Some (tokens.Number value, rest)) None
 
-number_in_front : (digits rest : List ℕ) (n : ℕ) → are_digits digits ≡ true → length digits ≤ 19 → digits_value digits ≡ n → n ≤ 9223372036854775807 → begins is_digit rest ≡ false
+number_prefix : (digits rest : List ℕ) (n : ℕ) → are_digits digits ≡ true → length digits ≤ 19 → digits_value digits ≡ n → n ≤ 9223372036854775807 → begins is_digit rest ≡ false
     → number_at (digits ++ rest) ≡ Some (tokens.Number n, rest)
 unfolding number_at
-number_in_front digits rest n all few value within apart =
+number_prefix digits rest n all few value within apart =
     let k = prefix_len is_digit (digits ++ rest) in
     let len : k ≡ length digits = prefix_all is_digit digits rest all apart in
     let taken : digits_value (take k (digits ++ rest)) ≡ n = ap digits_value (take_at digits rest k (sym len)) ∙ value in
@@ -65,4 +65,4 @@ number_again n rest within apart =
     let bound : n < 2 ^ 64 = omega arith in
     let all : are_digits (decimal n) ≡ true = digits_decimal own n bound in
     let few : length (decimal n) ≤ 19 = length-decimal-le 19 n (omega arith) (omega arith) bound in
-    digits_here (decimal n) rest (decimal_nonempty n bound) all ∙ number_in_front (decimal n) rest n all few (digits_value-decimal own n bound) within apart
+    digits_here (decimal n) rest (decimal_nonempty n bound) all ∙ number_prefix (decimal n) rest n all few (digits_value-decimal own n bound) within apart

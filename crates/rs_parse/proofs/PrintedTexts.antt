@@ -1,4 +1,4 @@
--- A text that is printed is read again, where no quote follows.
+-- A printed text literal is read again, if no quote follows.
 use Rattle.std.proofs.Common.{◌≡◌, ℕ, Bool, true, false, cond, eqb, List, [], ◌∷◌, ◌++◌, flat_map, Option, Some, None, refl, sym, ap, ◌∙◌, append_assoc}
 use Rattle.std.proofs.lemmas.Bool.{eqb-true, cond-true}
 use Rattle.rs_base.specs.Printing.{quoted_byte, printed_text}

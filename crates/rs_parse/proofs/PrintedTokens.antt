@@ -8,23 +8,23 @@ use Rattle.rs_base.specs.Ident.{is_name_byte, is_ident, is_letter as is_small_le
 use Rattle.rs_base.specs.Txt.{is_txt}
 use Rattle.rs_base.specs.Reading.{◌>>=◌}
 use Rattle.rs_base.proofs.Steps.{bind_some, chosen}
-use Rattle.rs_ast.specs.declared.token.Mark.{Mark}
-use Rattle.rs_ast.specs.declared.token.Mark.TheVariants as marks
+use Rattle.rs_ast.specs.declared.token.Symbol.{Symbol}
+use Rattle.rs_ast.specs.declared.token.Symbol.TheVariants as symbols
 use Rattle.rs_ast.specs.declared.token.Token.{Token}
 use Rattle.rs_ast.specs.declared.token.Token.TheVariants as tokens
 use Rattle.rs_ast.specs.declared.ending.Ending.{Ending}
 use Rattle.rs_ast.specs.declared.ending.Ending.TheVariants as endings
-use Rattle.rs_ast.specs.Printed.{printed_token, ending_behind, touches, printed_next, printed_behind, printed_tokens}
-use Rattle.rs_ast.proofs.Touching.{begins, goes_on, goes_on_mark, touching_apart, is_word_byte as is_run_byte}
+use Rattle.rs_ast.specs.Printed.{printed_token, ending_after, touches, printed_next, printed_after, printed_tokens}
+use Rattle.rs_ast.proofs.Touching.{begins, goes_on, goes_on_symbol, touching_apart, is_word_byte as is_run_byte}
 use Rattle.rs_parse.specs.declared.token_split.Split.{Split}
-use Rattle.rs_parse.specs.Tokens.{is_blank, is_letter, is_digit, is_word_byte, word_at, number_at, quoted_at, text_at, mark_at, digits_value, token_at, put_first, taken_at, split_behind, split_of}
+use Rattle.rs_parse.specs.Tokens.{is_blank, is_letter, is_digit, is_word_byte, word_at, number_at, quoted_at, text_at, symbol_at, digits_value, token_at, put_first, taken_at, split_suffix, split_of}
 use Rattle.rs_parse.specs.Scanning.{token_here}
 use Rattle.rs_parse.proofs.TokenForms.{IsFormed, AreFormed}
-use Rattle.rs_parse.proofs.Scans.{mark_token, same_behind}
+use Rattle.rs_parse.proofs.Scans.{symbol_token, same_suffix}
 use Rattle.rs_parse.proofs.PrintedWords.{word_again}
 use Rattle.rs_parse.proofs.PrintedNumbers.{number_again}
 use Rattle.rs_parse.proofs.PrintedTexts.{text_again}
-use Rattle.rs_parse.proofs.PrintedMarks.{mark_again}
+use Rattle.rs_parse.proofs.PrintedSymbols.{symbol_again}
 
 -- ---- one token is read again
 
@@ -47,41 +47,41 @@ unfolding printed_token
 token_again (tokens.Word word) rest formed apart = word_again word rest formed (begins_neither is_run_byte is_word_byte no_word_byte rest apart)
 token_again (tokens.Number n) rest formed apart = number_again n rest formed (begins_neither is_run_byte is_digit no_digit rest apart)
 token_again (tokens.Text text) rest formed apart = text_again text rest formed apart
-token_again (tokens.Mark mark) rest formed apart = mark_again mark rest apart
+token_again (tokens.Symbol symbol) rest formed apart = symbol_again symbol rest apart
 
--- ---- what stands behind a token doesn't go on with it
+-- ---- the bytes after a token don't continue it
 
-space_behind_mark : (mark : Mark) → goes_on_mark mark 32 ≡ false
-space_behind_mark marks.Less = refl
-space_behind_mark marks.Greater = refl
-space_behind_mark mark = refl
+space_after_symbol : (symbol : Symbol) → goes_on_symbol symbol 32 ≡ false
+space_after_symbol symbols.Less = refl
+space_after_symbol symbols.Greater = refl
+space_after_symbol symbol = refl
 
-space_behind : (t : Token) → goes_on t 32 ≡ false
-space_behind (tokens.Word word) = refl
-space_behind (tokens.Number n) = refl
-space_behind (tokens.Text text) = refl
-space_behind (tokens.Mark mark) = space_behind_mark mark
+space_after : (t : Token) → goes_on t 32 ≡ false
+space_after (tokens.Word word) = refl
+space_after (tokens.Number n) = refl
+space_after (tokens.Text text) = refl
+space_after (tokens.Symbol symbol) = space_after_symbol symbol
 
 has_first : (text : List ℕ) (t : Token) → token_here (text ++ []) ≡ Some (t, []) → 0 < length text
 unfolding token_here
 has_first [] t e = absurd (none-some (t, []) e)
 has_first (b ∷ bytes) t e = omega arith
 
-begins_front : (p : ℕ → Bool) (front rest : List ℕ) → 0 < length front → begins p front ≡ false → begins p (front ++ rest) ≡ false
-begins_front p [] rest some apart = absurd (omega arith)
-begins_front p (b ∷ front) rest some apart = apart
+begins_prefix : (p : ℕ → Bool) (prefix rest : List ℕ) → 0 < length prefix → begins p prefix ≡ false → begins p (prefix ++ rest) ≡ false
+begins_prefix p [] rest some apart = absurd (omega arith)
+begins_prefix p (b ∷ prefix) rest some apart = apart
 
 next_apart : (touching : Bool) (t u : Token) (rest : List ℕ) → IsFormed u → (touching ≡ true → begins (goes_on t) (printed_token u) ≡ false)
     → begins (goes_on t) (cond touching (printed_token u) (32 ∷ printed_token u) ++ rest) ≡ false
-next_apart true t u rest formed apart = begins_front (goes_on t) (printed_token u) rest (has_first (printed_token u) u (token_again u [] formed refl)) (apart refl)
-next_apart false t u rest formed apart = space_behind t
+next_apart true t u rest formed apart = begins_prefix (goes_on t) (printed_token u) rest (has_first (printed_token u) u (token_again u [] formed refl)) (apart refl)
+next_apart false t u rest formed apart = space_after t
 
-behind_apart : (before : Ending) (t : Token) (ts : List Token) → AreFormed ts → begins (goes_on t) (printed_behind (ending_behind before t) ts) ≡ false
+suffix_apart : (before : Ending) (t : Token) (ts : List Token) → AreFormed ts → begins (goes_on t) (printed_after (ending_after before t) ts) ≡ false
 unfolding printed_next
-behind_apart before t [] formed = refl
-behind_apart before t (u ∷ ts) formed =
-    let ending = ending_behind before t in
-    next_apart (touches ending u) t u (printed_behind (ending_behind ending u) ts) formed.0 (touching_apart before t u)
+suffix_apart before t [] formed = refl
+suffix_apart before t (u ∷ ts) formed =
+    let ending = ending_after before t in
+    next_apart (touches ending u) t u (printed_after (ending_after ending u) ts) formed.0 (touching_apart before t u)
 
 -- ---- the tokens of a printed text
 
@@ -90,7 +90,7 @@ other_byte b c bytes token empty e = ne_eqb b c (λ (same : b ≡ c). none-some 
 
 -- no token begins with a blank
 no_blank : (b : ℕ) (bytes : List ℕ) (token : Token × List ℕ) → token_at b bytes ≡ Some token → is_blank b ≡ false
-unfolding token_at mark_at
+unfolding token_at symbol_at
 no_blank b bytes token e =
     let space = other_byte b 32 bytes token refl e in
     let tab = other_byte b 9 bytes token refl e in
@@ -102,34 +102,34 @@ abbrev IsSplit : List Token → Split → Type 0
 IsSplit ts split = (split.tokens ≡ ts) × (split.whole ≡ true)
 
 split_first : (blank : Bool) (at b : ℕ) (bytes : List ℕ) (t : Token) (rest : List ℕ) (ts : List Token) → blank ≡ false → token_at b bytes ≡ Some (t, rest)
-    → ((place : ℕ) → IsSplit ts (split_behind place 0 rest))
-    → IsSplit (t ∷ ts) (cond blank (split_behind (at + 1) 0 bytes) (taken_at at (token_at b bytes) (λ token. split_behind (at + 1) (length bytes - length token.1) bytes)))
-split_first true at b bytes t rest ts h e behind = absurd (true≢false h)
-split_first false at b bytes t rest ts h e behind =
-    let step = λ (token : Token × List ℕ). split_behind (at + 1) (length bytes - length token.1) bytes in
-    let place = at + (length (b ∷ bytes) - length rest) in
-    let others : IsSplit ts (split_behind place 0 rest) = behind place in
-    let first : taken_at at (token_at b bytes) step ≡ put_first at t (split_behind place 0 rest) =
-    ap (λ (read : Option (Token × List ℕ)). taken_at at read step) e ∙ same_behind at b bytes (Some (t, rest)) e in
+    → ((offset : ℕ) → IsSplit ts (split_suffix offset 0 rest))
+    → IsSplit (t ∷ ts) (cond blank (split_suffix (at + 1) 0 bytes) (taken_at at (token_at b bytes) (λ token. split_suffix (at + 1) (length bytes - length token.1) bytes)))
+split_first true at b bytes t rest ts h e suffix = absurd (true≢false h)
+split_first false at b bytes t rest ts h e suffix =
+    let step = λ (token : Token × List ℕ). split_suffix (at + 1) (length bytes - length token.1) bytes in
+    let offset = at + (length (b ∷ bytes) - length rest) in
+    let others : IsSplit ts (split_suffix offset 0 rest) = suffix offset in
+    let first : taken_at at (token_at b bytes) step ≡ put_first at t (split_suffix offset 0 rest) =
+    ap (λ (read : Option (Token × List ℕ)). taken_at at read step) e ∙ same_suffix at b bytes (Some (t, rest)) e in
     (ap (λ (split : Split). split.tokens) first ∙ ap (λ (more : List Token). t ∷ more) others.0, ap (λ (split : Split). split.whole) first ∙ others.1)
 
 split_at : (at : ℕ) (text : List ℕ) (t : Token) (rest : List ℕ) (ts : List Token) → token_here text ≡ Some (t, rest)
-    → ((place : ℕ) → IsSplit ts (split_behind place 0 rest)) → IsSplit (t ∷ ts) (split_behind at 0 text)
+    → ((offset : ℕ) → IsSplit ts (split_suffix offset 0 rest)) → IsSplit (t ∷ ts) (split_suffix at 0 text)
 unfolding token_here
-split_at at [] t rest ts e behind = absurd (none-some (t, rest) e)
-split_at at (b ∷ bytes) t rest ts e behind = split_first (is_blank b) at b bytes t rest ts (no_blank b bytes (t, rest) e) e behind
+split_at at [] t rest ts e suffix = absurd (none-some (t, rest) e)
+split_at at (b ∷ bytes) t rest ts e suffix = split_first (is_blank b) at b bytes t rest ts (no_blank b bytes (t, rest) e) e suffix
 
 split_next : (touching : Bool) (at : ℕ) (t : Token) (rest : List ℕ) (ts : List Token) → token_here (printed_token t ++ rest) ≡ Some (t, rest)
-    → ((place : ℕ) → IsSplit ts (split_behind place 0 rest)) → IsSplit (t ∷ ts) (split_behind at 0 (cond touching (printed_token t) (32 ∷ printed_token t) ++ rest))
-split_next true at t rest ts e behind = split_at at (printed_token t ++ rest) t rest ts e behind
-split_next false at t rest ts e behind = split_at (at + 1) (printed_token t ++ rest) t rest ts e behind
+    → ((offset : ℕ) → IsSplit ts (split_suffix offset 0 rest)) → IsSplit (t ∷ ts) (split_suffix at 0 (cond touching (printed_token t) (32 ∷ printed_token t) ++ rest))
+split_next true at t rest ts e suffix = split_at at (printed_token t ++ rest) t rest ts e suffix
+split_next false at t rest ts e suffix = split_at (at + 1) (printed_token t ++ rest) t rest ts e suffix
 
-split_printed : (at : ℕ) (before : Ending) (ts : List Token) → AreFormed ts → IsSplit ts (split_behind at 0 (printed_behind before ts))
+split_printed : (at : ℕ) (before : Ending) (ts : List Token) → AreFormed ts → IsSplit ts (split_suffix at 0 (printed_after before ts))
 unfolding printed_next
 split_printed at before [] formed = (refl, refl)
 split_printed at before (t ∷ ts) formed =
-    let rest = printed_behind (ending_behind before t) ts in
-    split_next (touches before t) at t rest ts (token_again t rest formed.0 (behind_apart before t ts formed.1)) (λ place. split_printed place (ending_behind before t) ts formed.1)
+    let rest = printed_after (ending_after before t) ts in
+    split_next (touches before t) at t rest ts (token_again t rest formed.0 (suffix_apart before t ts formed.1)) (λ offset. split_printed offset (ending_after before t) ts formed.1)
 
 pub split_of_printed : (ts : List Token) → AreFormed ts → ((split_of (printed_tokens ts)).tokens ≡ ts) × ((split_of (printed_tokens ts)).whole ≡ true)
 split_of_printed ts formed = split_printed 0 endings.Start ts formed
@@ -160,23 +160,23 @@ text_formed bytes token e =
     let read = cond_some (is_txt step.0.0) (tokens.Text step.0.0, step.0.1) token step.2 in
     subst (λ (t : Token × List ℕ). IsFormed t.0) read.1 read.0
 
-mark_formed : (b : ℕ) (bytes : List ℕ) (token : Token × List ℕ) → (mark_at b bytes >>= mark_token) ≡ Some token → IsFormed token.0
-mark_formed b bytes token e =
-    let step = bind_some (mark_at b bytes) mark_token token e in
-    let same = same_Some (tokens.Mark step.0.0, step.0.1) token step.2 in
+symbol_formed : (b : ℕ) (bytes : List ℕ) (token : Token × List ℕ) → (symbol_at b bytes >>= symbol_token) ≡ Some token → IsFormed token.0
+symbol_formed b bytes token e =
+    let step = bind_some (symbol_at b bytes) symbol_token token e in
+    let same = same_Some (tokens.Symbol step.0.0, step.0.1) token step.2 in
     subst (λ (t : Token × List ℕ). IsFormed t.0) same tt
 
 token_formed : (b : ℕ) (bytes : List ℕ) (token : Token × List ℕ) → token_at b bytes ≡ Some token → IsFormed token.0
 unfolding token_at
 token_formed b bytes token e =
-    let marked : Option (Token × List ℕ) = mark_at b bytes >>= mark_token in
-    elim (chosen (is_letter b) (word_at (b ∷ bytes)) (cond (is_digit b) (number_at (b ∷ bytes)) (cond (eqb b 39) (text_at bytes) marked)) token e) [
+    let with_symbol : Option (Token × List ℕ) = symbol_at b bytes >>= symbol_token in
+    elim (chosen (is_letter b) (word_at (b ∷ bytes)) (cond (is_digit b) (number_at (b ∷ bytes)) (cond (eqb b 39) (text_at bytes) with_symbol)) token e) [
       | inl w ↦ word_formed (b ∷ bytes) token w.1
-      | inr w ↦ elim (chosen (is_digit b) (number_at (b ∷ bytes)) (cond (eqb b 39) (text_at bytes) marked) token w.1) [
+      | inr w ↦ elim (chosen (is_digit b) (number_at (b ∷ bytes)) (cond (eqb b 39) (text_at bytes) with_symbol) token w.1) [
         | inl n ↦ number_formed (b ∷ bytes) token n.1
-        | inr n ↦ elim (chosen (eqb b 39) (text_at bytes) marked token n.1) [
+        | inr n ↦ elim (chosen (eqb b 39) (text_at bytes) with_symbol token n.1) [
           | inl q ↦ text_formed bytes token q.1
-          | inr q ↦ mark_formed b bytes token q.1
+          | inr q ↦ symbol_formed b bytes token q.1
         ]
       ]
     ]
@@ -187,17 +187,17 @@ either_formed false x y p q = q
 
 taken_formed : (at : ℕ) (read : Option (Token × List ℕ)) (others : Token × List ℕ → Split) → ((token : Token × List ℕ) → read ≡ Some token → IsFormed token.0)
     → ((token : Token × List ℕ) → AreFormed (others token).tokens) → AreFormed (taken_at at read others).tokens
-taken_formed at None others first behind = tt
-taken_formed at (Some token) others first behind = (first token refl, behind token)
+taken_formed at None others first suffix = tt
+taken_formed at (Some token) others first suffix = (first token refl, suffix token)
 
-behind_formed : (at inside : ℕ) (bytes : List ℕ) → AreFormed (split_behind at inside bytes).tokens
-behind_formed at inside [] = tt
-behind_formed at (suc inside) (b ∷ bytes) = behind_formed (at + 1) inside bytes
-behind_formed at zero (b ∷ bytes) =
-    let step = λ (token : Token × List ℕ). split_behind (at + 1) (length bytes - length token.1) bytes in
-    either_formed (is_blank b) (split_behind (at + 1) 0 bytes) (taken_at at (token_at b bytes) step)
-    (behind_formed (at + 1) 0 bytes)
-    (taken_formed at (token_at b bytes) step (token_formed b bytes) (λ token. behind_formed (at + 1) (length bytes - length token.1) bytes))
+suffix_formed : (at inside : ℕ) (bytes : List ℕ) → AreFormed (split_suffix at inside bytes).tokens
+suffix_formed at inside [] = tt
+suffix_formed at (suc inside) (b ∷ bytes) = suffix_formed (at + 1) inside bytes
+suffix_formed at zero (b ∷ bytes) =
+    let step = λ (token : Token × List ℕ). split_suffix (at + 1) (length bytes - length token.1) bytes in
+    either_formed (is_blank b) (split_suffix (at + 1) 0 bytes) (taken_at at (token_at b bytes) step)
+    (suffix_formed (at + 1) 0 bytes)
+    (taken_formed at (token_at b bytes) step (token_formed b bytes) (λ token. suffix_formed (at + 1) (length bytes - length token.1) bytes))
 
 pub tokens_formed : (text : List ℕ) → AreFormed (split_of text).tokens
-tokens_formed text = behind_formed 0 0 text
+tokens_formed text = suffix_formed 0 0 text

@@ -1,5 +1,4 @@
--- A word that is printed is read again, where no byte of a word follows: it is printed in one of two cases, and taken in
--- lower case.
+-- A printed word is read again, if no byte of a word follows: it is printed in one of two cases, and read in lower case.
 use Rattle.std.proofs.Common.{◌≡◌, ℕ, suc, ◌+◌, ◌<◌, Bool, true, false, cond, not, ◌&&◌, ◌||◌, eqb, leb, List, [], ◌∷◌, ◌++◌, map, length, take, drop, Option, Some, None, refl, sym, ap, ◌∙◌, arith, inl, inr, map-id, take_at, drop_at}
 use Rattle.std.specs.List.{list_all, prefix_len}
 use Rattle.std.specs.Char.{to_ascii_lowercase, to_ascii_uppercase}
@@ -13,15 +12,15 @@ use Rattle.rs_ast.proofs.Touching.{begins}
 use Rattle.rs_parse.specs.Tokens.{is_letter, is_word_byte, word_at, token_at}
 use Rattle.rs_parse.specs.Scanning.{token_here}
 
--- how many bytes pass, where all in front do and what follows doesn't begin with one
-pub prefix_all : (p : ℕ → Bool) (front rest : List ℕ) → list_all p front ≡ true → begins p rest ≡ false → prefix_len p (front ++ rest) ≡ length front
+-- the number of bytes that pass, if all of the prefix do and the first byte after it doesn't
+pub prefix_all : (p : ℕ → Bool) (prefix rest : List ℕ) → list_all p prefix ≡ true → begins p rest ≡ false → prefix_len p (prefix ++ rest) ≡ length prefix
 prefix_all p [] [] all apart = refl
 prefix_all p [] (b ∷ rest) all apart = ap (λ (test : Bool). cond test (1 + prefix_len p rest) 0) apart
-prefix_all p (b ∷ front) rest all apart =
-    let both = and_parts (p b) (list_all p front) all in
-    let further : prefix_len p (front ++ rest) ≡ length front = prefix_all p front rest both.1 apart in
-    let one : 1 + prefix_len p (front ++ rest) ≡ suc (length front) = omega arith in
-    ap (λ (test : Bool). cond test (1 + prefix_len p (front ++ rest)) 0) both.0 ∙ one
+prefix_all p (b ∷ prefix) rest all apart =
+    let both = and_parts (p b) (list_all p prefix) all in
+    let further : prefix_len p (prefix ++ rest) ≡ length prefix = prefix_all p prefix rest both.1 apart in
+    let one : 1 + prefix_len p (prefix ++ rest) ≡ suc (length prefix) = omega arith in
+    ap (λ (test : Bool). cond test (1 + prefix_len p (prefix ++ rest)) 0) both.0 ∙ one
 
 -- ---- the bytes of a word
 
@@ -96,15 +95,15 @@ letter_here b bytes h = rw h refl
 abbrev as_word : List ℕ → List ℕ → Option (Token × List ℕ)
 as_word word rest = cond (is_ident word) (Some (tokens.Word word, rest)) None
 
-word_in_front : (front word rest : List ℕ) → list_all is_word_byte front ≡ true → map to_ascii_lowercase front ≡ word → is_ident word ≡ true → begins is_word_byte rest ≡ false
-    → word_at (front ++ rest) ≡ Some (tokens.Word word, rest)
+word_prefix : (prefix word rest : List ℕ) → list_all is_word_byte prefix ≡ true → map to_ascii_lowercase prefix ≡ word → is_ident word ≡ true → begins is_word_byte rest ≡ false
+    → word_at (prefix ++ rest) ≡ Some (tokens.Word word, rest)
 unfolding word_at
-word_in_front front word rest all lower ident apart =
-    let n = prefix_len is_word_byte (front ++ rest) in
-    let len : length front ≡ n = sym (prefix_all is_word_byte front rest all apart) in
-    let taken : map to_ascii_lowercase (take n (front ++ rest)) ≡ word = ap (map to_ascii_lowercase) (take_at front rest n len) ∙ lower in
-    let left : drop n (front ++ rest) ≡ rest = drop_at front rest n len in
-    ap (λ (w : List ℕ). as_word w (drop n (front ++ rest))) taken ∙ ap (as_word word) left ∙ cond-true {A = Option (Token × List ℕ)} (is_ident word) (Some (tokens.Word word, rest)) None ident
+word_prefix prefix word rest all lower ident apart =
+    let n = prefix_len is_word_byte (prefix ++ rest) in
+    let len : length prefix ≡ n = sym (prefix_all is_word_byte prefix rest all apart) in
+    let taken : map to_ascii_lowercase (take n (prefix ++ rest)) ≡ word = ap (map to_ascii_lowercase) (take_at prefix rest n len) ∙ lower in
+    let left : drop n (prefix ++ rest) ≡ rest = drop_at prefix rest n len in
+    ap (λ (w : List ℕ). as_word w (drop n (prefix ++ rest))) taken ∙ ap (as_word word) left ∙ cond-true {A = Option (Token × List ℕ)} (is_ident word) (Some (tokens.Word word, rest)) None ident
 
 written_word : (f : ℕ → ℕ) → IsCase f → (word rest : List ℕ) → is_ident word ≡ true → begins is_word_byte rest ≡ false → token_here (map f word ++ rest) ≡ Some (tokens.Word word, rest)
 written_word f way [] rest ident apart = absurd (false≢true ident)
@@ -112,7 +111,7 @@ written_word f way (b ∷ word) rest ident apart =
     let parts = and_parts (leb (length (b ∷ word)) 24 && is_small_letter b) (are_name_bytes (b ∷ word)) ident in
     let first = and_parts (leb (length (b ∷ word)) 24) (is_small_letter b) parts.0 in
     letter_here (f b) (map f word ++ rest) (way.letter b first.1)
-    ∙ word_in_front (map f (b ∷ word)) (b ∷ word) rest (all_word_bytes f way (b ∷ word) parts.1) (in_lower_case f way (b ∷ word) parts.1) ident apart
+    ∙ word_prefix (map f (b ∷ word)) (b ∷ word) rest (all_word_bytes f way (b ∷ word) parts.1) (in_lower_case f way (b ∷ word) parts.1) ident apart
 
 in_either_case : (reserved : Bool) (word rest : List ℕ) → is_ident word ≡ true → begins is_word_byte rest ≡ false
     → token_here (cond reserved (map to_ascii_uppercase word) word ++ rest) ≡ Some (tokens.Word word, rest)

@@ -1,4 +1,4 @@
--- What a reader has to do with the phrases that it reads, and how readers are put together.
+-- Readers of phrases: what they claim, and how they are combined.
 use Rattle.std.proofs.Common.{◌≡◌, Bool, true, false, if◌then◌else◌, ◌||◌, List, [], ◌∷◌, ◌++◌, Option, Some, None, refl, sym, ap, subst, ◌∙◌, append_assoc, ◌⊎◌, inl, inr}
 use Rattle.std.proofs.lemmas.List.{append-nil}
 use Rattle.std.proofs.lemmas.Bool.{false≢true}
@@ -6,21 +6,21 @@ use Rattle.rs_ast.specs.declared.token.Token.{Token}
 use Rattle.rs_parse.specs.Phrases.{Phrase, Is, Optional}
 use Rattle.rs_parse.specs.Read.{Read, Got, Fault, ◌>>=◌, got_one, one_at, begins, either_at, where_so, passed, pass_at, optional_at}
 
--- What was read is spelled by the tokens in front of the rest, and only the next token was looked at.
+-- The tokens before the rest are a phrase of the value read, and only one token after them was looked at.
 pub record Finds {A : Type 0} (P : Phrase A) (read : List Token → Read A) (ts : List Token) (x : A) (rest : List Token) : Type 0 where
-  pub front : List Token
-  pub phrase : P x front
-  pub parted : ts ≡ front ++ rest
-  pub steady : (t : Token) (us vs : List Token) → rest ≡ t ∷ us → read (front ++ t ∷ vs) ≡ Got x (t ∷ vs)
+  pub prefix : List Token
+  pub phrase : P x prefix
+  pub separated : ts ≡ prefix ++ rest
+  pub steady : (t : Token) (us vs : List Token) → rest ≡ t ∷ us → read (prefix ++ t ∷ vs) ≡ Got x (t ∷ vs)
 
--- The tokens in front of the fault can be completed, and behind the token of the fault nothing was looked at.
+-- The tokens before the fault are a prefix of a phrase, and no token after that of the fault was looked at.
 pub record Breaks {A : Type 0} (P : Phrase A) (read : List Token → Read A) (ts rest : List Token) : Type 0 where
-  pub front : List Token
-  pub behind : List Token
+  pub prefix : List Token
+  pub suffix : List Token
   pub value : A
-  pub phrase : P value (front ++ behind)
-  pub parted : ts ≡ front ++ rest
-  pub steady : (t : Token) (us vs : List Token) → rest ≡ t ∷ us → read (front ++ t ∷ vs) ≡ Fault (t ∷ vs)
+  pub phrase : P value (prefix ++ suffix)
+  pub separated : ts ≡ prefix ++ rest
+  pub steady : (t : Token) (us vs : List Token) → rest ≡ t ∷ us → read (prefix ++ t ∷ vs) ≡ Fault (t ∷ vs)
 
 -- a value that has a phrase
 pub record Spelled {A : Type 0} (P : Phrase A) : Type 0 where
@@ -28,11 +28,11 @@ pub record Spelled {A : Type 0} (P : Phrase A) : Type 0 where
   pub tokens : List Token
   pub phrase : P value tokens
 
--- A reader of these phrases. A phrase is read again where no token follows that would go on with it.
+-- A reader of these phrases. A phrase is read again if no token follows that would continue it.
 pub record IsReader {A : Type 0} (P : Phrase A) (goes_on : Token → Bool) (read : List Token → Read A) : Type 0 where
   pub finds : (ts : List Token) (x : A) (rest : List Token) → read ts ≡ Got x rest → Finds P read ts x rest
   pub breaks : (ts rest : List Token) → read ts ≡ Fault rest → Breaks P read ts rest
-  pub again : (x : A) (front rest : List Token) → P x front → begins goes_on rest ≡ false → read (front ++ rest) ≡ Got x rest
+  pub again : (x : A) (prefix rest : List Token) → P x prefix → begins goes_on rest ≡ false → read (prefix ++ rest) ≡ Got x rest
   pub some : Spelled P
 
 -- ---- what was read
@@ -82,7 +82,7 @@ pub or_right : (a b : Bool) → (a || b) ≡ false → b ≡ false
 or_right true b e = absurd (false≢true (sym e))
 or_right false b e = e
 
--- ---- one reading behind another
+-- ---- one read after another
 
 pub record GotBoth {A B : Type 0} (read : Read A) (next : A × List Token → Read B) (y : B) (rest : List Token) : Type 0 where
   pub value : A
@@ -94,13 +94,13 @@ pub got_both : {A B : Type 0} (read : Read A) (next : A × List Token → Read B
 got_both (Got x mid) next y rest e = record { value = x; mid = mid; first = refl; second = e }
 got_both (Fault mid) next y rest e = absurd (fault-got y mid rest e)
 
-pub record FaultBehind {A B : Type 0} (read : Read A) (next : A × List Token → Read B) (rest : List Token) : Type 0 where
+pub record FaultAfter {A B : Type 0} (read : Read A) (next : A × List Token → Read B) (rest : List Token) : Type 0 where
   pub value : A
   pub mid : List Token
   pub first : read ≡ Got value mid
   pub second : next (value, mid) ≡ Fault rest
 
-pub fault_of_both : {A B : Type 0} (read : Read A) (next : A × List Token → Read B) (rest : List Token) → (read >>= next) ≡ Fault rest → (read ≡ Fault rest) ⊎ FaultBehind read next rest
+pub fault_of_both : {A B : Type 0} (read : Read A) (next : A × List Token → Read B) (rest : List Token) → (read >>= next) ≡ Fault rest → (read ≡ Fault rest) ⊎ FaultAfter read next rest
 fault_of_both {A} {B} (Got x mid) next rest e = inr (record { value = x; mid = mid; first = refl; second = e })
 fault_of_both {A} {B} (Fault mid) next rest e = inl (ap (λ (us : List Token). fault A us) (fault_rest B mid rest e))
 
@@ -122,13 +122,13 @@ give x ts = Got x ts
 pub gives : {A : Type 0} (x : A) → IsReader (Empty x) never (give x)
 gives {A} x = record {
   finds = λ ts y rest e. record {
-    front = [];
+    prefix = [];
     phrase = (got_value x y ts rest e, refl);
-    parted = got_rest x y ts rest e;
+    separated = got_rest x y ts rest e;
     steady = λ t us vs h. ap (λ (z : A). Got z (t ∷ vs)) (got_value x y ts rest e);
   };
   breaks = λ ts rest e. absurd (got-fault x ts rest e);
-  again = λ y front rest is ends. ap (λ (us : List Token). Got x (us ++ rest)) is.1 ∙ ap (λ (z : A). Got z rest) is.0;
+  again = λ y prefix rest is ends. ap (λ (us : List Token). Got x (us ++ rest)) is.1 ∙ ap (λ (z : A). Got z rest) is.0;
   some = record { value = x; tokens = []; phrase = (refl, refl) };
 }
 
@@ -140,9 +140,9 @@ One meant x ts = (t : Token) × (meant t ≡ Some x) × (ts ≡ t ∷ [])
 module _ {A : Type 0} (meant : Token → Option A) where
   one_finds : (t : Token) (ts : List Token) (x : A) (rest : List Token) (what : Option A) → meant t ≡ what → got_one what t ts ≡ Got x rest → Finds (One meant) (one_at meant) (t ∷ ts) x rest
   one_finds t ts x rest (Some y) m e = record {
-    front = t ∷ [];
+    prefix = t ∷ [];
     phrase = (t, m ∙ ap Some (got_value y x ts rest e), refl);
-    parted = ap (λ (us : List Token). t ∷ us) (got_rest y x ts rest e);
+    separated = ap (λ (us : List Token). t ∷ us) (got_rest y x ts rest e);
     steady = λ u us vs h. ap (λ (found : Option A). got_one found t (u ∷ vs)) (m ∙ ap Some (got_value y x ts rest e));
   }
   one_finds t ts x rest None m e = absurd (fault-got x (t ∷ ts) rest e)
@@ -150,11 +150,11 @@ module _ {A : Type 0} (meant : Token → Option A) where
   one_breaks : Spelled (One meant) → (t : Token) (ts : List Token) (rest : List Token) (what : Option A) → meant t ≡ what → got_one what t ts ≡ Fault rest → Breaks (One meant) (one_at meant) (t ∷ ts) rest
   one_breaks some t ts rest (Some y) m e = absurd (got-fault y ts rest e)
   one_breaks some t ts rest None m e = record {
-    front = [];
-    behind = some.tokens;
+    prefix = [];
+    suffix = some.tokens;
     value = some.value;
     phrase = some.phrase;
-    parted = fault_rest A (t ∷ ts) rest e;
+    separated = fault_rest A (t ∷ ts) rest e;
     steady = λ u us vs h. subst (λ (z : Token). got_one (meant z) z vs ≡ Fault (z ∷ vs)) (ap (first_or t) (fault_rest A (t ∷ ts) rest e ∙ h)) (ap (λ (found : Option A). got_one found t vs) m);
   }
 
@@ -164,51 +164,51 @@ module _ {A : Type 0} (meant : Token → Option A) where
 
   one_breaks_in : Spelled (One meant) → (ts rest : List Token) → one_at meant ts ≡ Fault rest → Breaks (One meant) (one_at meant) ts rest
   one_breaks_in some [] rest e = record {
-    front = [];
-    behind = some.tokens;
+    prefix = [];
+    suffix = some.tokens;
     value = some.value;
     phrase = some.phrase;
-    parted = fault_rest A [] rest e;
+    separated = fault_rest A [] rest e;
     steady = λ t us vs h. absurd (nil-cons t us (fault_rest A [] rest e ∙ h));
   }
   one_breaks_in some (t ∷ ts) rest e = one_breaks some t ts rest (meant t) refl e
 
-  -- a reader of one token reads what it stands for
+  -- a reader of one token reads the value it means
   pub reads_one : (t : Token) (x : A) → meant t ≡ Some x → IsReader (One meant) never (one_at meant)
   reads_one t x m =
       let some : Spelled (One meant) = record { value = x; tokens = t ∷ []; phrase = (t, m, refl) } in
       record {
         finds = one_finds_in;
         breaks = one_breaks_in some;
-        again = λ y front rest is ends. ap (λ (us : List Token). one_at meant (us ++ rest)) is.2 ∙ ap (λ (found : Option A). got_one found is.0 rest) is.1;
+        again = λ y prefix rest is ends. ap (λ (us : List Token). one_at meant (us ++ rest)) is.2 ∙ ap (λ (found : Option A). got_one found is.0 rest) is.1;
         some = some;
       }
 
--- ---- one reader behind another
+-- ---- one reader after another
 
 abbrev pub Then : {A B : Type 0} → Phrase A → (A → Phrase B) → Phrase B
-Then {A} P Q y ts = (x : A) × (front behind : List Token) × P x front × Q x y behind × (ts ≡ front ++ behind)
+Then {A} P Q y ts = (x : A) × (prefix suffix : List Token) × P x prefix × Q x y suffix × (ts ≡ prefix ++ suffix)
 
 module _ {A B : Type 0} (P : Phrase A) (Q : A → Phrase B) (read : List Token → Read A) (next : A → List Token → Read B) where
   abbrev chain : List Token → Read B
   chain ts = read ts >>= λ x. next x.0 x.1
 
-  -- the first reader stays at what it read, whatever follows behind the token that the second leaves
-  steady_before : (ts : List Token) (x : A) (mid : List Token) (a : Finds P read ts x mid) (front : List Token) (t : Token) (us vs : List Token) → mid ≡ front ++ t ∷ us → read (a.front ++ (front ++ t ∷ vs)) ≡ Got x (front ++ t ∷ vs)
+  -- the first reader reads the same, whatever follows the token that the second leaves
+  steady_before : (ts : List Token) (x : A) (mid : List Token) (a : Finds P read ts x mid) (prefix : List Token) (t : Token) (us vs : List Token) → mid ≡ prefix ++ t ∷ us → read (a.prefix ++ (prefix ++ t ∷ vs)) ≡ Got x (prefix ++ t ∷ vs)
   steady_before ts x mid a [] t us vs h = a.steady t us vs h
-  steady_before ts x mid a (u ∷ front) t us vs h = a.steady u (front ++ t ∷ us) (front ++ t ∷ vs) h
+  steady_before ts x mid a (u ∷ prefix) t us vs h = a.steady u (prefix ++ t ∷ us) (prefix ++ t ∷ vs) h
 
   chain_finds : ((x : A) (ts : List Token) (y : B) (rest : List Token) → next x ts ≡ Got y rest → Finds (Q x) (next x) ts y rest)
       → (ts : List Token) (y : B) (rest : List Token) (x : A) (mid : List Token) → Finds P read ts x mid → next x mid ≡ Got y rest → Finds (Then P Q) chain ts y rest
   chain_finds second ts y rest x mid a e =
       let b = second x mid y rest e in
       record {
-        front = a.front ++ b.front;
-        phrase = (x, a.front, b.front, a.phrase, b.phrase, refl);
-        parted = a.parted ∙ ap (λ (us : List Token). a.front ++ us) b.parted ∙ sym (append_assoc a.front b.front rest);
+        prefix = a.prefix ++ b.prefix;
+        phrase = (x, a.prefix, b.prefix, a.phrase, b.phrase, refl);
+        separated = a.separated ∙ ap (λ (us : List Token). a.prefix ++ us) b.separated ∙ sym (append_assoc a.prefix b.prefix rest);
         steady = λ t us vs h.
-            let first = steady_before ts x mid a b.front t us vs (b.parted ∙ ap (λ (ws : List Token). b.front ++ ws) h) in
-            ap chain (append_assoc a.front b.front (t ∷ vs)) ∙ ap (λ (got : Read A). got >>= λ z. next z.0 z.1) first ∙ b.steady t us vs h;
+            let first = steady_before ts x mid a b.prefix t us vs (b.separated ∙ ap (λ (ws : List Token). b.prefix ++ ws) h) in
+            ap chain (append_assoc a.prefix b.prefix (t ∷ vs)) ∙ ap (λ (got : Read A). got >>= λ z. next z.0 z.1) first ∙ b.steady t us vs h;
       }
 
   chain_breaks : ((x : A) (ts : List Token) (rest : List Token) → next x ts ≡ Fault rest → Breaks (Q x) (next x) ts rest)
@@ -216,14 +216,14 @@ module _ {A B : Type 0} (P : Phrase A) (Q : A → Phrase B) (read : List Token �
   chain_breaks second ts rest x mid a e =
       let b = second x mid rest e in
       record {
-        front = a.front ++ b.front;
-        behind = b.behind;
+        prefix = a.prefix ++ b.prefix;
+        suffix = b.suffix;
         value = b.value;
-        phrase = (x, a.front, b.front ++ b.behind, a.phrase, b.phrase, append_assoc a.front b.front b.behind);
-        parted = a.parted ∙ ap (λ (us : List Token). a.front ++ us) b.parted ∙ sym (append_assoc a.front b.front rest);
+        phrase = (x, a.prefix, b.prefix ++ b.suffix, a.phrase, b.phrase, append_assoc a.prefix b.prefix b.suffix);
+        separated = a.separated ∙ ap (λ (us : List Token). a.prefix ++ us) b.separated ∙ sym (append_assoc a.prefix b.prefix rest);
         steady = λ t us vs h.
-            let first = steady_before ts x mid a b.front t us vs (b.parted ∙ ap (λ (ws : List Token). b.front ++ ws) h) in
-            ap chain (append_assoc a.front b.front (t ∷ vs)) ∙ ap (λ (got : Read A). got >>= λ z. next z.0 z.1) first ∙ b.steady t us vs h;
+            let first = steady_before ts x mid a b.prefix t us vs (b.separated ∙ ap (λ (ws : List Token). b.prefix ++ ws) h) in
+            ap chain (append_assoc a.prefix b.prefix (t ∷ vs)) ∙ ap (λ (got : Read A). got >>= λ z. next z.0 z.1) first ∙ b.steady t us vs h;
       }
 
   first_breaks : ((x : A) → Spelled (Q x)) → (ts mid rest : List Token) → Breaks P read ts mid → fault B mid ≡ fault B rest → Breaks (Then P Q) chain ts rest
@@ -231,11 +231,11 @@ module _ {A B : Type 0} (P : Phrase A) (Q : A → Phrase B) (read : List Token �
       let b = some a.value in
       let same = fault_rest B mid rest e in
       record {
-        front = a.front;
-        behind = a.behind ++ b.tokens;
+        prefix = a.prefix;
+        suffix = a.suffix ++ b.tokens;
         value = b.value;
-        phrase = (a.value, a.front ++ a.behind, b.tokens, a.phrase, b.phrase, sym (append_assoc a.front a.behind b.tokens));
-        parted = a.parted ∙ ap (λ (us : List Token). a.front ++ us) same;
+        phrase = (a.value, a.prefix ++ a.suffix, b.tokens, a.phrase, b.phrase, sym (append_assoc a.prefix a.suffix b.tokens));
+        separated = a.separated ∙ ap (λ (us : List Token). a.prefix ++ us) same;
         steady = λ t us vs h. ap (λ (got : Read A). got >>= λ z. next z.0 z.1) (a.steady t us vs (same ∙ h));
       }
 
@@ -249,10 +249,10 @@ module _ {A B : Type 0} (P : Phrase A) (Q : A → Phrase B) (read : List Token �
     then_breaks ts rest (Fault mid) g e = first_breaks (λ z. (second z).some) ts mid rest (first.breaks ts mid g) e
 
     abbrev Follows : Type 0
-    Follows = (x : A) (y : B) (behind rest : List Token) → Q x y behind → begins second_on rest ≡ false → begins first_on (behind ++ rest) ≡ false
+    Follows = (x : A) (y : B) (suffix rest : List Token) → Q x y suffix → begins second_on rest ≡ false → begins first_on (suffix ++ rest) ≡ false
 
-    then_again : Follows → (y : B) (front rest : List Token) → Then P Q y front → begins second_on rest ≡ false → chain (front ++ rest) ≡ Got y rest
-    then_again follows y front rest (x, one, two, p, q, spelled) ends =
+    then_again : Follows → (y : B) (prefix rest : List Token) → Then P Q y prefix → begins second_on rest ≡ false → chain (prefix ++ rest) ≡ Got y rest
+    then_again follows y prefix rest (x, one, two, p, q, spelled) ends =
         ap (λ (us : List Token). chain (us ++ rest)) spelled ∙ ap chain (append_assoc one two rest)
         ∙ ap (λ (got : Read A). got >>= λ z. next z.0 z.1) (first.again x one (two ++ rest) p (follows x y two rest q ends))
         ∙ (second x).again y two rest q ends
@@ -263,7 +263,7 @@ module _ {A B : Type 0} (P : Phrase A) (Q : A → Phrase B) (read : List Token �
         let b = (second a.value).some in
         record { value = b.value; tokens = a.tokens ++ b.tokens; phrase = (a.value, a.tokens, b.tokens, a.phrase, b.phrase, refl) }
 
-    -- one reader behind another reads one phrase behind the other
+    -- one reader after another reads one phrase after the other
     pub reads_then : Follows → IsReader (Then P Q) second_on (λ ts. read ts >>= λ x. next x.0 x.1)
     reads_then follows = record {
       finds = λ ts y rest e. then_finds ts y rest (read ts) refl e;
@@ -287,9 +287,9 @@ module _ {A B : Type 0} (P : Phrase A) (goes_on : Token → Bool) (read : List T
       let same = got_value (make x) y mid rest e in
       let left = got_rest (make x) y mid rest e in
       record {
-        front = a.front;
+        prefix = a.prefix;
         phrase = (x, a.phrase, same);
-        parted = a.parted ∙ ap (λ (us : List Token). a.front ++ us) left;
+        separated = a.separated ∙ ap (λ (us : List Token). a.prefix ++ us) left;
         steady = λ t us vs h. ap (λ (got : Read A). got >>= λ z. Got (make z.0) z.1) (a.steady t us vs (left ∙ h)) ∙ ap (λ (z : B). Got z (t ∷ vs)) same;
       }
   made_finds ts y rest (Fault mid) g e = absurd (fault-got y mid rest e)
@@ -300,11 +300,11 @@ module _ {A B : Type 0} (P : Phrase A) (goes_on : Token → Bool) (read : List T
       let a = r.breaks ts mid g in
       let same = fault_rest B mid rest e in
       record {
-        front = a.front;
-        behind = a.behind;
+        prefix = a.prefix;
+        suffix = a.suffix;
         value = make a.value;
         phrase = (a.value, a.phrase, refl);
-        parted = a.parted ∙ ap (λ (us : List Token). a.front ++ us) same;
+        separated = a.separated ∙ ap (λ (us : List Token). a.prefix ++ us) same;
         steady = λ t us vs h. ap (λ (got : Read A). got >>= λ z. Got (make z.0) z.1) (a.steady t us vs (same ∙ h));
       }
 
@@ -313,7 +313,7 @@ module _ {A B : Type 0} (P : Phrase A) (goes_on : Token → Bool) (read : List T
   reads_made = record {
     finds = λ ts y rest e. made_finds ts y rest (read ts) refl e;
     breaks = λ ts rest e. made_breaks ts rest (read ts) refl e;
-    again = λ y front rest is ends. ap (λ (got : Read A). got >>= λ z. Got (make z.0) z.1) (r.again is.0 front rest is.1 ends) ∙ ap (λ (z : B). Got z rest) is.2;
+    again = λ y prefix rest is ends. ap (λ (got : Read A). got >>= λ z. Got (make z.0) z.1) (r.again is.0 prefix rest is.1 ends) ∙ ap (λ (z : B). Got z rest) is.2;
     some = record { value = make r.some.value; tokens = r.some.tokens; phrase = (r.some.value, r.some.phrase, refl) };
   }
 
@@ -326,68 +326,68 @@ module _ {A : Type 0} (P Q : Phrase A) (goes_on is : Token → Bool) (one other 
   abbrev choice : List Token → Read A
   choice = either_at is one other
 
-  begins_same : (front : List Token) (t : Token) (us vs : List Token) → begins is (front ++ t ∷ us) ≡ begins is (front ++ t ∷ vs)
+  begins_same : (prefix : List Token) (t : Token) (us vs : List Token) → begins is (prefix ++ t ∷ us) ≡ begins is (prefix ++ t ∷ vs)
   begins_same [] t us vs = refl
-  begins_same (u ∷ front) t us vs = refl
+  begins_same (u ∷ prefix) t us vs = refl
 
   abbrev chosen_at : Bool → List Token → Read A
   chosen_at test ts = if test then one ts else other ts
 
-  stays : (ts front rest : List Token) (test : Bool) → begins is ts ≡ test → ts ≡ front ++ rest → (t : Token) (us vs : List Token) → rest ≡ t ∷ us → begins is (front ++ t ∷ vs) ≡ test
-  stays ts front rest test b parted t us vs h =
-      begins_same front t vs us ∙ ap (λ (ws : List Token). begins is (front ++ ws)) (sym h) ∙ ap (begins is) (sym parted) ∙ b
+  stays : (ts prefix rest : List Token) (test : Bool) → begins is ts ≡ test → ts ≡ prefix ++ rest → (t : Token) (us vs : List Token) → rest ≡ t ∷ us → begins is (prefix ++ t ∷ vs) ≡ test
+  stays ts prefix rest test b separated t us vs h =
+      begins_same prefix t vs us ∙ ap (λ (ws : List Token). begins is (prefix ++ ws)) (sym h) ∙ ap (begins is) (sym separated) ∙ b
 
   either_finds : (ts : List Token) (x : A) (rest : List Token) (test : Bool) → begins is ts ≡ test → chosen_at test ts ≡ Got x rest → Finds (Either P Q) choice ts x rest
   either_finds ts x rest true b e =
       let a = first.finds ts x rest e in
       record {
-        front = a.front;
+        prefix = a.prefix;
         phrase = inl a.phrase;
-        parted = a.parted;
-        steady = λ t us vs h. ap (λ (test : Bool). chosen_at test (a.front ++ t ∷ vs)) (stays ts a.front rest true b a.parted t us vs h) ∙ a.steady t us vs h;
+        separated = a.separated;
+        steady = λ t us vs h. ap (λ (test : Bool). chosen_at test (a.prefix ++ t ∷ vs)) (stays ts a.prefix rest true b a.separated t us vs h) ∙ a.steady t us vs h;
       }
   either_finds ts x rest false b e =
       let a = second.finds ts x rest e in
       record {
-        front = a.front;
+        prefix = a.prefix;
         phrase = inr a.phrase;
-        parted = a.parted;
-        steady = λ t us vs h. ap (λ (test : Bool). chosen_at test (a.front ++ t ∷ vs)) (stays ts a.front rest false b a.parted t us vs h) ∙ a.steady t us vs h;
+        separated = a.separated;
+        steady = λ t us vs h. ap (λ (test : Bool). chosen_at test (a.prefix ++ t ∷ vs)) (stays ts a.prefix rest false b a.separated t us vs h) ∙ a.steady t us vs h;
       }
 
   either_breaks : (ts rest : List Token) (test : Bool) → begins is ts ≡ test → chosen_at test ts ≡ Fault rest → Breaks (Either P Q) choice ts rest
   either_breaks ts rest true b e =
       let a = first.breaks ts rest e in
       record {
-        front = a.front;
-        behind = a.behind;
+        prefix = a.prefix;
+        suffix = a.suffix;
         value = a.value;
         phrase = inl a.phrase;
-        parted = a.parted;
-        steady = λ t us vs h. ap (λ (test : Bool). chosen_at test (a.front ++ t ∷ vs)) (stays ts a.front rest true b a.parted t us vs h) ∙ a.steady t us vs h;
+        separated = a.separated;
+        steady = λ t us vs h. ap (λ (test : Bool). chosen_at test (a.prefix ++ t ∷ vs)) (stays ts a.prefix rest true b a.separated t us vs h) ∙ a.steady t us vs h;
       }
   either_breaks ts rest false b e =
       let a = second.breaks ts rest e in
       record {
-        front = a.front;
-        behind = a.behind;
+        prefix = a.prefix;
+        suffix = a.suffix;
         value = a.value;
         phrase = inr a.phrase;
-        parted = a.parted;
-        steady = λ t us vs h. ap (λ (test : Bool). chosen_at test (a.front ++ t ∷ vs)) (stays ts a.front rest false b a.parted t us vs h) ∙ a.steady t us vs h;
+        separated = a.separated;
+        steady = λ t us vs h. ap (λ (test : Bool). chosen_at test (a.prefix ++ t ∷ vs)) (stays ts a.prefix rest false b a.separated t us vs h) ∙ a.steady t us vs h;
       }
 
   abbrev pub BeginsSo : Type 0
-  BeginsSo = (x : A) (front rest : List Token) → P x front → begins is (front ++ rest) ≡ true
+  BeginsSo = (x : A) (prefix rest : List Token) → P x prefix → begins is (prefix ++ rest) ≡ true
 
   abbrev pub BeginsOtherwise : Type 0
-  BeginsOtherwise = (x : A) (front rest : List Token) → Q x front → begins goes_on rest ≡ false → begins is (front ++ rest) ≡ false
+  BeginsOtherwise = (x : A) (prefix rest : List Token) → Q x prefix → begins goes_on rest ≡ false → begins is (prefix ++ rest) ≡ false
 
-  either_again : BeginsSo → BeginsOtherwise → (x : A) (front rest : List Token) → Either P Q x front → begins goes_on rest ≡ false → choice (front ++ rest) ≡ Got x rest
-  either_again so otherwise x front rest (inl p) ends = ap (λ (test : Bool). chosen_at test (front ++ rest)) (so x front rest p) ∙ first.again x front rest p ends
-  either_again so otherwise x front rest (inr q) ends = ap (λ (test : Bool). chosen_at test (front ++ rest)) (otherwise x front rest q ends) ∙ second.again x front rest q ends
+  either_again : BeginsSo → BeginsOtherwise → (x : A) (prefix rest : List Token) → Either P Q x prefix → begins goes_on rest ≡ false → choice (prefix ++ rest) ≡ Got x rest
+  either_again so otherwise x prefix rest (inl p) ends = ap (λ (test : Bool). chosen_at test (prefix ++ rest)) (so x prefix rest p) ∙ first.again x prefix rest p ends
+  either_again so otherwise x prefix rest (inr q) ends = ap (λ (test : Bool). chosen_at test (prefix ++ rest)) (otherwise x prefix rest q ends) ∙ second.again x prefix rest q ends
 
-  -- The first token tells which of two readers reads.
+  -- The first token decides which of two readers reads.
   pub reads_either : BeginsSo → BeginsOtherwise → IsReader (Either P Q) goes_on (either_at is one other)
   reads_either so otherwise = record {
     finds = λ ts x rest e. either_finds ts x rest (begins is ts) refl e;
@@ -396,7 +396,7 @@ module _ {A : Type 0} (P Q : Phrase A) (goes_on is : Token → Bool) (one other 
     some = record { value = second.some.value; tokens = second.some.tokens; phrase = inr second.some.phrase };
   }
 
--- ---- the same reader, otherwise said
+-- ---- the same reader, stated otherwise
 
 module _ {A : Type 0} (P P' : Phrase A) (goes_on : Token → Bool) (read : List Token → Read A) where
   -- the same phrases by another definition
@@ -404,11 +404,11 @@ module _ {A : Type 0} (P P' : Phrase A) (goes_on : Token → Bool) (read : List 
   reads_as r to from = record {
     finds = λ ts x rest e.
         let a = r.finds ts x rest e in
-        record { front = a.front; phrase = to x a.front a.phrase; parted = a.parted; steady = a.steady };
+        record { prefix = a.prefix; phrase = to x a.prefix a.phrase; separated = a.separated; steady = a.steady };
     breaks = λ ts rest e.
         let a = r.breaks ts rest e in
-        record { front = a.front; behind = a.behind; value = a.value; phrase = to a.value (a.front ++ a.behind) a.phrase; parted = a.parted; steady = a.steady };
-    again = λ x front rest is ends. r.again x front rest (from x front is) ends;
+        record { prefix = a.prefix; suffix = a.suffix; value = a.value; phrase = to a.value (a.prefix ++ a.suffix) a.phrase; separated = a.separated; steady = a.steady };
+    again = λ x prefix rest is ends. r.again x prefix rest (from x prefix is) ends;
     some = record { value = r.some.value; tokens = r.some.tokens; phrase = to r.some.value r.some.tokens r.some.phrase };
   }
 
@@ -416,12 +416,12 @@ pub begins_fewer : (fewer more : Token → Bool) → ((t : Token) → more t ≡
 begins_fewer fewer more le [] e = refl
 begins_fewer fewer more le (t ∷ ts) e = le t e
 
--- with more tokens that go on
+-- with more tokens that continue
 pub reads_before : {A : Type 0} (P : Phrase A) (fewer more : Token → Bool) (read : List Token → Read A) → ((t : Token) → more t ≡ false → fewer t ≡ false) → IsReader P fewer read → IsReader P more read
 reads_before P fewer more read le r = record {
   finds = r.finds;
   breaks = r.breaks;
-  again = λ x front rest is ends. r.again x front rest is (begins_fewer fewer more le rest ends);
+  again = λ x prefix rest is ends. r.again x prefix rest is (begins_fewer fewer more le rest ends);
   some = r.some;
 }
 
@@ -430,19 +430,19 @@ pub reads_same : {A : Type 0} (P : Phrase A) (goes_on : Token → Bool) (read re
 reads_same P goes_on read read' same r = record {
   finds = λ ts x rest e.
       let a = r.finds ts x rest (same ts ∙ e) in
-      record { front = a.front; phrase = a.phrase; parted = a.parted; steady = λ t us vs h. sym (same (a.front ++ t ∷ vs)) ∙ a.steady t us vs h };
+      record { prefix = a.prefix; phrase = a.phrase; separated = a.separated; steady = λ t us vs h. sym (same (a.prefix ++ t ∷ vs)) ∙ a.steady t us vs h };
   breaks = λ ts rest e.
       let a = r.breaks ts rest (same ts ∙ e) in
-      record { front = a.front; behind = a.behind; value = a.value; phrase = a.phrase; parted = a.parted; steady = λ t us vs h. sym (same (a.front ++ t ∷ vs)) ∙ a.steady t us vs h };
-  again = λ x front rest is ends. sym (same (front ++ rest)) ∙ r.again x front rest is ends;
+      record { prefix = a.prefix; suffix = a.suffix; value = a.value; phrase = a.phrase; separated = a.separated; steady = λ t us vs h. sym (same (a.prefix ++ t ∷ vs)) ∙ a.steady t us vs h };
+  again = λ x prefix rest is ends. sym (same (prefix ++ rest)) ∙ r.again x prefix rest is ends;
   some = r.some;
 }
 
--- a value that nothing spells, whatever follows
+-- a value of no token, whatever follows
 pub gives_before : {A : Type 0} (x : A) (goes_on : Token → Bool) → IsReader (Empty x) goes_on (give x)
 gives_before x goes_on = reads_before (Empty x) never goes_on (give x) (λ t e. refl) (gives x)
 
--- ---- a token that stands for itself
+-- ---- a token that means itself
 
 passes : (is : Token → Bool) (t : Token) → is t ≡ true → passed is t ≡ Some tt
 passes is t e = ap where_so e
@@ -465,10 +465,10 @@ module _ (t : Token) (is : Token → Bool) (self : is t ≡ true) (only : (u : T
   pub reads_token : IsReader (IsToken t) never (pass_at is)
   reads_token = reads_as (One (passed is)) (IsToken t) never (pass_at is) (reads_one (passed is) t tt (passes is t self)) token_to token_from
 
--- ---- what may stand there or not
+-- ---- optional phrases
 
-module _ {A : Type 0} (P : Phrase A) (is goes_on : Token → Bool) (read : List Token → Read A) (r : IsReader P goes_on read) (begins_so : (x : A) (front rest : List Token) → P x front → begins is (front ++ rest) ≡ true) where
-  -- it may stand there, or it goes on
+module _ {A : Type 0} (P : Phrase A) (is goes_on : Token → Bool) (read : List Token → Read A) (r : IsReader P goes_on read) (begins_so : (x : A) (prefix rest : List Token) → P x prefix → begins is (prefix ++ rest) ≡ true) where
+  -- the phrase may begin, or continue
   abbrev pub may : Token → Bool
   may t = is t || goes_on t
 
@@ -499,29 +499,29 @@ module _ {A : Type 0} (P : Phrase A) (is goes_on : Token → Bool) (read : List 
   pub reads_optional : IsReader (Optional P) may (optional_at is read)
   reads_optional = reads_as (Either Present (Empty None)) (Optional P) may (optional_at is read)
       (reads_either Present (Empty None) may is present_at (give None) reads_present (gives_before None may)
-      (λ x front rest p. begins_so p.0 front rest p.1)
-      (λ x front rest p ends. ap (λ (us : List Token). begins is (us ++ rest)) p.1 ∙ begins_fewer is may may_is rest ends))
+      (λ x prefix rest p. begins_so p.0 prefix rest p.1)
+      (λ x prefix rest p ends. ap (λ (us : List Token). begins is (us ++ rest)) p.1 ∙ begins_fewer is may may_is rest ends))
       optional_to optional_from
 
--- ---- the same with what can be seen from the readers left out
+-- ---- the same, with what can be inferred from the readers left out
 
 pub then_reads : {A B : Type 0} {P : Phrase A} {Q : A → Phrase B} {read : List Token → Read A} {next : A → List Token → Read B} {first_on second_on : Token → Bool}
     → IsReader P first_on read → ((x : A) → IsReader (Q x) second_on (next x))
-    → ((x : A) (y : B) (behind rest : List Token) → Q x y behind → begins second_on rest ≡ false → begins first_on (behind ++ rest) ≡ false)
+    → ((x : A) (y : B) (suffix rest : List Token) → Q x y suffix → begins second_on rest ≡ false → begins first_on (suffix ++ rest) ≡ false)
     → IsReader (Then P Q) second_on (λ ts. read ts >>= λ x. next x.0 x.1)
 then_reads {P = P} {Q = Q} {read = read} {next = next} {first_on = first_on} {second_on = second_on} first second follows = reads_then P Q read next first_on second_on first second follows
 
--- behind a reader that nothing goes on
-pub behind_reads : {A B : Type 0} {P : Phrase A} {Q : A → Phrase B} {read : List Token → Read A} {next : A → List Token → Read B} {second_on : Token → Bool}
+-- after a reader whose phrases no token continues
+pub suffix_reads : {A B : Type 0} {P : Phrase A} {Q : A → Phrase B} {read : List Token → Read A} {next : A → List Token → Read B} {second_on : Token → Bool}
     → IsReader P never read → ((x : A) → IsReader (Q x) second_on (next x)) → IsReader (Then P Q) second_on (λ ts. read ts >>= λ x. next x.0 x.1)
-behind_reads first second = then_reads first second (λ x y behind rest q ends. begins_never (behind ++ rest))
+suffix_reads first second = then_reads first second (λ x y suffix rest q ends. begins_never (suffix ++ rest))
 
 pub made_reads : {A B : Type 0} {P : Phrase A} {goes_on : Token → Bool} {read : List Token → Read A} (make : A → B) → IsReader P goes_on read → IsReader (Made make P) goes_on (λ ts. read ts >>= λ x. Got (make x.0) x.1)
 made_reads {P = P} {goes_on = goes_on} {read = read} make r = reads_made P goes_on read make r
 
 pub either_reads : {A : Type 0} {P Q : Phrase A} {goes_on : Token → Bool} {one other : List Token → Read A} (is : Token → Bool) → IsReader P goes_on one → IsReader Q goes_on other
-    → ((x : A) (front rest : List Token) → P x front → begins is (front ++ rest) ≡ true)
-    → ((x : A) (front rest : List Token) → Q x front → begins goes_on rest ≡ false → begins is (front ++ rest) ≡ false)
+    → ((x : A) (prefix rest : List Token) → P x prefix → begins is (prefix ++ rest) ≡ true)
+    → ((x : A) (prefix rest : List Token) → Q x prefix → begins goes_on rest ≡ false → begins is (prefix ++ rest) ≡ false)
     → IsReader (Either P Q) goes_on (either_at is one other)
 either_reads {P = P} {Q = Q} {goes_on = goes_on} {one = one} {other = other} is first second so otherwise = reads_either P Q goes_on is one other first second so otherwise
 
@@ -532,46 +532,46 @@ as_reads {P = P} {goes_on = goes_on} {read = read} P' r to from = reads_as P P' 
 pub before_reads : {A : Type 0} {P : Phrase A} {fewer : Token → Bool} {read : List Token → Read A} (more : Token → Bool) → ((t : Token) → more t ≡ false → fewer t ≡ false) → IsReader P fewer read → IsReader P more read
 before_reads {P = P} {fewer = fewer} {read = read} more le r = reads_before P fewer more read le r
 
--- what begins with a token
-pub token_begins : (is : Token → Bool) (t : Token) (value : Bool) → is t ≡ value → (front two behind rest : List Token) → front ≡ t ∷ [] → behind ≡ front ++ two → begins is (behind ++ rest) ≡ value
-token_begins is t value e front two behind rest at parted = ap (λ (us : List Token). begins is (us ++ rest)) (parted ∙ ap (λ (us : List Token). us ++ two) at) ∙ e
+-- a phrase that begins with a token
+pub token_begins : (is : Token → Bool) (t : Token) (value : Bool) → is t ≡ value → (prefix two suffix rest : List Token) → prefix ≡ t ∷ [] → suffix ≡ prefix ++ two → begins is (suffix ++ rest) ≡ value
+token_begins is t value e prefix two suffix rest at separated = ap (λ (us : List Token). begins is (us ++ rest)) (separated ∙ ap (λ (us : List Token). us ++ two) at) ∙ e
 
-pub alone_begins : (is : Token → Bool) (t : Token) (value : Bool) → is t ≡ value → (front rest : List Token) → front ≡ t ∷ [] → begins is (front ++ rest) ≡ value
-alone_begins is t value e front rest at = ap (λ (us : List Token). begins is (us ++ rest)) at ∙ e
+pub end_begins : (is : Token → Bool) (t : Token) (value : Bool) → is t ≡ value → (prefix rest : List Token) → prefix ≡ t ∷ [] → begins is (prefix ++ rest) ≡ value
+end_begins is t value e prefix rest at = ap (λ (us : List Token). begins is (us ++ rest)) at ∙ e
 
--- nothing stands there, and what follows doesn't begin so
-pub empty_begins : (is more : Token → Bool) → ((t : Token) → more t ≡ false → is t ≡ false) → (front rest : List Token) → front ≡ [] → begins more rest ≡ false → begins is (front ++ rest) ≡ false
-empty_begins is more le front rest nothing ends = ap (λ (us : List Token). begins is (us ++ rest)) nothing ∙ begins_fewer is more le rest ends
+-- an empty phrase, if the token after it fails the test
+pub empty_begins : (is more : Token → Bool) → ((t : Token) → more t ≡ false → is t ≡ false) → (prefix rest : List Token) → prefix ≡ [] → begins more rest ≡ false → begins is (prefix ++ rest) ≡ false
+empty_begins is more le prefix rest nothing ends = ap (λ (us : List Token). begins is (us ++ rest)) nothing ∙ begins_fewer is more le rest ends
 
--- an end that is empty
-pub front_alone : (ts front behind : List Token) → ts ≡ front ++ behind → behind ≡ [] → front ≡ ts
-front_alone ts front behind parted nothing = sym (parted ∙ ap (λ (us : List Token). front ++ us) nothing ∙ append-nil front)
+-- a suffix that is empty
+pub prefix_is_all : (ts prefix suffix : List Token) → ts ≡ prefix ++ suffix → suffix ≡ [] → prefix ≡ ts
+prefix_is_all ts prefix suffix separated nothing = sym (separated ∙ ap (λ (us : List Token). prefix ++ us) nothing ∙ append-nil prefix)
 
 -- ---- how phrases begin
 
--- each phrase has a first token, and the test says this of it
+-- each phrase has a first token, for which the test has this value
 abbrev pub Begins : {A : Type 0} → (Token → Bool) → Bool → Phrase A → Type 0
-Begins {A} is c P = (x : A) (front rest : List Token) → P x front → begins is (front ++ rest) ≡ c
+Begins {A} is c P = (x : A) (prefix rest : List Token) → P x prefix → begins is (prefix ++ rest) ≡ c
 
 pub begins_token : {A : Type 0} (Q : Unit {0} → Phrase A) (is : Token → Bool) (t : Token) (c : Bool) → is t ≡ c → Begins is c (Then (IsToken t) Q)
-begins_token Q is t c e x front rest p = token_begins is t c e p.1 p.2 front rest p.3 p.5
+begins_token Q is t c e x prefix rest p = token_begins is t c e p.1 p.2 prefix rest p.3 p.5
 
-pub begins_alone : (is : Token → Bool) (t : Token) (c : Bool) → is t ≡ c → Begins is c (IsToken t)
-begins_alone is t c e x front rest p = alone_begins is t c e front rest p
+pub begins_end : (is : Token → Bool) (t : Token) (c : Bool) → is t ≡ c → Begins is c (IsToken t)
+begins_end is t c e x prefix rest p = end_begins is t c e prefix rest p
 
 pub begins_made : {A B : Type 0} (P : Phrase A) (make : A → B) (is : Token → Bool) (c : Bool) → Begins is c P → Begins is c (Made make P)
-begins_made P make is c b x front rest p = b p.0 front rest p.1
+begins_made P make is c b x prefix rest p = b p.0 prefix rest p.1
 
 pub begins_either : {A : Type 0} (P Q : Phrase A) (is : Token → Bool) (c : Bool) → Begins is c P → Begins is c Q → Begins is c (Either P Q)
-begins_either P Q is c b d x front rest (inl p) = b x front rest p
-begins_either P Q is c b d x front rest (inr q) = d x front rest q
+begins_either P Q is c b d x prefix rest (inl p) = b x prefix rest p
+begins_either P Q is c b d x prefix rest (inr q) = d x prefix rest q
 
 pub begins_longer : (is : Token → Bool) (one two rest : List Token) (c : Bool) → begins is (one ++ (two ++ rest)) ≡ c → begins is ((one ++ two) ++ rest) ≡ c
 begins_longer is one two rest c e = ap (begins is) (append_assoc one two rest) ∙ e
 
 pub begins_first : {A B : Type 0} (P : Phrase A) (Q : A → Phrase B) (is : Token → Bool) (c : Bool) → Begins is c P → Begins is c (Then P Q)
-begins_first P Q is c b y front rest (x, one, two, p, q, e) = ap (λ (us : List Token). begins is (us ++ rest)) e ∙ begins_longer is one two rest c (b x one (two ++ rest) p)
+begins_first P Q is c b y prefix rest (x, one, two, p, q, e) = ap (λ (us : List Token). begins is (us ++ rest)) e ∙ begins_longer is one two rest c (b x one (two ++ rest) p)
 
--- what stands behind a front
-pub behind_begins : (is : Token → Bool) (behind one two rest : List Token) (c : Bool) → behind ≡ one ++ two → begins is (one ++ (two ++ rest)) ≡ c → begins is (behind ++ rest) ≡ c
-behind_begins is behind one two rest c parted e = ap (λ (us : List Token). begins is (us ++ rest)) parted ∙ begins_longer is one two rest c e
+-- a phrase in two parts begins as its first part
+pub suffix_begins : (is : Token → Bool) (suffix one two rest : List Token) (c : Bool) → suffix ≡ one ++ two → begins is (one ++ (two ++ rest)) ≡ c → begins is (suffix ++ rest) ≡ c
+suffix_begins is suffix one two rest c separated e = ap (λ (us : List Token). begins is (us ++ rest)) separated ∙ begins_longer is one two rest c e

@@ -1,4 +1,4 @@
--- The tokens that are printed of a statement spell it.
+-- The printed tokens of a statement are a phrase of it.
 use Rattle.std.proofs.Common.{ℕ, List, [], ◌∷◌, ◌++◌, codes, ap, ◌∙◌, append_assoc}
 use Rattle.rs_base.specs.declared.name.NameText.{NameText}
 use Rattle.rs_ast.specs.declared.change.Set.{Set}
@@ -7,17 +7,17 @@ use Rattle.rs_ast.specs.declared.stmt.Dml.{Dml}
 use Rattle.rs_ast.specs.declared.stmt.Dml.TheVariants as dmls
 use Rattle.rs_ast.specs.declared.stmt.Stmt.{Stmt}
 use Rattle.rs_ast.specs.declared.stmt.Stmt.TheVariants as stmts
-use Rattle.rs_ast.specs.declared.token.Mark.TheVariants as marks
+use Rattle.rs_ast.specs.declared.token.Symbol.TheVariants as symbols
 use Rattle.rs_ast.specs.declared.token.Token.{Token}
 use Rattle.rs_ast.specs.declared.token.Token.TheVariants as tokens
 use Rattle.rs_ast.specs.Spelled.{comma, spelled_list, spelled_tuple, spelled_ident, spelled_name, spelled_where, spelled_set, spelled_dml, spelled_step, spelled_steps, spelled_stmt}
 use Rattle.rs_parse.specs.Grammar.{IsDml, IsDmlEnded, IsBody, IsStmt}
 use Rattle.rs_parse.proofs.TokenForms.{AreFormed}
-use Rattle.rs_parse.proofs.Respelling.{IsRespelled, word_respelled, mark_respelled, ◌▹◌, bracketed_respelled, respelled_so, series_respelled, list_respelled, at_most_respelled, listed_or_none_respelled}
+use Rattle.rs_parse.proofs.Respelling.{IsRespelled, word_respelled, symbol_respelled, ◌▹◌, bracketed_respelled, respelled_so, series_respelled, list_respelled, at_most_respelled, list_or_none_respelled}
 use Rattle.rs_parse.proofs.RespelledTerms.{ident_respelled, site_respelled, name_respelled, column_respelled, literal_respelled, tuple_respelled, set_respelled}
 use Rattle.rs_parse.proofs.RespelledSelect.{where_respelled, select_respelled}
 
--- ---- changes of rows
+-- ---- INSERT, UPDATE and DELETE
 
 update_respelled : (name : NameText) (sets : List Set) (clauses : List Clause) → IsRespelled (IsDml (dmls.Update name sets clauses)) (spelled_dml (dmls.Update name sets clauses))
 unfolding spelled_dml
@@ -39,7 +39,7 @@ dml_respelled (dmls.Delete name clauses) = word_respelled (codes "delete") ▹ w
 
 step_respelled : (dml : Dml) → IsRespelled (IsDmlEnded dml) (spelled_step dml)
 unfolding spelled_step
-step_respelled dml = dml_respelled dml ▹ mark_respelled marks.Semicolon
+step_respelled dml = dml_respelled dml ▹ symbol_respelled symbols.Semicolon
 
 body_respelled : (body : List Dml) → IsRespelled (IsBody body) (spelled_steps body)
 unfolding spelled_steps
@@ -49,14 +49,14 @@ body_respelled (dml ∷ dmls) = at_most_respelled 8 (series_respelled step_respe
 compile_respelled : (program : List ℕ) (params : List (List ℕ)) (body : List Dml) → IsRespelled (IsStmt (stmts.Compile program params body)) (spelled_stmt (stmts.Compile program params body))
 unfolding spelled_stmt spelled_tuple
 compile_respelled program params body =
-    let listed = spelled_list comma spelled_ident params in
-    let closed = tokens.Mark marks.Close ∷ [] in
+    let separated_list = spelled_list comma spelled_ident params in
+    let closed = tokens.Symbol symbols.Close ∷ [] in
     let steps = tokens.Word (codes "as") ∷ spelled_steps body in
     let ended = tokens.Word (codes "end") ∷ [] in
-    respelled_so (ap (λ (ts : List Token). tokens.Word (codes "compile") ∷ tokens.Word program ∷ tokens.Mark marks.Open ∷ ts)
-    (append_assoc (listed ++ closed) steps ended ∙ append_assoc listed closed (steps ++ ended)))
+    respelled_so (ap (λ (ts : List Token). tokens.Word (codes "compile") ∷ tokens.Word program ∷ tokens.Symbol symbols.Open ∷ ts)
+    (append_assoc (separated_list ++ closed) steps ended ∙ append_assoc separated_list closed (steps ++ ended)))
     (word_respelled (codes "compile") ▹ ident_respelled program
-    ▹ mark_respelled marks.Open ▹ at_most_respelled 16 (listed_or_none_respelled ident_respelled) params ▹ mark_respelled marks.Close
+    ▹ symbol_respelled symbols.Open ▹ at_most_respelled 16 (list_or_none_respelled ident_respelled) params ▹ symbol_respelled symbols.Close
     ▹ word_respelled (codes "as") ▹ body_respelled body ▹ word_respelled (codes "end"))
 
 -- ---- statements
@@ -76,12 +76,12 @@ each_respelled (stmts.Migrate name to) = word_respelled (codes "migrate") ▹ wo
 each_respelled (stmts.Compile program params body) = compile_respelled program params body
 each_respelled (stmts.DropProgram program) = word_respelled (codes "drop") ▹ word_respelled (codes "program") ▹ ident_respelled program
 each_respelled (stmts.Execute program given) =
-    word_respelled (codes "execute") ▹ ident_respelled program ▹ bracketed_respelled (at_most_respelled 16 (listed_or_none_respelled literal_respelled) given)
+    word_respelled (codes "execute") ▹ ident_respelled program ▹ bracketed_respelled (at_most_respelled 16 (list_or_none_respelled literal_respelled) given)
 each_respelled (stmts.Explain select) = word_respelled (codes "explain") ▹ select_respelled select
 each_respelled stmts.ShowSections = word_respelled (codes "show") ▹ word_respelled (codes "sections")
 each_respelled stmts.ShowCache = word_respelled (codes "show") ▹ word_respelled (codes "cache")
 each_respelled (stmts.Dml dml) = dml_respelled dml
 
--- Where tokens that a text may have spell a statement, the tokens that are printed of it do too, and a text may have them.
+-- If tokens that a text may have are a phrase of a statement, so are its printed tokens, and a text may have them.
 pub stmt_respelled : (stmt : Stmt) (ts : List Token) → IsStmt stmt ts → AreFormed ts → IsStmt stmt (spelled_stmt stmt) × AreFormed (spelled_stmt stmt)
 stmt_respelled stmt ts is formed = (each_respelled stmt).respelled ts is formed

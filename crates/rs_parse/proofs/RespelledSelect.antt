@@ -1,4 +1,4 @@
--- The tokens that are printed of comparisons, clauses and queries spell them.
+-- The printed tokens of comparisons, clauses and queries are phrases of them.
 use Rattle.std.proofs.Common.{◌≡◌, ℕ, ◌<◌, ◌^◌, Bool, true, false, List, [], ◌∷◌, ◌++◌, Option, Some, None, codes, refl, sym, ap, subst, ◌∙◌, append_assoc, ◌⊎◌, inl, inr}
 use Rattle.rs_ast.specs.declared.clause.Clause.{Clause}
 use Rattle.rs_ast.specs.declared.clause.Cmp.{Cmp}
@@ -14,26 +14,26 @@ use Rattle.rs_ast.specs.declared.select.KeyBy.{KeyBy}
 use Rattle.rs_ast.specs.declared.select.KeyBy.TheVariants as keys
 use Rattle.rs_ast.specs.declared.select.Select.{Select}
 use Rattle.rs_ast.specs.declared.select.TableRef.{TableRef}
-use Rattle.rs_ast.specs.declared.token.Mark.TheVariants as marks
+use Rattle.rs_ast.specs.declared.token.Symbol.TheVariants as symbols
 use Rattle.rs_ast.specs.declared.token.Token.{Token}
 use Rattle.rs_ast.specs.declared.token.Token.TheVariants as tokens
-use Rattle.rs_ast.specs.Spelled.{comma, spelled_list, spelled_ref, mark_of, spelled_operand, spelled_cmp, spelled_cmps, spelled_clause, spelled_where, spelled_function, spelled_item, spelled_items, spelled_distinct, spelled_alias, spelled_table_ref, spelled_group, spelled_by, spelled_falling, spelled_key, spelled_order, spelled_answered, spelled_from, spelled_select}
+use Rattle.rs_ast.specs.Spelled.{comma, spelled_list, spelled_ref, symbol_of, spelled_operand, spelled_cmp, spelled_cmps, spelled_clause, spelled_where, spelled_function, spelled_item, spelled_items, spelled_distinct, spelled_alias, spelled_table_ref, spelled_group, spelled_by, spelled_direction, spelled_key, spelled_order, spelled_select_list, spelled_from, spelled_select}
 use Rattle.rs_parse.specs.Phrases.{Phrase, Spell, Optional, IsList, AtMost}
-use Rattle.rs_parse.specs.Grammar.{Marked, IsIdent, IsOp, IsOperand, IsCmp, IsClause, IsWhere, IsOfColumn, IsListed, IsItem, IsItems, IsDistinct, IsTableRef, IsGroup, IsKeyBy, IsDirection, IsKey, IsOrder, IsSelect}
+use Rattle.rs_parse.specs.Grammar.{IsSymbol, IsIdent, IsOp, IsOperand, IsCmp, IsClause, IsWhere, IsOfColumn, IsCommaList, IsItem, IsItems, IsDistinct, IsTableRef, IsGroup, IsKeyBy, IsDirection, IsKey, IsOrder, IsSelect}
 use Rattle.rs_parse.proofs.TokenForms.{AreFormed}
-use Rattle.rs_parse.proofs.Respelling.{IsRespelled, formed_parts, nothing_respelled, token_respelled, word_respelled, mark_respelled, ◌▹◌, bracketed_respelled, respelled_so, kept_respelled, list_respelled, at_most_respelled}
+use Rattle.rs_parse.proofs.Respelling.{IsRespelled, formed_parts, nothing_respelled, token_respelled, word_respelled, symbol_respelled, ◌▹◌, bracketed_respelled, respelled_so, kept_respelled, list_respelled, at_most_respelled}
 use Rattle.rs_parse.proofs.RespelledTerms.{ident_respelled, name_respelled, col_ref_respelled, literal_respelled, param_respelled}
 
 -- ---- comparisons
 
-op_respelled : (op : Op) → IsRespelled (IsOp op) (tokens.Mark (mark_of op) ∷ [])
-unfolding mark_of
-op_respelled ops.Eq = mark_respelled marks.Equal
-op_respelled ops.Ne = mark_respelled marks.NotEqual
-op_respelled ops.Lt = mark_respelled marks.Less
-op_respelled ops.Le = mark_respelled marks.LessOrEqual
-op_respelled ops.Gt = mark_respelled marks.Greater
-op_respelled ops.Ge = mark_respelled marks.GreaterOrEqual
+op_respelled : (op : Op) → IsRespelled (IsOp op) (tokens.Symbol (symbol_of op) ∷ [])
+unfolding symbol_of
+op_respelled ops.Eq = symbol_respelled symbols.Equal
+op_respelled ops.Ne = symbol_respelled symbols.NotEqual
+op_respelled ops.Lt = symbol_respelled symbols.Less
+op_respelled ops.Le = symbol_respelled symbols.LessOrEqual
+op_respelled ops.Gt = symbol_respelled symbols.Greater
+op_respelled ops.Ge = symbol_respelled symbols.GreaterOrEqual
 
 operand_respelled : (operand : Operand) → IsRespelled (IsOperand operand) (spelled_operand operand)
 unfolding spelled_operand
@@ -48,7 +48,7 @@ cmp_respelled cmp = col_ref_respelled cmp.left ▹ op_respelled cmp.op ▹ opera
 -- ---- clauses
 
 abbrev InBrackets : Phrase (List Cmp)
-InBrackets any = Spell (Marked marks.Open ∷ IsList (tokens.Word (codes "or")) IsCmp any ∷ Marked marks.Close ∷ [])
+InBrackets any = Spell (IsSymbol symbols.Open ∷ IsList (tokens.Word (codes "or")) IsCmp any ∷ IsSymbol symbols.Close ∷ [])
 
 -- a clause by its comparisons
 abbrev IsAny : Phrase (List Cmp)
@@ -57,27 +57,27 @@ IsAny any ts = ((cmp : Cmp) × (any ≡ cmp ∷ []) × IsCmp cmp ts) ⊎ InBrack
 abbrev AnyAgain : List Cmp → Type 0
 AnyAgain any = IsAny any (spelled_cmps any) × AreFormed (spelled_cmps any)
 
-alone_again : (cmp : Cmp) (ts : List Token) → IsCmp cmp ts → AreFormed ts → AnyAgain (cmp ∷ [])
+end_again : (cmp : Cmp) (ts : List Token) → IsCmp cmp ts → AreFormed ts → AnyAgain (cmp ∷ [])
 unfolding spelled_cmps
-alone_again cmp ts is formed =
+end_again cmp ts is formed =
     let again = (cmp_respelled cmp).respelled ts is formed in
     (inl (cmp, refl, again.0), again.1)
 
--- one comparison is printed without its brackets
+-- a single comparison is printed without its parentheses
 bracketed_again : (any : List Cmp) (ts : List Token) → InBrackets any ts → AreFormed ts → AnyAgain any
 unfolding spelled_cmps
 bracketed_again [] ts (f, b, is, (f1, b1, list, is_close, p1), p) formed = absurd list
 bracketed_again (cmp ∷ []) ts (f, b, is, (f1, b1, (f2, b2, is_cmp, nothing, p2), is_close, p1), p) formed =
-    let behind = formed_parts f b (subst AreFormed p formed) in
-    let inside = formed_parts f1 b1 (subst AreFormed p1 behind.1) in
+    let suffix = formed_parts f b (subst AreFormed p formed) in
+    let inside = formed_parts f1 b1 (subst AreFormed p1 suffix.1) in
     let first = formed_parts f2 b2 (subst AreFormed p2 inside.0) in
-    alone_again cmp f2 is_cmp first.0
+    end_again cmp f2 is_cmp first.0
 bracketed_again (cmp ∷ next ∷ cmps) ts is formed =
     let again = (bracketed_respelled (list_respelled (tokens.Word (codes "or")) cmp_respelled (cmp ∷ next ∷ cmps))).respelled ts is formed in
     (inr again.0, again.1)
 
 any_again : (any : List Cmp) (ts : List Token) → IsAny any ts → AreFormed ts → AnyAgain any
-any_again any ts (inl (cmp, e, is)) formed = subst AnyAgain (sym e) (alone_again cmp ts is formed)
+any_again any ts (inl (cmp, e, is)) formed = subst AnyAgain (sym e) (end_again cmp ts is formed)
 any_again any ts (inr is) formed = bracketed_again any ts is formed
 
 clause_respelled : (clause : Clause) → IsRespelled (IsClause clause) (spelled_clause clause)
@@ -98,15 +98,15 @@ of_column_respelled word c = word_respelled word ▹ bracketed_respelled (col_re
 item_respelled : (item : Item) → IsRespelled (IsItem item) (spelled_item item)
 unfolding spelled_item spelled_function
 item_respelled (items.Col c) = col_ref_respelled c
-item_respelled items.Count = word_respelled (codes "count") ▹ bracketed_respelled (mark_respelled marks.Star)
+item_respelled items.Count = word_respelled (codes "count") ▹ bracketed_respelled (symbol_respelled symbols.Star)
 item_respelled (items.Sum c) = of_column_respelled (codes "sum") c
 item_respelled (items.Min c) = of_column_respelled (codes "min") c
 item_respelled (items.Max c) = of_column_respelled (codes "max") c
 
-items_respelled : (listed : Option (List Item)) → IsRespelled (IsItems listed) (spelled_items listed)
+items_respelled : (separated_list : Option (List Item)) → IsRespelled (IsItems separated_list) (spelled_items separated_list)
 unfolding spelled_items
-items_respelled None = mark_respelled marks.Star
-items_respelled (Some listed) = at_most_respelled 16 (list_respelled comma item_respelled) listed
+items_respelled None = symbol_respelled symbols.Star
+items_respelled (Some separated_list) = at_most_respelled 16 (list_respelled comma item_respelled) separated_list
 
 distinct_respelled : (distinct : Bool) → IsRespelled (IsDistinct distinct) (spelled_distinct distinct)
 unfolding spelled_distinct
@@ -135,8 +135,8 @@ key_by_respelled (keys.Col c) = col_ref_respelled c
 key_by_respelled (keys.Place n) = kept_respelled (n < 2 ^ 32) (token_respelled (tokens.Number n))
 
 -- ASC isn't printed
-direction_respelled : (desc : Bool) → IsRespelled (IsDirection desc) (spelled_falling desc)
-unfolding spelled_falling
+direction_respelled : (desc : Bool) → IsRespelled (IsDirection desc) (spelled_direction desc)
+unfolding spelled_direction
 direction_respelled false = record { respelled = λ ts is formed. (inl refl, tt) }
 direction_respelled true = word_respelled (codes "desc")
 
@@ -158,19 +158,19 @@ six_parts a b c d e f =
     ∙ append_assoc (a ++ b) c (d ++ (e ++ f))
     ∙ append_assoc a b (c ++ (d ++ (e ++ f)))
 
-tables_respelled : (tables : List TableRef) → IsRespelled (AtMost 6 (IsListed IsTableRef) tables) (spelled_list comma spelled_table_ref tables)
+tables_respelled : (tables : List TableRef) → IsRespelled (AtMost 6 (IsCommaList IsTableRef) tables) (spelled_list comma spelled_table_ref tables)
 tables_respelled tables = at_most_respelled 6 (list_respelled comma table_ref_respelled) tables
 
 pub select_respelled : (select : Select) → IsRespelled (IsSelect select) (spelled_select select)
-unfolding spelled_select spelled_answered spelled_from
+unfolding spelled_select spelled_select_list spelled_from
 select_respelled select =
     let distinct = spelled_distinct select.distinct in
-    let listed = spelled_items select.items in
+    let separated_list = spelled_items select.items in
     let from = spelled_from select.from in
     let clauses = spelled_where select.clauses in
     let group = spelled_group select.group in
     let order = spelled_order select.order in
-    respelled_so (ap (λ (ts : List Token). tokens.Word (codes "select") ∷ ts) (six_parts distinct listed from clauses group order))
+    respelled_so (ap (λ (ts : List Token). tokens.Word (codes "select") ∷ ts) (six_parts distinct separated_list from clauses group order))
     (word_respelled (codes "select") ▹ distinct_respelled select.distinct ▹ items_respelled select.items
     ▹ word_respelled (codes "from") ▹ tables_respelled select.from
     ▹ where_respelled select.clauses ▹ group_respelled select.group ▹ order_respelled select.order)

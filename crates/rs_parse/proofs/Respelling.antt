@@ -1,30 +1,30 @@
--- What a respelling of a phrase is, and how respellings are put together.
+-- Respellings: other tokens of the same phrase, and how they are combined.
 use Rattle.std.proofs.Common.{◌≡◌, ℕ, ◌≤◌, List, [], ◌∷◌, ◌++◌, length, refl, sym, subst}
 use Rattle.std.specs.Prelude.{flat_map}
-use Rattle.rs_ast.specs.declared.token.Mark.{Mark}
-use Rattle.rs_ast.specs.declared.token.Mark.TheVariants as marks
+use Rattle.rs_ast.specs.declared.token.Symbol.{Symbol}
+use Rattle.rs_ast.specs.declared.token.Symbol.TheVariants as symbols
 use Rattle.rs_ast.specs.declared.token.Token.{Token}
 use Rattle.rs_ast.specs.declared.token.Token.TheVariants as tokens
 use Rattle.rs_ast.specs.Spelled.{spelled_further, spelled_list, comma, between_brackets}
-use Rattle.rs_parse.specs.Phrases.{Phrase, Is, Both, Spell, IsSeries, Behind, IsList, AtMost}
-use Rattle.rs_parse.specs.Grammar.{Keyword, Marked, IsListedOrNone}
+use Rattle.rs_parse.specs.Phrases.{Phrase, Is, Both, Spell, IsSeries, After, IsList, AtMost}
+use Rattle.rs_parse.specs.Grammar.{Keyword, IsSymbol, IsCommaListOrNone}
 use Rattle.rs_parse.proofs.TokenForms.{AreFormed}
 
--- Where some tokens that a text may have spell a phrase, these do too, and a text may have them.
+-- If some tokens that a text may have are such a phrase, so are these, and a text may have them.
 pub record IsRespelled (P : List Token → Type 0) (spelled : List Token) : Type 0 where
   pub respelled : (ts : List Token) → P ts → AreFormed ts → P spelled × AreFormed spelled
 
 -- ---- formed tokens
 
-pub formed_parts : (front behind : List Token) → AreFormed (front ++ behind) → AreFormed front × AreFormed behind
-formed_parts [] behind formed = (tt, formed)
-formed_parts (t ∷ front) behind formed =
-    let parts = formed_parts front behind formed.1 in
+pub formed_parts : (prefix suffix : List Token) → AreFormed (prefix ++ suffix) → AreFormed prefix × AreFormed suffix
+formed_parts [] suffix formed = (tt, formed)
+formed_parts (t ∷ prefix) suffix formed =
+    let parts = formed_parts prefix suffix formed.1 in
     ((formed.0, parts.0), parts.1)
 
-formed_both : (front behind : List Token) → AreFormed front → AreFormed behind → AreFormed (front ++ behind)
-formed_both [] behind first second = second
-formed_both (t ∷ front) behind first second = (first.0, formed_both front behind first.1 second)
+formed_both : (prefix suffix : List Token) → AreFormed prefix → AreFormed suffix → AreFormed (prefix ++ suffix)
+formed_both [] suffix first second = second
+formed_both (t ∷ prefix) suffix first second = (first.0, formed_both prefix suffix first.1 second)
 
 -- ---- single tokens
 
@@ -37,10 +37,10 @@ token_respelled t = record { respelled = λ ts is formed. (refl, subst AreFormed
 pub word_respelled : (word : List ℕ) → IsRespelled (Keyword word) (tokens.Word word ∷ [])
 word_respelled word = token_respelled (tokens.Word word)
 
-pub mark_respelled : (mark : Mark) → IsRespelled (Marked mark) (tokens.Mark mark ∷ [])
-mark_respelled mark = token_respelled (tokens.Mark mark)
+pub symbol_respelled : (symbol : Symbol) → IsRespelled (IsSymbol symbol) (tokens.Symbol symbol ∷ [])
+symbol_respelled symbol = token_respelled (tokens.Symbol symbol)
 
--- ---- one behind the other
+-- ---- sequences
 
 both_respelled : {P Q : List Token → Type 0} {us vs : List Token} → IsRespelled P us → IsRespelled Q vs → IsRespelled (Both P Q) (us ++ vs)
 both_respelled {P} {Q} {us} {vs} first second = record {
@@ -55,15 +55,15 @@ infixr 10 ◌▹◌
 pub ◌▹◌ : {P Q : List Token → Type 0} {us vs : List Token} → IsRespelled P us → IsRespelled Q vs → IsRespelled (Both P Q) (us ++ vs)
 first ▹ second = both_respelled first second
 
--- in brackets
-pub bracketed_respelled : {P : List Token → Type 0} {us : List Token} → IsRespelled P us → IsRespelled (Spell (Marked marks.Open ∷ P ∷ Marked marks.Close ∷ [])) (between_brackets us)
-bracketed_respelled inside = mark_respelled marks.Open ▹ inside ▹ mark_respelled marks.Close
+-- in parentheses
+pub bracketed_respelled : {P : List Token → Type 0} {us : List Token} → IsRespelled P us → IsRespelled (Spell (IsSymbol symbols.Open ∷ P ∷ IsSymbol symbols.Close ∷ [])) (between_brackets us)
+bracketed_respelled inside = symbol_respelled symbols.Open ▹ inside ▹ symbol_respelled symbols.Close
 
--- the same tokens, parted otherwise
+-- the same tokens, separated otherwise
 pub respelled_so : {P : List Token → Type 0} {us vs : List Token} → us ≡ vs → IsRespelled P vs → IsRespelled P us
 respelled_so {P} e again = subst (λ (ts : List Token). IsRespelled P ts) (sym e) again
 
--- with a fact that isn't of the tokens
+-- with a condition that isn't on the tokens
 pub kept_respelled : (C : Type 0) {P : List Token → Type 0} {us : List Token} → IsRespelled P us → IsRespelled (λ ts. C × P ts) us
 kept_respelled C again = record {
   respelled = λ ts is formed.
@@ -78,7 +78,7 @@ series_respelled each [] = nothing_respelled
 series_respelled each (x ∷ xs) = each x ▹ series_respelled each xs
 
 further_respelled : {A : Type 0} {P : Phrase A} {spelled : A → List Token} (separator : Token) → ((x : A) → IsRespelled (P x) (spelled x))
-    → (x : A) → IsRespelled (Behind separator P x) (spelled_further separator spelled x)
+    → (x : A) → IsRespelled (After separator P x) (spelled_further separator spelled x)
 further_respelled separator each x = token_respelled separator ▹ each x
 
 pub list_respelled : {A : Type 0} {P : Phrase A} {spelled : A → List Token} (separator : Token) → ((x : A) → IsRespelled (P x) (spelled x))
@@ -91,8 +91,8 @@ pub at_most_respelled : {A : Type 0} {P : Phrase (List A)} {spelled : List A →
     → (xs : List A) → IsRespelled (AtMost n P xs) (spelled xs)
 at_most_respelled n each xs = kept_respelled (length xs ≤ n) (each xs)
 
-pub listed_or_none_respelled : {A : Type 0} {P : Phrase A} {spelled : A → List Token} → ((x : A) → IsRespelled (P x) (spelled x))
-    → (xs : List A) → IsRespelled (IsListedOrNone P xs) (spelled_list comma spelled xs)
+pub list_or_none_respelled : {A : Type 0} {P : Phrase A} {spelled : A → List Token} → ((x : A) → IsRespelled (P x) (spelled x))
+    → (xs : List A) → IsRespelled (IsCommaListOrNone P xs) (spelled_list comma spelled xs)
 unfolding spelled_list
-listed_or_none_respelled each [] = nothing_respelled
-listed_or_none_respelled each (x ∷ xs) = list_respelled comma each (x ∷ xs)
+list_or_none_respelled each [] = nothing_respelled
+list_or_none_respelled each (x ∷ xs) = list_respelled comma each (x ∷ xs)

@@ -14,21 +14,21 @@ use Rattle.rs_ast.specs.declared.select.KeyBy.{KeyBy}
 use Rattle.rs_ast.specs.declared.select.KeyBy.TheVariants as keys
 use Rattle.rs_ast.specs.declared.select.Select.{Select}
 use Rattle.rs_ast.specs.declared.select.TableRef.{TableRef}
-use Rattle.rs_ast.specs.declared.token.Mark.TheVariants as marks
+use Rattle.rs_ast.specs.declared.token.Symbol.TheVariants as symbols
 use Rattle.rs_ast.specs.declared.token.Token.{Token}
 use Rattle.rs_ast.specs.declared.token.Token.TheVariants as tokens
 use Rattle.rs_ast.specs.Reserved.{is_reserved}
-use Rattle.rs_ast.specs.Token.{is_mark, is_word, same_mark}
-use Rattle.rs_ast.proofs.TokenLaws.{is_mark_self}
+use Rattle.rs_ast.specs.Token.{is_symbol, is_word, same_symbol}
+use Rattle.rs_ast.proofs.TokenLaws.{is_symbol_self}
 use Rattle.rs_parse.specs.Phrases.{Phrase, Is, Optional, AtMost}
 use Rattle.rs_parse.specs.Read.{Got, ◌>>=◌, begins, either_at, optional_at}
-use Rattle.rs_parse.specs.Grammar.{IsIdent, IsColRef, IsListed, IsOfColumn, IsItem, IsItems, IsDistinct, IsTableRef, IsGroup, IsKeyBy, IsDirection, IsKey, IsOrder, IsWhere, IsSelect}
-use Rattle.rs_parse.specs.Reader.{word_at, ident_at, is_ident_token, place_of, place_at, count_at, of_column_at, item_at, items_at, distinct_at, table_ref_at, group_by_at, group_at, key_by_at, direction_at, key_at, order_by_at, order_at, select_at, listed_at, where_at}
-use Rattle.rs_parse.proofs.Readers.{IsReader, Then, Made, Either, Empty, IsToken, Begins, never, or_left, or_right, gives_before, reads_one, reads_optional, then_reads, behind_reads, made_reads, either_reads, as_reads, before_reads, token_begins, alone_begins, empty_begins, begins_fewer, begins_made, begins_either, behind_begins}
+use Rattle.rs_parse.specs.Grammar.{IsIdent, IsColRef, IsCommaList, IsOfColumn, IsItem, IsItems, IsDistinct, IsTableRef, IsGroup, IsKeyBy, IsDirection, IsKey, IsOrder, IsWhere, IsSelect}
+use Rattle.rs_parse.specs.Reader.{word_at, ident_at, is_ident_token, ordinal_of, ordinal_at, count_at, of_column_at, item_at, items_at, distinct_at, table_ref_at, group_by_at, group_at, key_by_at, direction_at, key_at, order_by_at, order_at, select_at, list_at, where_at}
+use Rattle.rs_parse.proofs.Readers.{IsReader, Then, Made, Either, Empty, IsToken, Begins, never, or_left, or_right, gives_before, reads_one, reads_optional, then_reads, suffix_reads, made_reads, either_reads, as_reads, before_reads, token_begins, end_begins, empty_begins, begins_fewer, begins_made, begins_either, suffix_begins}
 use Rattle.rs_parse.proofs.Series.{begins_apart}
-use Rattle.rs_parse.proofs.NameRules.{mark_reads, word_reads, ident_reads, on_column, col_ref_reads, on_name, name_reads}
-use Rattle.rs_parse.proofs.TermRules.{ident_begins, on_listed, listed_reads}
-use Rattle.rs_parse.proofs.ClauseRules.{ident_no_mark, col_ref_begins, on_where, where_reads, where_begins}
+use Rattle.rs_parse.proofs.NameRules.{symbol_reads, word_reads, ident_reads, on_column, col_ref_reads, on_name, name_reads}
+use Rattle.rs_parse.proofs.TermRules.{ident_begins, on_list, list_reads}
+use Rattle.rs_parse.proofs.ClauseRules.{ident_no_symbol, col_ref_begins, on_where, where_reads, where_begins}
 
 -- ---- identifiers and keywords
 
@@ -44,16 +44,16 @@ pub ident_no_word : (word : List ℕ) → is_reserved word ≡ true → (t : Tok
 ident_no_word word reserved (tokens.Word w) e = other_word word w (bytes_eq w word) refl reserved (ident_free w (is_reserved w) refl e)
 ident_no_word word reserved (tokens.Number n) e = refl
 ident_no_word word reserved (tokens.Text text) e = refl
-ident_no_word word reserved (tokens.Mark mark) e = refl
+ident_no_word word reserved (tokens.Symbol symbol) e = refl
 
 -- ---- items
 
-close_no_dot : on_column (tokens.Mark marks.Close) ≡ false
-unfolding same_mark
+close_no_dot : on_column (tokens.Symbol symbols.Close) ≡ false
+unfolding same_symbol
 close_no_dot = refl
 
-pub comma_no_dot : on_column (tokens.Mark marks.Comma) ≡ false
-unfolding same_mark
+pub comma_no_dot : on_column (tokens.Symbol symbols.Comma) ≡ false
+unfolding same_symbol
 comma_no_dot = refl
 
 abbrev closed : ColRef → Unit {0} → ColRef
@@ -62,23 +62,23 @@ closed c close = c
 of_column_reads : (word : List ℕ) → IsReader (IsOfColumn word) never (of_column_at word)
 unfolding of_column_at
 of_column_reads word = as_reads (IsOfColumn word)
-    (behind_reads (word_reads word) (λ named. behind_reads (mark_reads marks.Open) (λ opened. then_reads col_ref_reads (λ c. made_reads (closed c) (mark_reads marks.Close))
-    (λ c made behind rest q ends. alone_begins on_column (tokens.Mark marks.Close) false close_no_dot behind rest q.1))))
+    (suffix_reads (word_reads word) (λ named. suffix_reads (symbol_reads symbols.Open) (λ opened. then_reads col_ref_reads (λ c. made_reads (closed c) (symbol_reads symbols.Close))
+    (λ c made suffix rest q ends. end_begins on_column (tokens.Symbol symbols.Close) false close_no_dot suffix rest q.1))))
     (λ c ts (named, f, b, is, (opened, f1, b1, is_open, (column, f2, b2, is_column, (close, is_close, e), p2), p1), p). subst (λ (z : ColRef). IsOfColumn word z ts) e (f, b, is, (f1, b1, is_open, (f2, b2, is_column, is_close, p2), p1), p))
     (λ c ts (f, b, is, (f1, b1, is_open, (f2, b2, is_column, is_close, p2), p1), p). (tt, f, b, is, (tt, f1, b1, is_open, (c, f2, b2, is_column, (tt, is_close, refl), p2), p1), p))
 
 of_column_begins : (word : List ℕ) (is : Token → Bool) (c : Bool) → is (tokens.Word word) ≡ c → Begins is c (IsOfColumn word)
-of_column_begins word is c e column front rest p = token_begins is (tokens.Word word) c e p.0 p.1 front rest p.2 p.4
+of_column_begins word is c e column prefix rest p = token_begins is (tokens.Word word) c e p.0 p.1 prefix rest p.2 p.4
 
 abbrev counted : Unit {0} → Item
 counted close = items.Count
 
 abbrev CountChain : Phrase Item
-CountChain = Then (IsToken (tokens.Word (codes "count"))) (λ named. Then (IsToken (tokens.Mark marks.Open)) (λ opened. Then (IsToken (tokens.Mark marks.Star)) (λ star. Made counted (IsToken (tokens.Mark marks.Close)))))
+CountChain = Then (IsToken (tokens.Word (codes "count"))) (λ named. Then (IsToken (tokens.Symbol symbols.Open)) (λ opened. Then (IsToken (tokens.Symbol symbols.Star)) (λ star. Made counted (IsToken (tokens.Symbol symbols.Close)))))
 
 count_reads : IsReader CountChain never count_at
 unfolding count_at
-count_reads = behind_reads (word_reads (codes "count")) (λ named. behind_reads (mark_reads marks.Open) (λ opened. behind_reads (mark_reads marks.Star) (λ star. made_reads counted (mark_reads marks.Close))))
+count_reads = suffix_reads (word_reads (codes "count")) (λ named. suffix_reads (symbol_reads symbols.Open) (λ opened. suffix_reads (symbol_reads symbols.Star) (λ star. made_reads counted (symbol_reads symbols.Close))))
 
 abbrev MaxPart : Phrase Item
 MaxPart = Made items.Max (IsOfColumn (codes "max"))
@@ -103,7 +103,7 @@ sum_begins is c e e' e'' = begins_either (Made items.Sum (IsOfColumn (codes "sum
 
 count_begins : (is : Token → Bool) (c : Bool) → is (tokens.Word (codes "count")) ≡ c → is (tokens.Word (codes "sum")) ≡ c → is (tokens.Word (codes "min")) ≡ c → is (tokens.Word (codes "max")) ≡ c → Begins is c CountPart
 count_begins is c e e' e'' e''' = begins_either CountChain SumPart is c
-    (λ x front rest p. token_begins is (tokens.Word (codes "count")) c e p.1 p.2 front rest p.3 p.5)
+    (λ x prefix rest p. token_begins is (tokens.Word (codes "count")) c e p.1 p.2 prefix rest p.3 p.5)
     (sum_begins is c e' e'' e''')
 
 count_no_ident : Begins is_ident_token false CountPart
@@ -136,52 +136,52 @@ count_part_reads = either_reads (is_word (codes "count")) count_reads
     (either_reads (is_word (codes "sum")) (made_reads items.Sum (of_column_reads (codes "sum")))
     (either_reads (is_word (codes "min")) (made_reads items.Min (of_column_reads (codes "min"))) (made_reads items.Max (of_column_reads (codes "max")))
     (begins_made (IsOfColumn (codes "min")) items.Min (is_word (codes "min")) true (of_column_begins (codes "min") (is_word (codes "min")) true refl))
-    (λ item front rest p ends. max_begins (is_word (codes "min")) false refl item front rest p))
+    (λ item prefix rest p ends. max_begins (is_word (codes "min")) false refl item prefix rest p))
     (begins_made (IsOfColumn (codes "sum")) items.Sum (is_word (codes "sum")) true (of_column_begins (codes "sum") (is_word (codes "sum")) true refl))
-    (λ item front rest p ends. min_begins (is_word (codes "sum")) false refl refl item front rest p))
-    (λ item front rest p. token_begins (is_word (codes "count")) (tokens.Word (codes "count")) true refl p.1 p.2 front rest p.3 p.5)
-    (λ item front rest p ends. sum_begins (is_word (codes "count")) false refl refl refl item front rest p)
+    (λ item prefix rest p ends. min_begins (is_word (codes "sum")) false refl refl item prefix rest p))
+    (λ item prefix rest p. token_begins (is_word (codes "count")) (tokens.Word (codes "count")) true refl p.1 p.2 prefix rest p.3 p.5)
+    (λ item prefix rest p ends. sum_begins (is_word (codes "count")) false refl refl refl item prefix rest p)
 
 item_reads : IsReader IsItem on_column item_at
 unfolding item_at
 item_reads = as_reads IsItem
     (either_reads is_ident_token (made_reads items.Col col_ref_reads) (before_reads on_column (λ t e. refl) count_part_reads)
-    (λ item front rest p. col_ref_begins p.0 front rest p.1)
-    (λ item front rest p ends. count_no_ident item front rest p))
+    (λ item prefix rest p. col_ref_begins p.0 prefix rest p.1)
+    (λ item prefix rest p ends. count_no_ident item prefix rest p))
     item_to item_from
 
--- a test that no identifier and no function word passes
+-- a test that no identifier and no function's name passes
 item_begins : (is : Token → Bool) → ((t : Token) → is_ident_token t ≡ true → is t ≡ false) → is (tokens.Word (codes "count")) ≡ false → is (tokens.Word (codes "sum")) ≡ false → is (tokens.Word (codes "min")) ≡ false → is (tokens.Word (codes "max")) ≡ false → Begins is false IsItem
-item_begins is apart e e' e'' e''' item front rest p = go (item_from item front p)
+item_begins is apart e e' e'' e''' item prefix rest p = go (item_from item prefix p)
   where
-    go : ItemChain item front → begins is (front ++ rest) ≡ false
-    go (inl q) = begins_apart is_ident_token is apart (front ++ rest) (col_ref_begins q.0 front rest q.1)
-    go (inr q) = count_begins is false e e' e'' e''' item front rest q
+    go : ItemChain item prefix → begins is (prefix ++ rest) ≡ false
+    go (inl q) = begins_apart is_ident_token is apart (prefix ++ rest) (col_ref_begins q.0 prefix rest q.1)
+    go (inr q) = count_begins is false e e' e'' e''' item prefix rest q
 
-pub listed_begins : {A : Type 0} (P : Phrase A) (n : ℕ) (is : Token → Bool) (c : Bool) → Begins is c P → Begins is c (AtMost n (IsListed P))
-listed_begins P n is c b [] front rest p = absurd p.1
-listed_begins P n is c b (x ∷ xs) front rest (le, (one, two, p, others, e)) = behind_begins is front one two rest c e (b x one (two ++ rest) p)
+pub list_begins : {A : Type 0} (P : Phrase A) (n : ℕ) (is : Token → Bool) (c : Bool) → Begins is c P → Begins is c (AtMost n (IsCommaList P))
+list_begins P n is c b [] prefix rest p = absurd p.1
+list_begins P n is c b (x ∷ xs) prefix rest (le, (one, two, p, others, e)) = suffix_begins is prefix one two rest c e (b x one (two ++ rest) p)
 
 abbrev no_items : Unit {0} → Option (List Item)
 no_items star = None
 
 abbrev ItemsChain : Phrase (Option (List Item))
-ItemsChain = Either (Made no_items (IsToken (tokens.Mark marks.Star))) (Made Some (AtMost 16 (IsListed IsItem)))
+ItemsChain = Either (Made no_items (IsToken (tokens.Symbol symbols.Star))) (Made Some (AtMost 16 (IsCommaList IsItem)))
 
 items_to : (found : Option (List Item)) (ts : List Token) → ItemsChain found ts → IsItems found ts
 items_to found ts (inl (star, is, e)) = subst (λ (x : Option (List Item)). IsItems x ts) e is
-items_to found ts (inr (listed, is, e)) = subst (λ (x : Option (List Item)). IsItems x ts) e is
+items_to found ts (inr (separated_list, is, e)) = subst (λ (x : Option (List Item)). IsItems x ts) e is
 
 items_from : (found : Option (List Item)) (ts : List Token) → IsItems found ts → ItemsChain found ts
 items_from None ts is = inl (tt, is, refl)
-items_from (Some listed) ts is = inr (listed, is, refl)
+items_from (Some separated_list) ts is = inr (separated_list, is, refl)
 
-pub items_reads : IsReader IsItems (on_listed on_column) items_at
+pub items_reads : IsReader IsItems (on_list on_column) items_at
 unfolding items_at
 items_reads = as_reads IsItems
-    (either_reads (is_mark marks.Star) (before_reads (on_listed on_column) (λ t e. refl) (made_reads no_items (mark_reads marks.Star))) (made_reads Some (listed_reads 15 item_reads comma_no_dot))
-    (λ found front rest p. alone_begins (is_mark marks.Star) (tokens.Mark marks.Star) true (is_mark_self marks.Star) front rest p.1)
-    (λ found front rest p ends. listed_begins IsItem 16 (is_mark marks.Star) false (item_begins (is_mark marks.Star) (ident_no_mark marks.Star) refl refl refl refl) p.0 front rest p.1))
+    (either_reads (is_symbol symbols.Star) (before_reads (on_list on_column) (λ t e. refl) (made_reads no_items (symbol_reads symbols.Star))) (made_reads Some (list_reads 15 item_reads comma_no_dot))
+    (λ found prefix rest p. end_begins (is_symbol symbols.Star) (tokens.Symbol symbols.Star) true (is_symbol_self symbols.Star) prefix rest p.1)
+    (λ found prefix rest p ends. list_begins IsItem 16 (is_symbol symbols.Star) false (item_begins (is_symbol symbols.Star) (ident_no_symbol symbols.Star) refl refl refl refl) p.0 prefix rest p.1))
     items_to items_from
 
 distinct_is_reserved : is_reserved (codes "distinct") ≡ true
@@ -189,9 +189,9 @@ unfolding is_reserved
 distinct_is_reserved = refl
 
 items_no_distinct : Begins (is_word (codes "distinct")) false IsItems
-items_no_distinct None front rest is = alone_begins (is_word (codes "distinct")) (tokens.Mark marks.Star) false refl front rest is
-items_no_distinct (Some listed) front rest is =
-    listed_begins IsItem 16 (is_word (codes "distinct")) false (item_begins (is_word (codes "distinct")) (ident_no_word (codes "distinct") distinct_is_reserved) refl refl refl refl) listed front rest is
+items_no_distinct None prefix rest is = end_begins (is_word (codes "distinct")) (tokens.Symbol symbols.Star) false refl prefix rest is
+items_no_distinct (Some separated_list) prefix rest is =
+    list_begins IsItem 16 (is_word (codes "distinct")) false (item_begins (is_word (codes "distinct")) (ident_no_word (codes "distinct") distinct_is_reserved) refl refl refl refl) separated_list prefix rest is
 
 -- ---- DISTINCT
 
@@ -216,8 +216,8 @@ distinct_reads : IsReader IsDistinct is_distinct distinct_at
 unfolding distinct_at
 distinct_reads = as_reads IsDistinct
     (either_reads (is_word (codes "distinct")) (before_reads is_distinct (λ t e. refl) (made_reads distinctly (word_reads (codes "distinct")))) (gives_before false is_distinct)
-    (λ distinct front rest p. alone_begins (is_word (codes "distinct")) (tokens.Word (codes "distinct")) true refl front rest p.1)
-    (λ distinct front rest p ends. empty_begins (is_word (codes "distinct")) is_distinct (λ t e. e) front rest p.1 ends))
+    (λ distinct prefix rest p. end_begins (is_word (codes "distinct")) (tokens.Word (codes "distinct")) true refl prefix rest p.1)
+    (λ distinct prefix rest p ends. empty_begins (is_word (codes "distinct")) is_distinct (λ t e. e) prefix rest p.1 ends))
     distinct_to distinct_from
 
 -- ---- FROM
@@ -225,7 +225,7 @@ distinct_reads = as_reads IsDistinct
 abbrev on_alias : Token → Bool
 on_alias t = is_ident_token t || never t
 
--- an alias goes on, or what goes on with a name
+-- an alias continues, or what continues a name
 abbrev on_table : Token → Bool
 on_table t = on_alias t || on_name t
 
@@ -241,36 +241,36 @@ table_of name alias = record { name = name; alias = alias }
 alias_reads : IsReader (Optional IsIdent) on_alias (optional_at is_ident_token ident_at)
 alias_reads = reads_optional IsIdent is_ident_token never ident_at ident_reads ident_begins
 
-alias_follows : (alias : Option (List ℕ)) (behind rest : List Token) → Optional IsIdent alias behind → begins on_table rest ≡ false → begins on_name (behind ++ rest) ≡ false
-alias_follows None behind rest nothing ends = empty_begins on_name on_table on_table_name behind rest nothing ends
-alias_follows (Some alias) behind rest (free, at) ends = alone_begins on_name (tokens.Word alias) false refl behind rest at
+alias_follows : (alias : Option (List ℕ)) (suffix rest : List Token) → Optional IsIdent alias suffix → begins on_table rest ≡ false → begins on_name (suffix ++ rest) ≡ false
+alias_follows None suffix rest nothing ends = empty_begins on_name on_table on_table_name suffix rest nothing ends
+alias_follows (Some alias) suffix rest (free, at) ends = end_begins on_name (tokens.Word alias) false refl suffix rest at
 
 table_ref_reads : IsReader IsTableRef on_table table_ref_at
 unfolding table_ref_at
 table_ref_reads = as_reads IsTableRef
-    (then_reads name_reads (λ name. before_reads on_table on_table_alias (made_reads (table_of name) alias_reads)) (λ name made behind rest q ends. alias_follows q.0 behind rest q.1 ends))
+    (then_reads name_reads (λ name. before_reads on_table on_table_alias (made_reads (table_of name) alias_reads)) (λ name made suffix rest q ends. alias_follows q.0 suffix rest q.1 ends))
     (λ table ts (name, f, b, is, (alias, is_alias, e), p). subst (λ (x : TableRef). IsTableRef x ts) e (f, b, is, is_alias, p))
     (λ table ts (f, b, is, is_alias, p). (table.name, f, b, is, (table.alias, is_alias, refl), p))
 
-comma_ends_table : on_table (tokens.Mark marks.Comma) ≡ false
-unfolding same_mark
+comma_ends_table : on_table (tokens.Symbol symbols.Comma) ≡ false
+unfolding same_symbol
 comma_ends_table = refl
 
--- what goes on with the tables of a query
+-- the tokens that continue the tables of a query
 abbrev on_tables : Token → Bool
-on_tables t = on_listed on_table t
+on_tables t = on_list on_table t
 
 -- ---- GROUP BY
 
 abbrev GroupChain : Phrase (List ColRef)
-GroupChain = Then (IsToken (tokens.Word (codes "group"))) (λ group. Then (IsToken (tokens.Word (codes "by"))) (λ by. AtMost 16 (IsListed IsColRef)))
+GroupChain = Then (IsToken (tokens.Word (codes "group"))) (λ group. Then (IsToken (tokens.Word (codes "by"))) (λ by. AtMost 16 (IsCommaList IsColRef)))
 
-group_by_reads : IsReader GroupChain (on_listed on_column) group_by_at
+group_by_reads : IsReader GroupChain (on_list on_column) group_by_at
 unfolding group_by_at
-group_by_reads = behind_reads (word_reads (codes "group")) (λ group. behind_reads (word_reads (codes "by")) (λ by. listed_reads 15 col_ref_reads comma_no_dot))
+group_by_reads = suffix_reads (word_reads (codes "group")) (λ group. suffix_reads (word_reads (codes "by")) (λ by. list_reads 15 col_ref_reads comma_no_dot))
 
 abbrev on_group : Token → Bool
-on_group t = is_word (codes "group") t || on_listed on_column t
+on_group t = is_word (codes "group") t || on_list on_column t
 
 group_to : (cs : List ColRef) (ts : List Token) → Either GroupChain (Empty []) cs ts → IsGroup cs ts
 group_to [] ts (inl (group, f, b, is, (by, f1, b1, is_by, list, p1), p)) = absurd list.1
@@ -284,36 +284,36 @@ group_from (c ∷ cs) ts (f, b, is, (f1, b1, is_by, list, p1), p) = inl (tt, f, 
 group_reads : IsReader IsGroup on_group group_at
 unfolding group_at
 group_reads = as_reads IsGroup
-    (either_reads (is_word (codes "group")) (before_reads on_group (λ t e. or_right (is_word (codes "group") t) (on_listed on_column t) e) group_by_reads) (gives_before [] on_group)
-    (λ cs front rest p. token_begins (is_word (codes "group")) (tokens.Word (codes "group")) true refl p.1 p.2 front rest p.3 p.5)
-    (λ cs front rest p ends. empty_begins (is_word (codes "group")) on_group (λ t e. or_left (is_word (codes "group") t) (on_listed on_column t) e) front rest p.1 ends))
+    (either_reads (is_word (codes "group")) (before_reads on_group (λ t e. or_right (is_word (codes "group") t) (on_list on_column t) e) group_by_reads) (gives_before [] on_group)
+    (λ cs prefix rest p. token_begins (is_word (codes "group")) (tokens.Word (codes "group")) true refl p.1 p.2 prefix rest p.3 p.5)
+    (λ cs prefix rest p ends. empty_begins (is_word (codes "group")) on_group (λ t e. or_left (is_word (codes "group") t) (on_list on_column t) e) prefix rest p.1 ends))
     group_to group_from
 
-group_begins : (is : Token → Bool) → is (tokens.Word (codes "group")) ≡ false → (cs : List ColRef) (front rest : List Token) → IsGroup cs front → begins is rest ≡ false → begins is (front ++ rest) ≡ false
-group_begins is e [] front rest nothing ends = ap (λ (us : List Token). begins is (us ++ rest)) nothing ∙ ends
-group_begins is e (c ∷ cs) front rest (f, b, at, others, p) ends = token_begins is (tokens.Word (codes "group")) false e f b front rest at p
+group_begins : (is : Token → Bool) → is (tokens.Word (codes "group")) ≡ false → (cs : List ColRef) (prefix rest : List Token) → IsGroup cs prefix → begins is rest ≡ false → begins is (prefix ++ rest) ≡ false
+group_begins is e [] prefix rest nothing ends = ap (λ (us : List Token). begins is (us ++ rest)) nothing ∙ ends
+group_begins is e (c ∷ cs) prefix rest (f, b, at, others, p) ends = token_begins is (tokens.Word (codes "group")) false e f b prefix rest at p
 
 -- ---- ORDER BY
 
-abbrev IsPlace : Phrase ℕ
-IsPlace n ts = (n < 2 ^ 32) × Is (tokens.Number n) ts
+abbrev IsOrdinal : Phrase ℕ
+IsOrdinal n ts = (n < 2 ^ 32) × Is (tokens.Number n) ts
 
-place_is : (t : Token) (n : ℕ) → place_of t ≡ Some n → (n < 2 ^ 32) × (t ≡ tokens.Number n)
-place_is (tokens.Word word) n e = absurd (none-some n e)
-place_is (tokens.Number m) n e =
+ordinal_is : (t : Token) (n : ℕ) → ordinal_of t ≡ Some n → (n < 2 ^ 32) × (t ≡ tokens.Number n)
+ordinal_is (tokens.Word word) n e = absurd (none-some n e)
+ordinal_is (tokens.Number m) n e =
     let g = cond_some (ltb m (2 ^ 32)) m n e in
     subst (λ (k : ℕ). (k < 2 ^ 32) × (tokens.Number m ≡ tokens.Number k)) g.1 (ltb-true m (2 ^ 32) g.0, refl)
-place_is (tokens.Text text) n e = absurd (none-some n e)
-place_is (tokens.Mark mark) n e = absurd (none-some n e)
+ordinal_is (tokens.Text text) n e = absurd (none-some n e)
+ordinal_is (tokens.Symbol symbol) n e = absurd (none-some n e)
 
-place_reads : IsReader IsPlace never place_at
-unfolding place_at
-place_reads = as_reads IsPlace (reads_one place_of (tokens.Number 0) 0 refl)
-    (λ n ts is. let g = place_is is.0 n is.1 in (g.0, is.2 ∙ ap (λ (t : Token). t ∷ []) g.1))
+ordinal_reads : IsReader IsOrdinal never ordinal_at
+unfolding ordinal_at
+ordinal_reads = as_reads IsOrdinal (reads_one ordinal_of (tokens.Number 0) 0 refl)
+    (λ n ts is. let g = ordinal_is is.0 n is.1 in (g.0, is.2 ∙ ap (λ (t : Token). t ∷ []) g.1))
     (λ n ts is. (tokens.Number n, ap (λ (test : Bool). cond test (Some n) None) (lt-ltb n (2 ^ 32) is.0), is.1))
 
 abbrev KeyByChain : Phrase KeyBy
-KeyByChain = Either (Made keys.Col IsColRef) (Made keys.Place IsPlace)
+KeyByChain = Either (Made keys.Col IsColRef) (Made keys.Place IsOrdinal)
 
 key_by_to : (by : KeyBy) (ts : List Token) → KeyByChain by ts → IsKeyBy by ts
 key_by_to by ts (inl (c, is, e)) = subst (λ (x : KeyBy). IsKeyBy x ts) e is
@@ -326,9 +326,9 @@ key_by_from (keys.Place n) ts is = inr (n, is, refl)
 key_by_reads : IsReader IsKeyBy on_column key_by_at
 unfolding key_by_at
 key_by_reads = as_reads IsKeyBy
-    (either_reads is_ident_token (made_reads keys.Col col_ref_reads) (before_reads on_column (λ t e. refl) (made_reads keys.Place place_reads))
-    (λ by front rest p. col_ref_begins p.0 front rest p.1)
-    (λ by front rest p ends. alone_begins is_ident_token (tokens.Number p.0) false refl front rest p.1.1))
+    (either_reads is_ident_token (made_reads keys.Col col_ref_reads) (before_reads on_column (λ t e. refl) (made_reads keys.Place ordinal_reads))
+    (λ by prefix rest p. col_ref_begins p.0 prefix rest p.1)
+    (λ by prefix rest p ends. end_begins is_ident_token (tokens.Number p.0) false refl prefix rest p.1.1))
     key_by_to key_by_from
 
 abbrev on_direction : Token → Bool
@@ -362,18 +362,18 @@ direction_from false ts (inl nothing) = inr (inr (refl, nothing))
 direction_from false ts (inr is) = inr (inl (tt, is, refl))
 direction_from true ts is = inl (tt, is, refl)
 
-asc_begins : (desc : Bool) (front rest : List Token) → AscChain desc front → begins on_direction rest ≡ false → begins (is_word (codes "desc")) (front ++ rest) ≡ false
-asc_begins desc front rest (inl p) ends = alone_begins (is_word (codes "desc")) (tokens.Word (codes "asc")) false refl front rest p.1
-asc_begins desc front rest (inr p) ends = empty_begins (is_word (codes "desc")) on_direction on_direction_desc front rest p.1 ends
+asc_begins : (desc : Bool) (prefix rest : List Token) → AscChain desc prefix → begins on_direction rest ≡ false → begins (is_word (codes "desc")) (prefix ++ rest) ≡ false
+asc_begins desc prefix rest (inl p) ends = end_begins (is_word (codes "desc")) (tokens.Word (codes "asc")) false refl prefix rest p.1
+asc_begins desc prefix rest (inr p) ends = empty_begins (is_word (codes "desc")) on_direction on_direction_desc prefix rest p.1 ends
 
 direction_reads : IsReader IsDirection on_direction direction_at
 unfolding direction_at
 direction_reads = as_reads IsDirection
     (either_reads (is_word (codes "desc")) (before_reads on_direction (λ t e. refl) (made_reads falling (word_reads (codes "desc"))))
     (either_reads (is_word (codes "asc")) (before_reads on_direction (λ t e. refl) (made_reads rising (word_reads (codes "asc")))) (gives_before false on_direction)
-    (λ desc front rest p. alone_begins (is_word (codes "asc")) (tokens.Word (codes "asc")) true refl front rest p.1)
-    (λ desc front rest p ends. empty_begins (is_word (codes "asc")) on_direction on_direction_asc front rest p.1 ends))
-    (λ desc front rest p. alone_begins (is_word (codes "desc")) (tokens.Word (codes "desc")) true refl front rest p.1)
+    (λ desc prefix rest p. end_begins (is_word (codes "asc")) (tokens.Word (codes "asc")) true refl prefix rest p.1)
+    (λ desc prefix rest p ends. empty_begins (is_word (codes "asc")) on_direction on_direction_asc prefix rest p.1 ends))
+    (λ desc prefix rest p. end_begins (is_word (codes "desc")) (tokens.Word (codes "desc")) true refl prefix rest p.1)
     asc_begins)
     direction_to direction_from
 
@@ -389,31 +389,31 @@ on_key_column t e = or_right (on_direction t) (on_column t) e
 abbrev key_of : KeyBy → Bool → Key
 key_of by desc = record { by = by; desc = desc }
 
-direction_follows : (desc : Bool) (behind rest : List Token) → IsDirection desc behind → begins on_key rest ≡ false → begins on_column (behind ++ rest) ≡ false
-direction_follows false behind rest (inl nothing) ends = empty_begins on_column on_key on_key_column behind rest nothing ends
-direction_follows false behind rest (inr at) ends = alone_begins on_column (tokens.Word (codes "asc")) false refl behind rest at
-direction_follows true behind rest at ends = alone_begins on_column (tokens.Word (codes "desc")) false refl behind rest at
+direction_follows : (desc : Bool) (suffix rest : List Token) → IsDirection desc suffix → begins on_key rest ≡ false → begins on_column (suffix ++ rest) ≡ false
+direction_follows false suffix rest (inl nothing) ends = empty_begins on_column on_key on_key_column suffix rest nothing ends
+direction_follows false suffix rest (inr at) ends = end_begins on_column (tokens.Word (codes "asc")) false refl suffix rest at
+direction_follows true suffix rest at ends = end_begins on_column (tokens.Word (codes "desc")) false refl suffix rest at
 
 key_reads : IsReader IsKey on_key key_at
 unfolding key_at
 key_reads = as_reads IsKey
-    (then_reads key_by_reads (λ by. before_reads on_key on_key_direction (made_reads (key_of by) direction_reads)) (λ by made behind rest q ends. direction_follows q.0 behind rest q.1 ends))
+    (then_reads key_by_reads (λ by. before_reads on_key on_key_direction (made_reads (key_of by) direction_reads)) (λ by made suffix rest q ends. direction_follows q.0 suffix rest q.1 ends))
     (λ key ts (by, f, b, is, (desc, is_direction, e), p). subst (λ (x : Key). IsKey x ts) e (f, b, is, is_direction, p))
     (λ key ts (f, b, is, is_direction, p). (key.by, f, b, is, (key.desc, is_direction, refl), p))
 
-comma_ends_key : on_key (tokens.Mark marks.Comma) ≡ false
-unfolding same_mark
+comma_ends_key : on_key (tokens.Symbol symbols.Comma) ≡ false
+unfolding same_symbol
 comma_ends_key = refl
 
 abbrev OrderChain : Phrase (List Key)
-OrderChain = Then (IsToken (tokens.Word (codes "order"))) (λ order. Then (IsToken (tokens.Word (codes "by"))) (λ by. AtMost 16 (IsListed IsKey)))
+OrderChain = Then (IsToken (tokens.Word (codes "order"))) (λ order. Then (IsToken (tokens.Word (codes "by"))) (λ by. AtMost 16 (IsCommaList IsKey)))
 
-order_by_reads : IsReader OrderChain (on_listed on_key) order_by_at
+order_by_reads : IsReader OrderChain (on_list on_key) order_by_at
 unfolding order_by_at
-order_by_reads = behind_reads (word_reads (codes "order")) (λ order. behind_reads (word_reads (codes "by")) (λ by. listed_reads 15 key_reads comma_ends_key))
+order_by_reads = suffix_reads (word_reads (codes "order")) (λ order. suffix_reads (word_reads (codes "by")) (λ by. list_reads 15 key_reads comma_ends_key))
 
 abbrev on_order : Token → Bool
-on_order t = is_word (codes "order") t || on_listed on_key t
+on_order t = is_word (codes "order") t || on_list on_key t
 
 order_to : (ks : List Key) (ts : List Token) → Either OrderChain (Empty []) ks ts → IsOrder ks ts
 order_to [] ts (inl (order, f, b, is, (by, f1, b1, is_by, list, p1), p)) = absurd list.1
@@ -427,18 +427,18 @@ order_from (k ∷ ks) ts (f, b, is, (f1, b1, is_by, list, p1), p) = inl (tt, f, 
 order_reads : IsReader IsOrder on_order order_at
 unfolding order_at
 order_reads = as_reads IsOrder
-    (either_reads (is_word (codes "order")) (before_reads on_order (λ t e. or_right (is_word (codes "order") t) (on_listed on_key t) e) order_by_reads) (gives_before [] on_order)
-    (λ ks front rest p. token_begins (is_word (codes "order")) (tokens.Word (codes "order")) true refl p.1 p.2 front rest p.3 p.5)
-    (λ ks front rest p ends. empty_begins (is_word (codes "order")) on_order (λ t e. or_left (is_word (codes "order") t) (on_listed on_key t) e) front rest p.1 ends))
+    (either_reads (is_word (codes "order")) (before_reads on_order (λ t e. or_right (is_word (codes "order") t) (on_list on_key t) e) order_by_reads) (gives_before [] on_order)
+    (λ ks prefix rest p. token_begins (is_word (codes "order")) (tokens.Word (codes "order")) true refl p.1 p.2 prefix rest p.3 p.5)
+    (λ ks prefix rest p ends. empty_begins (is_word (codes "order")) on_order (λ t e. or_left (is_word (codes "order") t) (on_list on_key t) e) prefix rest p.1 ends))
     order_to order_from
 
-order_begins : (is : Token → Bool) → is (tokens.Word (codes "order")) ≡ false → (ks : List Key) (front rest : List Token) → IsOrder ks front → begins is rest ≡ false → begins is (front ++ rest) ≡ false
-order_begins is e [] front rest nothing ends = ap (λ (us : List Token). begins is (us ++ rest)) nothing ∙ ends
-order_begins is e (k ∷ ks) front rest (f, b, at, others, p) ends = token_begins is (tokens.Word (codes "order")) false e f b front rest at p
+order_begins : (is : Token → Bool) → is (tokens.Word (codes "order")) ≡ false → (ks : List Key) (prefix rest : List Token) → IsOrder ks prefix → begins is rest ≡ false → begins is (prefix ++ rest) ≡ false
+order_begins is e [] prefix rest nothing ends = ap (λ (us : List Token). begins is (us ++ rest)) nothing ∙ ends
+order_begins is e (k ∷ ks) prefix rest (f, b, at, others, p) ends = token_begins is (tokens.Word (codes "order")) false e f b prefix rest at p
 
 -- ---- queries
 
--- what goes on with the last part of a query
+-- the tokens that continue the last part of a query
 abbrev pub on_select : Token → Bool
 on_select t = on_order t || (on_group t || (on_where t || on_tables t))
 
@@ -487,36 +487,36 @@ tables_no_order : on_tables (tokens.Word (codes "order")) ≡ false
 unfolding is_reserved
 tables_no_order = refl
 
-tables_follow : (distinct : Bool) (found : Option (List Item)) (tables : List TableRef) (select : Select) (behind rest : List Token) → WhereEnd distinct found tables select behind → begins on_select rest ≡ false → begins on_tables (behind ++ rest) ≡ false
-tables_follow distinct found tables select behind rest (clauses, f, b, is_where, (group, f1, b1, is_group, (order, is_order, e), p1), p) ends =
-    behind_begins on_tables behind f b rest false p (where_begins on_tables tables_no_where clauses f (b ++ rest) is_where
-    (behind_begins on_tables b f1 b1 rest false p1 (group_begins on_tables tables_no_group group f1 (b1 ++ rest) is_group
+tables_follow : (distinct : Bool) (found : Option (List Item)) (tables : List TableRef) (select : Select) (suffix rest : List Token) → WhereEnd distinct found tables select suffix → begins on_select rest ≡ false → begins on_tables (suffix ++ rest) ≡ false
+tables_follow distinct found tables select suffix rest (clauses, f, b, is_where, (group, f1, b1, is_group, (order, is_order, e), p1), p) ends =
+    suffix_begins on_tables suffix f b rest false p (where_begins on_tables tables_no_where clauses f (b ++ rest) is_where
+    (suffix_begins on_tables b f1 b1 rest false p1 (group_begins on_tables tables_no_group group f1 (b1 ++ rest) is_group
     (order_begins on_tables tables_no_order order b1 rest is_order (begins_fewer on_tables on_select on_select_tables rest ends)))))
 
-where_follows : (distinct : Bool) (found : Option (List Item)) (tables : List TableRef) (clauses : List Clause) (select : Select) (behind rest : List Token) → GroupEnd distinct found tables clauses select behind → begins on_select rest ≡ false → begins on_where (behind ++ rest) ≡ false
-where_follows distinct found tables clauses select behind rest (group, f, b, is_group, (order, is_order, e), p) ends =
-    behind_begins on_where behind f b rest false p (group_begins on_where where_no_group group f (b ++ rest) is_group
+where_follows : (distinct : Bool) (found : Option (List Item)) (tables : List TableRef) (clauses : List Clause) (select : Select) (suffix rest : List Token) → GroupEnd distinct found tables clauses select suffix → begins on_select rest ≡ false → begins on_where (suffix ++ rest) ≡ false
+where_follows distinct found tables clauses select suffix rest (group, f, b, is_group, (order, is_order, e), p) ends =
+    suffix_begins on_where suffix f b rest false p (group_begins on_where where_no_group group f (b ++ rest) is_group
     (order_begins on_where where_no_order order b rest is_order (begins_fewer on_where on_select on_select_where rest ends)))
 
-group_follows : (distinct : Bool) (found : Option (List Item)) (tables : List TableRef) (clauses : List Clause) (group : List ColRef) (select : Select) (behind rest : List Token) → OrderEnd distinct found tables clauses group select behind → begins on_select rest ≡ false → begins on_group (behind ++ rest) ≡ false
-group_follows distinct found tables clauses group select behind rest (order, is_order, e) ends =
-    order_begins on_group group_no_order order behind rest is_order (begins_fewer on_group on_select on_select_group rest ends)
+group_follows : (distinct : Bool) (found : Option (List Item)) (tables : List TableRef) (clauses : List Clause) (group : List ColRef) (select : Select) (suffix rest : List Token) → OrderEnd distinct found tables clauses group select suffix → begins on_select rest ≡ false → begins on_group (suffix ++ rest) ≡ false
+group_follows distinct found tables clauses group select suffix rest (order, is_order, e) ends =
+    order_begins on_group group_no_order order suffix rest is_order (begins_fewer on_group on_select on_select_group rest ends)
 
-items_no_from : on_listed on_column (tokens.Word (codes "from")) ≡ false
+items_no_from : on_list on_column (tokens.Word (codes "from")) ≡ false
 items_no_from = refl
 
 abbrev FromEnd : Bool → Option (List Item) → Phrase Select
-FromEnd distinct found = Then (IsToken (tokens.Word (codes "from"))) (λ word. Then (AtMost 6 (IsListed IsTableRef)) (WhereEnd distinct found))
+FromEnd distinct found = Then (IsToken (tokens.Word (codes "from"))) (λ word. Then (AtMost 6 (IsCommaList IsTableRef)) (WhereEnd distinct found))
 
-items_follow : (distinct : Bool) (found : Option (List Item)) (select : Select) (behind rest : List Token) → FromEnd distinct found select behind → begins (on_listed on_column) (behind ++ rest) ≡ false
-items_follow distinct found select behind rest q = token_begins (on_listed on_column) (tokens.Word (codes "from")) false items_no_from q.1 q.2 behind rest q.3 q.5
+items_follow : (distinct : Bool) (found : Option (List Item)) (select : Select) (suffix rest : List Token) → FromEnd distinct found select suffix → begins (on_list on_column) (suffix ++ rest) ≡ false
+items_follow distinct found select suffix rest q = token_begins (on_list on_column) (tokens.Word (codes "from")) false items_no_from q.1 q.2 suffix rest q.3 q.5
 
-distinct_follows : (distinct : Bool) (select : Select) (behind rest : List Token) → Then IsItems (FromEnd distinct) select behind → begins is_distinct (behind ++ rest) ≡ false
-distinct_follows distinct select behind rest (found, f, b, is, q, p) = behind_begins is_distinct behind f b rest false p (items_no_distinct found f (b ++ rest) is)
+distinct_follows : (distinct : Bool) (select : Select) (suffix rest : List Token) → Then IsItems (FromEnd distinct) select suffix → begins is_distinct (suffix ++ rest) ≡ false
+distinct_follows distinct select suffix rest (found, f, b, is, q, p) = suffix_begins is_distinct suffix f b rest false p (items_no_distinct found f (b ++ rest) is)
 
 from_reads : (distinct : Bool) (found : Option (List Item)) → IsReader (FromEnd distinct found) on_select
-    (λ ts. word_at (codes "from") ts >>= λ from. listed_at table_ref_at 5 from.1 >>= λ tables. where_at tables.1 >>= λ clauses. group_at clauses.1 >>= λ group. order_at group.1 >>= λ order. Got (select_of distinct found tables.0 clauses.0 group.0 order.0) order.1)
-from_reads distinct found = behind_reads (word_reads (codes "from")) (λ word. then_reads (listed_reads 5 table_ref_reads comma_ends_table)
+    (λ ts. word_at (codes "from") ts >>= λ from. list_at table_ref_at 5 from.1 >>= λ tables. where_at tables.1 >>= λ clauses. group_at clauses.1 >>= λ group. order_at group.1 >>= λ order. Got (select_of distinct found tables.0 clauses.0 group.0 order.0) order.1)
+from_reads distinct found = suffix_reads (word_reads (codes "from")) (λ word. then_reads (list_reads 5 table_ref_reads comma_ends_table)
     (λ tables. then_reads where_reads (λ clauses. then_reads group_reads (λ group. before_reads on_select on_select_order (made_reads (select_of distinct found tables clauses group) order_reads))
     (group_follows distinct found tables clauses)) (where_follows distinct found tables)) (tables_follow distinct found))
 
@@ -534,6 +534,6 @@ select_from select ts (f, b, is, (f1, b1, is_distinct, (f2, b2, is_items, (f3, b
 pub select_reads : IsReader IsSelect on_select select_at
 unfolding select_at
 select_reads = as_reads IsSelect
-    (behind_reads (word_reads (codes "select")) (λ word. then_reads distinct_reads (λ distinct. then_reads items_reads (from_reads distinct) (λ found select behind rest q ends. items_follow distinct found select behind rest q))
-    (λ distinct select behind rest q ends. distinct_follows distinct select behind rest q)))
+    (suffix_reads (word_reads (codes "select")) (λ word. then_reads distinct_reads (λ distinct. then_reads items_reads (from_reads distinct) (λ found select suffix rest q ends. items_follow distinct found select suffix rest q))
+    (λ distinct select suffix rest q ends. distinct_follows distinct select suffix rest q)))
     select_to select_from

@@ -1,5 +1,5 @@
--- What every split has: a start for each token, starts that rise and lie before its end, and an end within the text, which is
--- the text's end exactly where the split is whole.
+-- Properties of every split: a start for each token, ascending starts before its end, and an end within the text, which is
+-- the text's end exactly if the split is whole.
 use Rattle.std.proofs.Common.{◌≡◌, ℕ, zero, suc, ◌+◌, ◌-◌, ◌<◌, ◌≤◌, Bool, true, false, cond, List, [], ◌∷◌, length, get_or, Option, Some, None, refl, ap, arith, subst}
 use Rattle.std.specs.List.{slice_get, All, AllPairs}
 use Rattle.std.proofs.lemmas.List.Elements.{All-nil, All-cons, All-weaker}
@@ -7,12 +7,12 @@ use Rattle.std.proofs.lemmas.List.Kept.{AllPairs-cons}
 use Rattle.std.proofs.lemmas.Option.{get_or_from_slice_get, slice_get_within}
 use Rattle.rs_parse.specs.declared.token_split.Split.{Split}
 use Rattle.rs_ast.specs.declared.token.Token.{Token}
-use Rattle.rs_parse.specs.Tokens.{is_blank, token_at, ends_at, put_first, taken_at, split_behind, split_of}
+use Rattle.rs_parse.specs.Tokens.{is_blank, token_at, ends_at, put_first, taken_at, split_suffix, split_of}
 
--- a split of bytes that begin at one place and end at another
-record IsPlaced (at stop : ℕ) (split : Split) : Type 0 where
+-- a split of bytes that begin at one offset and end at another
+record IsSplitBetween (at stop : ℕ) (split : Split) : Type 0 where
   one_each : length split.starts ≡ length split.tokens
-  behind : at ≤ split.end
+  from_start : at ≤ split.end
   within : split.end ≤ stop
   whole : split.whole ≡ true → split.end ≡ stop
   cut : split.whole ≡ false → split.end < stop
@@ -23,10 +23,10 @@ record IsPlaced (at stop : ℕ) (split : Split) : Type 0 where
 no_pairs : (R : ℕ → ℕ → Type 0) → AllPairs R []
 no_pairs R = λ i j d before within. absurd (omega arith)
 
-over : (at stop : ℕ) → stop ≡ at + 0 → IsPlaced at stop (ends_at at true)
+over : (at stop : ℕ) → stop ≡ at + 0 → IsSplitBetween at stop (ends_at at true)
 over at stop e = record {
   one_each = refl;
-  behind = omega arith;
+  from_start = omega arith;
   within = omega arith;
   whole = λ w. omega arith;
   cut = λ c. absurd cc;
@@ -35,10 +35,10 @@ over at stop e = record {
   rise = no_pairs (λ (one later : ℕ). one < later);
 }
 
-stopped : (at stop : ℕ) → at < stop → IsPlaced at stop (ends_at at false)
+stopped : (at stop : ℕ) → at < stop → IsSplitBetween at stop (ends_at at false)
 stopped at stop before = record {
   one_each = refl;
-  behind = omega arith;
+  from_start = omega arith;
   within = omega arith;
   whole = λ w. absurd cc;
   cut = λ c. before;
@@ -47,10 +47,10 @@ stopped at stop before = record {
   rise = no_pairs (λ (one later : ℕ). one < later);
 }
 
-earlier : (at stop : ℕ) (split : Split) → IsPlaced (at + 1) stop split → IsPlaced at stop split
+earlier : (at stop : ℕ) (split : Split) → IsSplitBetween (at + 1) stop split → IsSplitBetween at stop split
 earlier at stop split p = record {
   one_each = p.one_each;
-  behind = omega arith;
+  from_start = omega arith;
   within = p.within;
   whole = p.whole;
   cut = p.cut;
@@ -59,14 +59,14 @@ earlier at stop split p = record {
   rise = p.rise;
 }
 
-one_first : (at stop : ℕ) (token : Token) (split : Split) → IsPlaced (at + 1) stop split → IsPlaced at stop (put_first at token split)
+one_first : (at stop : ℕ) (token : Token) (split : Split) → IsSplitBetween (at + 1) stop split → IsSplitBetween at stop (put_first at token split)
 one_first at stop token split p =
     let q = earlier at stop split p in
-    let before : at < split.end = omega (arith, p.behind) in
+    let before : at < split.end = omega (arith, p.from_start) in
     let later : All (λ (start : ℕ). at < start) split.starts = All-weaker (λ (start : ℕ). at + 1 ≤ start) (λ (start : ℕ). at < start) (λ start h. omega arith) split.starts p.from in
     record {
       one_each = ap suc p.one_each;
-      behind = q.behind;
+      from_start = q.from_start;
       within = p.within;
       whole = p.whole;
       cut = p.cut;
@@ -76,26 +76,26 @@ one_first at stop token split p =
     }
 
 taken : (at stop : ℕ) (read : Option (Token × List ℕ)) (others : Token × List ℕ → Split)
-    → at < stop → ((token : Token × List ℕ) → IsPlaced (at + 1) stop (others token)) → IsPlaced at stop (taken_at at read others)
-taken at stop None others before behind = stopped at stop before
-taken at stop (Some token) others before behind = one_first at stop token.0 (others token) (behind token)
+    → at < stop → ((token : Token × List ℕ) → IsSplitBetween (at + 1) stop (others token)) → IsSplitBetween at stop (taken_at at read others)
+taken at stop None others before suffix = stopped at stop before
+taken at stop (Some token) others before suffix = one_first at stop token.0 (others token) (suffix token)
 
-either : (blank : Bool) (at stop : ℕ) (x y : Split) → IsPlaced at stop x → IsPlaced at stop y → IsPlaced at stop (cond blank x y)
+either : (blank : Bool) (at stop : ℕ) (x y : Split) → IsSplitBetween at stop x → IsSplitBetween at stop y → IsSplitBetween at stop (cond blank x y)
 either true at stop x y p q = p
 either false at stop x y p q = q
 
-placed : (at inside stop : ℕ) (bytes : List ℕ) → stop ≡ at + length bytes → IsPlaced at stop (split_behind at inside bytes)
+placed : (at inside stop : ℕ) (bytes : List ℕ) → stop ≡ at + length bytes → IsSplitBetween at stop (split_suffix at inside bytes)
 placed at inside stop [] e = over at stop e
-placed at (suc inside) stop (b ∷ bytes) e = earlier at stop (split_behind (at + 1) inside bytes) (placed (at + 1) inside stop bytes (omega arith))
+placed at (suc inside) stop (b ∷ bytes) e = earlier at stop (split_suffix (at + 1) inside bytes) (placed (at + 1) inside stop bytes (omega arith))
 placed at zero stop (b ∷ bytes) e =
-    let step = λ (token : Token × List ℕ). split_behind (at + 1) (length bytes - length token.1) bytes in
-    either (is_blank b) at stop (split_behind (at + 1) 0 bytes) (taken_at at (token_at b bytes) step)
-    (earlier at stop (split_behind (at + 1) 0 bytes) (placed (at + 1) 0 stop bytes (omega arith)))
+    let step = λ (token : Token × List ℕ). split_suffix (at + 1) (length bytes - length token.1) bytes in
+    either (is_blank b) at stop (split_suffix (at + 1) 0 bytes) (taken_at at (token_at b bytes) step)
+    (earlier at stop (split_suffix (at + 1) 0 bytes) (placed (at + 1) 0 stop bytes (omega arith)))
     (taken at stop (token_at b bytes) step (omega arith) (λ token. placed (at + 1) (length bytes - length token.1) stop bytes (omega arith)))
 
 -- ---- of a text
 
-placed_in : (text : List ℕ) → IsPlaced 0 (length text) (split_of text)
+placed_in : (text : List ℕ) → IsSplitBetween 0 (length text) (split_of text)
 placed_in text = placed 0 0 (length text) text (omega arith)
 
 pub length-starts : (text : List ℕ) → length (split_of text).starts ≡ length (split_of text).tokens

@@ -10,7 +10,7 @@ abbrev pub IsFormed : Token → Type 0
 IsFormed (tokens.Word word) = is_ident word ≡ true
 IsFormed (tokens.Number n) = n ≤ 9223372036854775807
 IsFormed (tokens.Text text) = is_txt text ≡ true
-IsFormed (tokens.Mark mark) = Unit {0}
+IsFormed (tokens.Symbol symbol) = Unit {0}
 
 abbrev pub AreFormed : List Token → Type 0
 AreFormed ts = AllByRecursion IsFormed ts

@@ -1,4 +1,4 @@
--- Which lists of tokens spell a request.
+-- The grammar: the lists of tokens that are a request.
 --
 --     request   = statement [ ";" ]
 --     statement = CREATE TABLE name "(" column { "," column } ")"
@@ -33,9 +33,9 @@
 --     term      = id | literal | ":" id
 --     literal   = [ "-" ] number | text
 --
--- An id is a word that isn't reserved, and a site a number from 1 to 16. There are at most 16 columns, items, columns of a
--- group, keys, parameters, values of an EXECUTE or of a tuple, and sets, at most 6 refs and 8 statements of a program. A
--- literal's number is at most 2^63 - 1, and a key's number at most 2^32 - 1.
+-- An id is a word that isn't reserved, and a site a number from 1 to 16. There are at most 16 columns, items, columns of
+-- GROUP BY, keys, parameters, values of an EXECUTE or of a tuple, and assignments, at most 6 refs, and at most 8
+-- statements of a program. A literal's number is at most 2 ^ 63 - 1, and a key's number at most 2 ^ 32 - 1.
 use Rattle.std.specs.Prelude.{◌≡◌, ℕ, ◌^◌, ◌<◌, ◌≤◌, Bool, true, false, List, [], ◌∷◌, Option, Some, None, pos, neg_ℤ, ◌⊎◌, codes}
 use Rattle.rs_base.specs.declared.value.Kind.{Kind}
 use Rattle.rs_base.specs.declared.value.Kind.TheVariants as kinds
@@ -67,20 +67,20 @@ use Rattle.rs_ast.specs.declared.stmt.Dml.{Dml}
 use Rattle.rs_ast.specs.declared.stmt.Dml.TheVariants as dmls
 use Rattle.rs_ast.specs.declared.stmt.Stmt.{Stmt}
 use Rattle.rs_ast.specs.declared.stmt.Stmt.TheVariants as stmts
-use Rattle.rs_ast.specs.declared.token.Mark.{Mark}
-use Rattle.rs_ast.specs.declared.token.Mark.TheVariants as marks
+use Rattle.rs_ast.specs.declared.token.Symbol.{Symbol}
+use Rattle.rs_ast.specs.declared.token.Symbol.TheVariants as symbols
 use Rattle.rs_ast.specs.declared.token.Token.{Token}
 use Rattle.rs_ast.specs.declared.token.Token.TheVariants as tokens
 use Rattle.rs_ast.specs.Reserved.{is_reserved}
 use Rattle.rs_parse.specs.Phrases.{Phrase, Is, Spell, Optional, IsSeries, IsList, AtMost}
 
--- ---- words, marks and numbers
+-- ---- words, symbols and numbers
 
 abbrev pub Keyword : List ℕ → List Token → Type 0
 Keyword word = Is (tokens.Word word)
 
-abbrev pub Marked : Mark → List Token → Type 0
-Marked mark = Is (tokens.Mark mark)
+abbrev pub IsSymbol : Symbol → List Token → Type 0
+IsSymbol symbol = Is (tokens.Symbol symbol)
 
 -- an id: a word that isn't reserved
 abbrev pub IsIdent : Phrase (List ℕ)
@@ -89,32 +89,32 @@ IsIdent name ts = (is_reserved name ≡ false) × Is (tokens.Word name) ts
 abbrev pub IsSite : Phrase ℕ
 IsSite site ts = (1 ≤ site) × (site ≤ 16) × Is (tokens.Number site) ts
 
--- items with commas between them
-abbrev pub IsListed : {A : Type 0} → Phrase A → Phrase (List A)
-IsListed P = IsList (tokens.Mark marks.Comma) P
+-- items separated by commas
+abbrev pub IsCommaList : {A : Type 0} → Phrase A → Phrase (List A)
+IsCommaList P = IsList (tokens.Symbol symbols.Comma) P
 
--- the same, or none
-abbrev pub IsListedOrNone : {A : Type 0} → Phrase A → Phrase (List A)
-IsListedOrNone P [] ts = ts ≡ []
-IsListedOrNone P (x ∷ xs) ts = IsListed P (x ∷ xs) ts
+-- items separated by commas, or none
+abbrev pub IsCommaListOrNone : {A : Type 0} → Phrase A → Phrase (List A)
+IsCommaListOrNone P [] ts = ts ≡ []
+IsCommaListOrNone P (x ∷ xs) ts = IsCommaList P (x ∷ xs) ts
 
 -- ---- names and columns
 
 abbrev pub IsAtSite : Phrase ℕ
-IsAtSite site = Spell (Marked marks.At ∷ IsSite site ∷ [])
+IsAtSite site = Spell (IsSymbol symbols.At ∷ IsSite site ∷ [])
 
 -- Without a dot the id is the object and the site its birth site; with one the first id and site are the creator.
 abbrev pub IsNameOf : Option (List ℕ) → NameText → List Token → Type 0
 IsNameOf None name ts = (name.creator_site ≡ None) × Spell (IsIdent name.object ∷ Optional IsAtSite name.birth ∷ []) ts
 IsNameOf (Some creator) name ts =
-    Spell (IsIdent creator ∷ Optional IsAtSite name.creator_site ∷ Marked marks.Dot ∷ IsIdent name.object ∷ Optional IsAtSite name.birth ∷ []) ts
+    Spell (IsIdent creator ∷ Optional IsAtSite name.creator_site ∷ IsSymbol symbols.Dot ∷ IsIdent name.object ∷ Optional IsAtSite name.birth ∷ []) ts
 
 abbrev pub IsName : Phrase NameText
 IsName name = IsNameOf name.creator name
 
 abbrev pub IsColRefOf : Option (List ℕ) → List ℕ → List Token → Type 0
 IsColRefOf None column = IsIdent column
-IsColRefOf (Some table) column = Spell (IsIdent table ∷ Marked marks.Dot ∷ IsIdent column ∷ [])
+IsColRefOf (Some table) column = Spell (IsIdent table ∷ IsSymbol symbols.Dot ∷ IsIdent column ∷ [])
 
 abbrev pub IsColRef : Phrase ColRef
 IsColRef c = IsColRefOf c.table c.column
@@ -130,30 +130,30 @@ IsColumn column = Spell (IsIdent column.name ∷ IsKind column.kind ∷ [])
 
 abbrev pub IsLiteral : Phrase Value
 IsLiteral (values.Int z) ts = (n : ℕ) × (n < 2 ^ 63)
-    × (((z ≡ pos n) × Is (tokens.Number n) ts) ⊎ ((z ≡ neg_ℤ (pos n)) × Spell (Marked marks.Minus ∷ Is (tokens.Number n) ∷ []) ts))
+    × (((z ≡ pos n) × Is (tokens.Number n) ts) ⊎ ((z ≡ neg_ℤ (pos n)) × Spell (IsSymbol symbols.Minus ∷ Is (tokens.Number n) ∷ []) ts))
 IsLiteral (values.Text text) ts = Is (tokens.Text text) ts
 
 abbrev pub IsParam : Phrase (List ℕ)
-IsParam param = Spell (Marked marks.Colon ∷ IsIdent param ∷ [])
+IsParam param = Spell (IsSymbol symbols.Colon ∷ IsIdent param ∷ [])
 
 abbrev pub IsTerm : Phrase Term
 IsTerm (terms.Col column) = IsIdent column
 IsTerm (terms.Lit value) = IsLiteral value
 IsTerm (terms.Param param) = IsParam param
 
--- what an INSERT puts into a column
+-- a value of INSERT
 abbrev pub IsVal : Phrase Term
 IsVal (terms.Col column) ts = ⊥
 IsVal (terms.Lit value) ts = IsLiteral value ts
 IsVal (terms.Param param) ts = IsParam param ts
 
 abbrev pub IsTuple : Phrase (List Term)
-IsTuple row = Spell (Marked marks.Open ∷ AtMost 16 (IsListed IsVal) row ∷ Marked marks.Close ∷ [])
+IsTuple row = Spell (IsSymbol symbols.Open ∷ AtMost 16 (IsCommaList IsVal) row ∷ IsSymbol symbols.Close ∷ [])
 
 abbrev pub IsArith : Phrase Arith
-IsArith ariths.Add = Marked marks.Plus
-IsArith ariths.Sub = Marked marks.Minus
-IsArith ariths.Mul = Marked marks.Star
+IsArith ariths.Add = IsSymbol symbols.Plus
+IsArith ariths.Sub = IsSymbol symbols.Minus
+IsArith ariths.Mul = IsSymbol symbols.Star
 
 abbrev pub IsMoreTerm : Phrase (Arith × Term)
 IsMoreTerm more = Spell (IsArith more.0 ∷ IsTerm more.1 ∷ [])
@@ -162,17 +162,17 @@ abbrev pub IsExpr : Phrase Expr
 IsExpr expr = Spell (IsTerm expr.first ∷ Optional IsMoreTerm expr.more ∷ [])
 
 abbrev pub IsSet : Phrase Set
-IsSet set = Spell (IsIdent set.column ∷ Marked marks.Equal ∷ IsExpr set.expr ∷ [])
+IsSet set = Spell (IsIdent set.column ∷ IsSymbol symbols.Equal ∷ IsExpr set.expr ∷ [])
 
 -- ---- WHERE
 
 abbrev pub IsOp : Phrase Op
-IsOp ops.Eq = Marked marks.Equal
-IsOp ops.Ne = Marked marks.NotEqual
-IsOp ops.Lt = Marked marks.Less
-IsOp ops.Le = Marked marks.LessOrEqual
-IsOp ops.Gt = Marked marks.Greater
-IsOp ops.Ge = Marked marks.GreaterOrEqual
+IsOp ops.Eq = IsSymbol symbols.Equal
+IsOp ops.Ne = IsSymbol symbols.NotEqual
+IsOp ops.Lt = IsSymbol symbols.Less
+IsOp ops.Le = IsSymbol symbols.LessOrEqual
+IsOp ops.Gt = IsSymbol symbols.Greater
+IsOp ops.Ge = IsSymbol symbols.GreaterOrEqual
 
 abbrev pub IsOperand : Phrase Operand
 IsOperand (operands.Col c) = IsColRef c
@@ -182,11 +182,11 @@ IsOperand (operands.Param param) = IsParam param
 abbrev pub IsCmp : Phrase Cmp
 IsCmp cmp = Spell (IsColRef cmp.left ∷ IsOp cmp.op ∷ IsOperand cmp.right ∷ [])
 
--- one comparison, or some in brackets of which one has to hold
+-- one comparison, or a disjunction of comparisons in parentheses
 abbrev pub IsClause : Phrase Clause
 IsClause clause ts =
     ((cmp : Cmp) × (clause.any ≡ cmp ∷ []) × IsCmp cmp ts)
-    ⊎ Spell (Marked marks.Open ∷ IsList (tokens.Word (codes "or")) IsCmp clause.any ∷ Marked marks.Close ∷ []) ts
+    ⊎ Spell (IsSymbol symbols.Open ∷ IsList (tokens.Word (codes "or")) IsCmp clause.any ∷ IsSymbol symbols.Close ∷ []) ts
 
 abbrev pub IsWhere : Phrase (List Clause)
 IsWhere [] ts = ts ≡ []
@@ -195,18 +195,18 @@ IsWhere (clause ∷ clauses) ts = Spell (Keyword (codes "where") ∷ IsList (tok
 -- ---- queries
 
 abbrev pub IsOfColumn : List ℕ → ColRef → List Token → Type 0
-IsOfColumn word c = Spell (Keyword word ∷ Marked marks.Open ∷ IsColRef c ∷ Marked marks.Close ∷ [])
+IsOfColumn word c = Spell (Keyword word ∷ IsSymbol symbols.Open ∷ IsColRef c ∷ IsSymbol symbols.Close ∷ [])
 
 abbrev pub IsItem : Phrase Item
 IsItem (items.Col c) = IsColRef c
-IsItem items.Count = Spell (Keyword (codes "count") ∷ Marked marks.Open ∷ Marked marks.Star ∷ Marked marks.Close ∷ [])
+IsItem items.Count = Spell (Keyword (codes "count") ∷ IsSymbol symbols.Open ∷ IsSymbol symbols.Star ∷ IsSymbol symbols.Close ∷ [])
 IsItem (items.Sum c) = IsOfColumn (codes "sum") c
 IsItem (items.Min c) = IsOfColumn (codes "min") c
 IsItem (items.Max c) = IsOfColumn (codes "max") c
 
 abbrev pub IsItems : Phrase (Option (List Item))
-IsItems None = Marked marks.Star
-IsItems (Some items) = AtMost 16 (IsListed IsItem) items
+IsItems None = IsSymbol symbols.Star
+IsItems (Some items) = AtMost 16 (IsCommaList IsItem) items
 
 abbrev pub IsDistinct : Phrase Bool
 IsDistinct false ts = ts ≡ []
@@ -217,7 +217,7 @@ IsTableRef table = Spell (IsName table.name ∷ Optional IsIdent table.alias ∷
 
 abbrev pub IsGroup : Phrase (List ColRef)
 IsGroup [] ts = ts ≡ []
-IsGroup (c ∷ cs) ts = Spell (Keyword (codes "group") ∷ Keyword (codes "by") ∷ AtMost 16 (IsListed IsColRef) (c ∷ cs) ∷ []) ts
+IsGroup (c ∷ cs) ts = Spell (Keyword (codes "group") ∷ Keyword (codes "by") ∷ AtMost 16 (IsCommaList IsColRef) (c ∷ cs) ∷ []) ts
 
 abbrev pub IsKeyBy : Phrase KeyBy
 IsKeyBy (keys.Col c) ts = IsColRef c ts
@@ -232,56 +232,56 @@ IsKey key = Spell (IsKeyBy key.by ∷ IsDirection key.desc ∷ [])
 
 abbrev pub IsOrder : Phrase (List Key)
 IsOrder [] ts = ts ≡ []
-IsOrder (key ∷ keys) ts = Spell (Keyword (codes "order") ∷ Keyword (codes "by") ∷ AtMost 16 (IsListed IsKey) (key ∷ keys) ∷ []) ts
+IsOrder (key ∷ keys) ts = Spell (Keyword (codes "order") ∷ Keyword (codes "by") ∷ AtMost 16 (IsCommaList IsKey) (key ∷ keys) ∷ []) ts
 
 abbrev pub IsSelect : Phrase Select
 IsSelect select = Spell (
     Keyword (codes "select") ∷ IsDistinct select.distinct ∷ IsItems select.items
-    ∷ Keyword (codes "from") ∷ AtMost 6 (IsListed IsTableRef) select.from
+    ∷ Keyword (codes "from") ∷ AtMost 6 (IsCommaList IsTableRef) select.from
     ∷ IsWhere select.clauses ∷ IsGroup select.group ∷ IsOrder select.order ∷ [])
 
 -- ---- statements
 
 abbrev pub IsDml : Phrase Dml
 IsDml (dmls.Select select) = IsSelect select
-IsDml (dmls.Insert name rows) = Spell (Keyword (codes "insert") ∷ Keyword (codes "into") ∷ IsName name ∷ Keyword (codes "values") ∷ IsListed IsTuple rows ∷ [])
-IsDml (dmls.Update name sets clauses) = Spell (Keyword (codes "update") ∷ IsName name ∷ Keyword (codes "set") ∷ AtMost 16 (IsListed IsSet) sets ∷ IsWhere clauses ∷ [])
+IsDml (dmls.Insert name rows) = Spell (Keyword (codes "insert") ∷ Keyword (codes "into") ∷ IsName name ∷ Keyword (codes "values") ∷ IsCommaList IsTuple rows ∷ [])
+IsDml (dmls.Update name sets clauses) = Spell (Keyword (codes "update") ∷ IsName name ∷ Keyword (codes "set") ∷ AtMost 16 (IsCommaList IsSet) sets ∷ IsWhere clauses ∷ [])
 IsDml (dmls.Delete name clauses) = Spell (Keyword (codes "delete") ∷ Keyword (codes "from") ∷ IsName name ∷ IsWhere clauses ∷ [])
 
--- a statement of a program, and its semicolon
+-- a statement of a program, with its semicolon
 abbrev pub IsDmlEnded : Phrase Dml
-IsDmlEnded dml = Spell (IsDml dml ∷ Marked marks.Semicolon ∷ [])
+IsDmlEnded dml = Spell (IsDml dml ∷ IsSymbol symbols.Semicolon ∷ [])
 
--- one to eight of these
+-- one to eight statements of a program
 abbrev pub IsBody : Phrase (List Dml)
 IsBody [] ts = ⊥
 IsBody (dml ∷ dmls) ts = AtMost 8 (IsSeries IsDmlEnded) (dml ∷ dmls) ts
 
 abbrev pub IsStmt : Phrase Stmt
 IsStmt (stmts.CreateTable name columns) =
-    Spell (Keyword (codes "create") ∷ Keyword (codes "table") ∷ IsName name ∷ Marked marks.Open ∷ AtMost 16 (IsListed IsColumn) columns ∷ Marked marks.Close ∷ [])
+    Spell (Keyword (codes "create") ∷ Keyword (codes "table") ∷ IsName name ∷ IsSymbol symbols.Open ∷ AtMost 16 (IsCommaList IsColumn) columns ∷ IsSymbol symbols.Close ∷ [])
 IsStmt (stmts.DropTable name) = Spell (Keyword (codes "drop") ∷ Keyword (codes "table") ∷ IsName name ∷ [])
 IsStmt (stmts.CreateIndex index name column) =
-    Spell (Keyword (codes "create") ∷ Keyword (codes "index") ∷ IsIdent index ∷ Keyword (codes "on") ∷ IsName name ∷ Marked marks.Open ∷ IsIdent column ∷ Marked marks.Close ∷ [])
+    Spell (Keyword (codes "create") ∷ Keyword (codes "index") ∷ IsIdent index ∷ Keyword (codes "on") ∷ IsName name ∷ IsSymbol symbols.Open ∷ IsIdent column ∷ IsSymbol symbols.Close ∷ [])
 IsStmt (stmts.DropIndex index name) = Spell (Keyword (codes "drop") ∷ Keyword (codes "index") ∷ IsIdent index ∷ Keyword (codes "on") ∷ IsName name ∷ [])
 IsStmt (stmts.CreateSynonym synonym name) =
     Spell (Keyword (codes "create") ∷ Keyword (codes "synonym") ∷ IsIdent synonym ∷ Keyword (codes "for") ∷ IsName name ∷ [])
 IsStmt (stmts.DropSynonym synonym) = Spell (Keyword (codes "drop") ∷ Keyword (codes "synonym") ∷ IsIdent synonym ∷ [])
 IsStmt (stmts.Migrate name to) = Spell (Keyword (codes "migrate") ∷ Keyword (codes "table") ∷ IsName name ∷ Keyword (codes "to") ∷ IsSite to ∷ [])
 IsStmt (stmts.Compile program params body) = Spell (
-    Keyword (codes "compile") ∷ IsIdent program ∷ Marked marks.Open ∷ AtMost 16 (IsListedOrNone IsIdent) params ∷ Marked marks.Close
+    Keyword (codes "compile") ∷ IsIdent program ∷ IsSymbol symbols.Open ∷ AtMost 16 (IsCommaListOrNone IsIdent) params ∷ IsSymbol symbols.Close
     ∷ Keyword (codes "as") ∷ IsBody body ∷ Keyword (codes "end") ∷ [])
 IsStmt (stmts.DropProgram program) = Spell (Keyword (codes "drop") ∷ Keyword (codes "program") ∷ IsIdent program ∷ [])
 IsStmt (stmts.Execute program given) =
-    Spell (Keyword (codes "execute") ∷ IsIdent program ∷ Marked marks.Open ∷ AtMost 16 (IsListedOrNone IsLiteral) given ∷ Marked marks.Close ∷ [])
+    Spell (Keyword (codes "execute") ∷ IsIdent program ∷ IsSymbol symbols.Open ∷ AtMost 16 (IsCommaListOrNone IsLiteral) given ∷ IsSymbol symbols.Close ∷ [])
 IsStmt (stmts.Explain select) = Spell (Keyword (codes "explain") ∷ IsSelect select ∷ [])
 IsStmt stmts.ShowSections = Spell (Keyword (codes "show") ∷ Keyword (codes "sections") ∷ [])
 IsStmt stmts.ShowCache = Spell (Keyword (codes "show") ∷ Keyword (codes "cache") ∷ [])
 IsStmt (stmts.Dml dml) = IsDml dml
 
--- a semicolon or none
+-- an optional semicolon
 abbrev pub IsEnd : List Token → Type 0
-IsEnd ts = (ts ≡ []) ⊎ Marked marks.Semicolon ts
+IsEnd ts = (ts ≡ []) ⊎ IsSymbol symbols.Semicolon ts
 
 abbrev pub IsRequest : Phrase Stmt
 IsRequest stmt = Spell (IsStmt stmt ∷ IsEnd ∷ [])

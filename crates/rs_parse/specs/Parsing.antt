@@ -1,4 +1,4 @@
--- What a text is: the text of a statement, or one that has a fault at a place.
+-- The parse of a text: a statement, or a fault at a byte offset.
 use Rattle.std.specs.Prelude.{◌≡◌, ℕ, ◌-◌, true, false, List, [], ◌∷◌, ◌++◌, length, Option, Some, None, unwrap_or, Result, Ok, Err, if◌then◌else◌}
 use Rattle.std.specs.List.{slice_get}
 use Rattle.rs_ast.specs.declared.stmt.Stmt.{Stmt}
@@ -11,62 +11,62 @@ use Rattle.rs_parse.specs.Grammar.{IsRequest}
 use Rattle.rs_parse.specs.Read.{Read, Got, Fault}
 use Rattle.rs_parse.specs.Reader.{request_of}
 
--- the text spells this statement: it is split to its end, and its tokens spell a request
+-- the text is that of this statement: it is split to its end, and its tokens are a request by the grammar
 abbrev pub Spells : List ℕ → Stmt → Type 0
 Spells text stmt = ((split_of text).whole ≡ true) × IsRequest stmt (split_of text).tokens
 
--- ---- where a text has its fault
+-- ---- the fault of a text
 
 -- some request begins with these tokens
 abbrev pub SomeBegins : List Token → Type 0
-SomeBegins ts = (stmt : Stmt) × (behind : List Token) × IsRequest stmt (ts ++ behind)
+SomeBegins ts = (stmt : Stmt) × (suffix : List Token) × IsRequest stmt (ts ++ suffix)
 
--- the token of this number is the first by which the tokens are no longer those of a request
+-- the token of this number, from 0, is the first such that no request begins with the tokens up to it
 pub record IsOffending (ts : List Token) (number : ℕ) : Type 0 where
   pub before : List Token
   pub token : Token
-  pub behind : List Token
-  pub parted : ts ≡ before ++ token ∷ behind
+  pub suffix : List Token
+  pub separated : ts ≡ before ++ token ∷ suffix
   pub counted : length before ≡ number
   pub begun : SomeBegins before
   pub barred : SomeBegins (before ++ token ∷ []) → ⊥
 
--- The fault of a text stands at this place.
-pub data IsFault (text : List ℕ) (place : ℕ) : Type 0 where
-  -- a token begins there: some request begins with the tokens before it, and none with those up to it
-  AtToken : (number : ℕ) → IsOffending (split_of text).tokens number → slice_get (split_of text).starts number ≡ Some place → IsFault text place
+-- The fault of a text is at this byte offset.
+pub data IsFault (text : List ℕ) (offset : ℕ) : Type 0 where
+  -- a token begins there: some request begins with the tokens before it, and none with the tokens up to it
+  AtToken : (number : ℕ) → IsOffending (split_of text).tokens number → slice_get (split_of text).starts number ≡ Some offset → IsFault text offset
   -- no token begins there, and some request begins with all tokens before it
-  NoToken : (split_of text).whole ≡ false → SomeBegins (split_of text).tokens → place ≡ (split_of text).end → IsFault text place
-  -- the text is over: some request begins with all of its tokens, and they are none
-  AtEnd : (split_of text).whole ≡ true → SomeBegins (split_of text).tokens → ((stmt : Stmt) → IsRequest stmt (split_of text).tokens → ⊥) → place ≡ length text → IsFault text place
+  NoToken : (split_of text).whole ≡ false → SomeBegins (split_of text).tokens → offset ≡ (split_of text).end → IsFault text offset
+  -- the text ends there: some request begins with all of its tokens, and they are no request
+  AtEnd : (split_of text).whole ≡ true → SomeBegins (split_of text).tokens → ((stmt : Stmt) → IsRequest stmt (split_of text).tokens → ⊥) → offset ≡ length text → IsFault text offset
 
--- ---- the parse of a text, found by reading its tokens
+-- ---- the parse of a text by reading its tokens
 
 pub data Parsed : Type 0 where
   Statement : (stmt : Stmt) → Parsed
-  FaultAt : (place : ℕ) → Parsed
+  FaultAt : (offset : ℕ) → Parsed
 
--- where the first of the tokens begins that are left, or where the split ends
-abbrev pub place_of : Split → ℕ → ℕ
-place_of split left = unwrap_or (slice_get split.starts (length split.tokens - left)) split.end
+-- the offset of the first of the tokens that are left, or of the split's end if none is
+abbrev pub offset_of : Split → ℕ → ℕ
+offset_of split left = unwrap_or (slice_get split.starts (length split.tokens - left)) split.end
 
 abbrev pub judged : Split → Read Stmt → Parsed
 judged split (Got stmt rest) = if split.whole then Statement stmt else FaultAt split.end
-judged split (Fault rest) = FaultAt (place_of split (length rest))
+judged split (Fault rest) = FaultAt (offset_of split (length rest))
 
 unfoldable pub parsed_of : List ℕ → Parsed
 parsed_of text = judged (split_of text) (request_of (split_of text).tokens)
 
 abbrev pub statement_in : Parsed → Option Stmt
 statement_in (Statement stmt) = Some stmt
-statement_in (FaultAt place) = None
+statement_in (FaultAt offset) = None
 
--- the statement that a text spells, if it spells one
+-- the statement of a text, if it is that of one
 abbrev pub statement_of : List ℕ → Option Stmt
 statement_of text = statement_in (parsed_of text)
 
--- a call gave what parsing gives, unless memory was wanting
+-- a result is that of the parse, unless an allocation failed
 abbrev pub ParseGives : Result Stmt ParseFault → Parsed → Type 0
 ParseGives (Ok stmt) parsed = parsed ≡ Statement stmt
-ParseGives (Err (faults.Syntax place)) parsed = parsed ≡ FaultAt place
+ParseGives (Err (faults.Syntax offset)) parsed = parsed ≡ FaultAt offset
 ParseGives (Err faults.NoMemory) parsed = Unit {0}

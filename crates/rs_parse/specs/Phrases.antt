@@ -1,10 +1,10 @@
--- Words for saying which tokens spell a value. A phrase is a fact of a value and of the tokens that spell it.
+-- Combinators for grammars. A phrase relates a value to the lists of tokens that derive it.
 --     Is t                 this one token
---     Spell [P, Q, ..]     these phrases, one behind the other
---     Optional P           nothing for `None`, a phrase for `Some`
---     IsSeries P           phrases one behind the other, or none
---     IsList t P           one phrase or more, with this token between each two
---     AtMost n P           a list of at most so many members
+--     Spell [P, Q, ..]     a sequence of these phrases
+--     Optional P           no token for `None`, a phrase for `Some`
+--     IsSeries P           a sequence of such phrases, or none
+--     IsList t P           one phrase or more, separated by this token
+--     AtMost n P           a list of at most n items
 use Rattle.std.specs.Prelude.{◌≡◌, ℕ, ◌≤◌, List, [], ◌∷◌, ◌++◌, length, Option, Some, None}
 use Rattle.rs_ast.specs.declared.token.Token.{Token}
 
@@ -14,9 +14,9 @@ Phrase A = A → List Token → Type 0
 abbrev pub Is : Token → List Token → Type 0
 Is t ts = ts ≡ t ∷ []
 
--- one behind the other
+-- one phrase after the other
 abbrev pub Both : (List Token → Type 0) → (List Token → Type 0) → List Token → Type 0
-Both P Q ts = (front behind : List Token) × P front × Q behind × (ts ≡ front ++ behind)
+Both P Q ts = (prefix suffix : List Token) × P prefix × Q suffix × (ts ≡ prefix ++ suffix)
 
 abbrev pub Spell : List (List Token → Type 0) → List Token → Type 0
 Spell [] ts = ts ≡ []
@@ -31,13 +31,13 @@ abbrev pub IsSeries : {A : Type 0} → Phrase A → Phrase (List A)
 IsSeries P [] ts = ts ≡ []
 IsSeries P (x ∷ xs) ts = Both (P x) (IsSeries P xs) ts
 
--- one phrase behind a separator
-abbrev pub Behind : {A : Type 0} → Token → Phrase A → Phrase A
-Behind separator P x ts = Both (Is separator) (P x) ts
+-- a separator, then a phrase
+abbrev pub After : {A : Type 0} → Token → Phrase A → Phrase A
+After separator P x ts = Both (Is separator) (P x) ts
 
 abbrev pub IsList : {A : Type 0} → Token → Phrase A → Phrase (List A)
 IsList separator P [] ts = ⊥
-IsList separator P (x ∷ xs) ts = Both (P x) (IsSeries (Behind separator P) xs) ts
+IsList separator P (x ∷ xs) ts = Both (P x) (IsSeries (After separator P) xs) ts
 
 abbrev pub AtMost : {A : Type 0} → ℕ → Phrase (List A) → Phrase (List A)
 AtMost n P xs ts = (length xs ≤ n) × P xs ts

@@ -1,11 +1,11 @@
-//! INSERT, UPDATE and DELETE, and all statements on rows.
+//! Parsing of INSERT, UPDATE and DELETE, and of all statements on rows.
 
 ghost use Rattle.rs_parse.specs.Read.{Reads};
 ghost use Rattle.rs_parse.specs.Reader as spec;
 
 use crate::clauses::optional_clauses;
 use crate::cursor::Cursor;
-use crate::list::{Separator, all, listed};
+use crate::list::{Separator, all, separated_list};
 use crate::names::name;
 use crate::queries::select;
 use rs_ast::Dml;
@@ -16,10 +16,10 @@ use std::alloc::Global;
 fn insert(alloc: Global, tokens: &mut Cursor<'_>) -> Result<Dml, ReadFault>
     ensures { Reads (spec.insert_at tokens.old) result tokens.new }
 {
-    tokens.word(b"insert")?;
-    tokens.word(b"into")?;
+    tokens.expect_keyword(b"insert")?;
+    tokens.expect_keyword(b"into")?;
     let name = name(tokens)?;
-    tokens.word(b"values")?;
+    tokens.expect_keyword(b"values")?;
     let rows = all(alloc, tokens, Separator::Comma)?;
     Ok(Dml::Insert { name, rows })
 }
@@ -28,10 +28,10 @@ fn insert(alloc: Global, tokens: &mut Cursor<'_>) -> Result<Dml, ReadFault>
 fn update(alloc: Global, tokens: &mut Cursor<'_>) -> Result<Dml, ReadFault>
     ensures { Reads (spec.update_at tokens.old) result tokens.new }
 {
-    tokens.word(b"update")?;
+    tokens.expect_keyword(b"update")?;
     let name = name(tokens)?;
-    tokens.word(b"set")?;
-    let sets = listed(alloc, tokens, Separator::Comma, 15)?;
+    tokens.expect_keyword(b"set")?;
+    let sets = separated_list(alloc, tokens, Separator::Comma, 15)?;
     let clauses = optional_clauses(alloc, tokens)?;
     Ok(Dml::Update {
         name,
@@ -44,14 +44,14 @@ fn update(alloc: Global, tokens: &mut Cursor<'_>) -> Result<Dml, ReadFault>
 fn delete(alloc: Global, tokens: &mut Cursor<'_>) -> Result<Dml, ReadFault>
     ensures { Reads (spec.delete_at tokens.old) result tokens.new }
 {
-    tokens.word(b"delete")?;
-    tokens.word(b"from")?;
+    tokens.expect_keyword(b"delete")?;
+    tokens.expect_keyword(b"from")?;
     let name = name(tokens)?;
     let clauses = optional_clauses(alloc, tokens)?;
     Ok(Dml::Delete { name, clauses })
 }
 
-/// A statement on rows.
+/// Parses a statement on rows.
 #[tactic(auto, unfolding(crate::specs::Reader::dml_at))]
 pub fn dml(alloc: Global, tokens: &mut Cursor<'_>) -> Result<Dml, ReadFault>
     ensures { Reads (spec.dml_at tokens.old) result tokens.new }

@@ -1,4 +1,4 @@
-//! WHERE.
+//! Parsing of predicates.
 
 ghost use Rattle.rs_parse.specs.Read.{Reads};
 ghost use Rattle.rs_parse.specs.Reader as spec;
@@ -7,26 +7,26 @@ use crate::cursor::Cursor;
 use crate::list::{ListItem, Separator, all};
 use crate::names::col_ref;
 use crate::terms::{literal, param};
-use rs_ast::{Clause, Clauses, Cmp, Mark, Operand};
+use rs_ast::{Clause, Clauses, Cmp, Operand, Symbol};
 use rs_base::ReadFault;
 use sqlite_items::Items;
 use std::alloc::Global;
 
-/// What a column is compared with.
+/// Parses the right operand of a comparison.
 #[tactic(auto, unfolding(crate::specs::Reader::operand_at))]
 fn operand(alloc: Global, tokens: &mut Cursor<'_>) -> Result<Operand, ReadFault>
     ensures { Reads (spec.operand_at tokens.old) result tokens.new }
 {
     if tokens.begins_with_ident() {
         Ok(Operand::Col(col_ref(tokens)?))
-    } else if tokens.begins_with_mark(Mark::Colon) {
+    } else if tokens.begins_with_symbol(Symbol::Colon) {
         Ok(Operand::Param(param(tokens)?))
     } else {
         Ok(Operand::Lit(literal(alloc, tokens)?))
     }
 }
 
-/// A comparison.
+/// Parses a comparison.
 #[tactic(auto, unfolding(crate::specs::Reader::cmp_at))]
 fn cmp(alloc: Global, tokens: &mut Cursor<'_>) -> Result<Cmp, ReadFault>
     ensures { Reads (spec.cmp_at tokens.old) result tokens.new }
@@ -41,9 +41,9 @@ fn cmp(alloc: Global, tokens: &mut Cursor<'_>) -> Result<Cmp, ReadFault>
 fn bracketed_clause(alloc: Global, tokens: &mut Cursor<'_>) -> Result<Clause, ReadFault>
     ensures { Reads (spec.bracketed_clause_at tokens.old) result tokens.new }
 {
-    tokens.mark(Mark::Open)?;
+    tokens.expect_symbol(Symbol::Open)?;
     let any = all(alloc, tokens, Separator::Or)?;
-    tokens.mark(Mark::Close)?;
+    tokens.expect_symbol(Symbol::Close)?;
     Ok(Clause { any })
 }
 
@@ -60,7 +60,7 @@ fn single_clause(alloc: Global, tokens: &mut Cursor<'_>) -> Result<Clause, ReadF
 fn clause(alloc: Global, tokens: &mut Cursor<'_>) -> Result<Clause, ReadFault>
     ensures { Reads (spec.clause_at tokens.old) result tokens.new }
 {
-    if tokens.begins_with_mark(Mark::Open) {
+    if tokens.begins_with_symbol(Symbol::Open) {
         bracketed_clause(alloc, tokens)
     } else {
         single_clause(alloc, tokens)
@@ -71,11 +71,11 @@ fn clause(alloc: Global, tokens: &mut Cursor<'_>) -> Result<Clause, ReadFault>
 fn clauses(alloc: Global, tokens: &mut Cursor<'_>) -> Result<Clauses, ReadFault>
     ensures { Reads (spec.clauses_at tokens.old) result tokens.new }
 {
-    tokens.word(b"where")?;
+    tokens.expect_keyword(b"where")?;
     all(alloc, tokens, Separator::And)
 }
 
-/// What WHERE asks, if there is one.
+/// Parses an optional WHERE. Without one the predicate has no clauses.
 #[tactic(auto, unfolding(crate::specs::Reader::where_at))]
 pub fn optional_clauses(alloc: Global, tokens: &mut Cursor<'_>) -> Result<Clauses, ReadFault>
     ensures { Reads (spec.where_at tokens.old) result tokens.new }

@@ -1,4 +1,5 @@
-//! A place in a list of tokens, and the readers of one token. A reader that gives `Malformed` stays at the token that it refuses.
+//! A cursor over tokens, and the readers of single tokens. A reader that fails with `Malformed` stays at the token that it
+//! refuses.
 
 ghost use Rattle.std.specs.Prelude.{◌≡◌, length};
 ghost use Rattle.rs_parse.specs.Read.{Reads, begins};
@@ -6,15 +7,15 @@ ghost use Rattle.rs_ast.specs.Token as tokens;
 ghost use Rattle.rs_parse.specs.Reader as spec;
 
 use crate::token::{
-    arith_of, ident_of, is_dml, is_unsigned, kind_of, negated_of, op_of, place_of, site_of,
+    arith_of, ident_of, is_dml, is_unsigned, kind_of, negated_of, op_of, ordinal_of, site_of,
     unsigned_of,
 };
-use rs_ast::{Arith, Mark, Op, Stmt, Token};
+use rs_ast::{Arith, Op, Stmt, Symbol, Token};
 use rs_base::{Ident, Kind, ReadFault, SiteNo, Value};
 use std::alloc::Global;
 use std::marker::Model;
 
-/// The tokens that are still to be read.
+/// A cursor over tokens: those that are still to be read.
 #[derive(Drop)]
 pub struct Cursor<'a> {
     left: &'a [Token],
@@ -51,12 +52,12 @@ impl<'a> Cursor<'a> {
         }
     }
 
-    pub fn begins_with_mark(&self, mark: Mark) -> bool
-        ensures { result ≡ begins (tokens.is_mark mark) self.now }
+    pub fn begins_with_symbol(&self, symbol: Symbol) -> bool
+        ensures { result ≡ begins (tokens.is_symbol symbol) self.now }
     {
         match self.left {
             [] => false,
-            [first, ..] => first.is_mark(mark),
+            [first, ..] => first.is_symbol(symbol),
         }
     }
 
@@ -83,7 +84,7 @@ impl<'a> Cursor<'a> {
     {
         match self.left {
             [] => false,
-            [first, ..] => first.is_mark(Mark::Minus) || is_unsigned(first),
+            [first, ..] => first.is_symbol(Symbol::Minus) || is_unsigned(first),
         }
     }
 
@@ -96,9 +97,9 @@ impl<'a> Cursor<'a> {
         }
     }
 
-    /// Gives the statement, where nothing stands behind it.
-    pub fn alone(&self, stmt: Stmt) -> Result<Stmt, ReadFault>
-        ensures { Reads (spec.alone_at stmt self.now) result self.now }
+    /// Returns the statement, if no token follows it.
+    pub fn expect_end(&self, stmt: Stmt) -> Result<Stmt, ReadFault>
+        ensures { Reads (spec.at_end stmt self.now) result self.now }
     {
         match self.left {
             [] => Ok(stmt),
@@ -106,20 +107,20 @@ impl<'a> Cursor<'a> {
         }
     }
 
-    pub fn mark(&mut self, mark: Mark) -> Result<(), ReadFault>
-        ensures { Reads (spec.mark_at mark self.old) result self.new }
+    pub fn expect_symbol(&mut self, symbol: Symbol) -> Result<(), ReadFault>
+        ensures { Reads (spec.symbol_at symbol self.old) result self.new }
     {
         let [first, rest @ ..] = self.left else {
             return Err(ReadFault::Malformed);
         };
-        if !first.is_mark(mark) {
+        if !first.is_symbol(symbol) {
             return Err(ReadFault::Malformed);
         }
         self.left = rest;
         Ok(())
     }
 
-    pub fn word(&mut self, word: &[u8]) -> Result<(), ReadFault>
+    pub fn expect_keyword(&mut self, word: &[u8]) -> Result<(), ReadFault>
         ensures { Reads (spec.word_at word.now self.old) result self.new }
     {
         let [first, rest @ ..] = self.left else {
@@ -132,7 +133,7 @@ impl<'a> Cursor<'a> {
         Ok(())
     }
 
-    /// A word that isn't reserved.
+    /// Reads an identifier: a word that isn't reserved.
     #[tactic(auto, unfolding(crate::specs::Reader::ident_at))]
     pub fn ident(&mut self) -> Result<Ident, ReadFault>
         ensures { Reads (spec.ident_at self.old) result self.new }
@@ -203,22 +204,22 @@ impl<'a> Cursor<'a> {
         Ok(arith)
     }
 
-    /// A key's place.
-    #[tactic(auto, unfolding(crate::specs::Reader::place_at))]
-    pub fn place(&mut self) -> Result<u32, ReadFault>
-        ensures { Reads (spec.place_at self.old) result self.new }
+    /// Reads the ordinal of a select item, below `2 ^ 32`.
+    #[tactic(auto, unfolding(crate::specs::Reader::ordinal_at))]
+    pub fn ordinal(&mut self) -> Result<u32, ReadFault>
+        ensures { Reads (spec.ordinal_at self.old) result self.new }
     {
         let [first, rest @ ..] = self.left else {
             return Err(ReadFault::Malformed);
         };
-        let Some(place) = place_of(first) else {
+        let Some(ordinal) = ordinal_of(first) else {
             return Err(ReadFault::Malformed);
         };
         self.left = rest;
-        Ok(place)
+        Ok(ordinal)
     }
 
-    /// A number behind `-`.
+    /// Reads the number after `-`, below `2 ^ 63`, and negates it.
     #[tactic(auto, unfolding(crate::specs::Reader::negated_at))]
     pub fn negated(&mut self) -> Result<Value, ReadFault>
         ensures { Reads (spec.negated_at self.old) result self.new }
@@ -233,7 +234,7 @@ impl<'a> Cursor<'a> {
         Ok(negated)
     }
 
-    /// A number without a sign, or a text.
+    /// Reads a number without a sign, below `2 ^ 63`, or a text literal.
     #[tactic(auto, unfolding(crate::specs::Reader::unsigned_at))]
     pub fn unsigned(&mut self, alloc: Global) -> Result<Value, ReadFault>
         ensures { Reads (spec.unsigned_at self.old) result self.new }

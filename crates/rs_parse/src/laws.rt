@@ -1,28 +1,28 @@
-//! What holds of every text. Each function here is a law: its contract says it, and its body does nothing.
+//! Laws of texts. A law's claim is its contract, and its body is empty.
 
 ghost use Rattle.rs_parse.specs.Laws.{FaultOnce, PrintedIsRead, SpelledHasNoFault, SpelledOrFaulty, StatementOnce};
 
-/// A text spells one statement.
+/// Proves that a text is that of at most one statement.
 pub fn statement_once()
     ensures { StatementOnce }
 {}
 
-/// A text has its fault at one place.
+/// Proves that a text has its fault at one byte offset.
 pub fn fault_once()
     ensures { FaultOnce }
 {}
 
-/// Each text spells a statement, or has a fault.
+/// Proves that each text is that of a statement, or has a fault.
 pub fn spelled_or_faulty()
     ensures { SpelledOrFaulty }
 {}
 
-/// A text that spells a statement has no fault.
+/// Proves that the text of a statement has no fault.
 pub fn spelled_has_no_fault()
     ensures { SpelledHasNoFault }
 {}
 
-/// What `print_stmt` appends for a statement that some text spells spells that statement.
+/// Proves the round trip: the text `print_stmt` appends for a statement that has a text is one of its texts.
 pub fn printed_is_read()
     ensures { PrintedIsRead }
 {}

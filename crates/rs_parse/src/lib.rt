@@ -1,4 +1,4 @@
-//! From a text to a statement.
+//! The parser of statements: tokenizing a text, and parsing its tokens by recursive descent.
 #![tactic(auto)]
 
 mod changes;

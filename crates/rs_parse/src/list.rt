@@ -1,16 +1,16 @@
-//! Reading lists.
+//! Parsing of lists.
 
 ghost use Rattle.std.specs.Prelude.{◌≡◌};
-ghost use Rattle.rs_parse.specs.Read.{Reads, begins, pass_at, behind_at, separated_at, all_at};
+ghost use Rattle.rs_parse.specs.Read.{Reads, begins, pass_at, suffix_at, separated_at, all_at};
 ghost use Rattle.rs_parse.specs.Separator as spec;
 
 use crate::cursor::Cursor;
-use rs_ast::Mark;
+use rs_ast::Symbol;
 use rs_base::ReadFault;
 use sqlite_items::Items;
 use std::alloc::Global;
 
-/// What parts the items of a list.
+/// The separator of a list's items.
 #[derive(Clone, Copy)]
 pub enum Separator {
     Comma,
@@ -18,7 +18,7 @@ pub enum Separator {
     Or,
 }
 
-/// What stands in lists, and how it is read there.
+/// An item of a list, with its reader.
 pub trait ListItem: Drop {
     ghost use Rattle.std.specs.Prelude.{List};
     ghost use Rattle.rs_ast.specs.declared.token.Token.{Token};
@@ -30,11 +30,11 @@ pub trait ListItem: Drop {
         ensures { Reads (item_at tokens.old) result tokens.new };
 }
 
-fn goes_on(tokens: &Cursor<'_>, separator: Separator) -> bool
+fn begins_with_separator(tokens: &Cursor<'_>, separator: Separator) -> bool
     ensures { result ≡ begins (spec.is_separator separator) tokens.now }
 {
     match separator {
-        Separator::Comma => tokens.begins_with_mark(Mark::Comma),
+        Separator::Comma => tokens.begins_with_symbol(Symbol::Comma),
         Separator::And => tokens.begins_with_word(b"and"),
         Separator::Or => tokens.begins_with_word(b"or"),
     }
@@ -44,25 +44,25 @@ fn pass(tokens: &mut Cursor<'_>, separator: Separator) -> Result<(), ReadFault>
     ensures { Reads (pass_at (spec.is_separator separator) tokens.old) result tokens.new }
 {
     match separator {
-        Separator::Comma => tokens.mark(Mark::Comma),
-        Separator::And => tokens.word(b"and"),
-        Separator::Or => tokens.word(b"or"),
+        Separator::Comma => tokens.expect_symbol(Symbol::Comma),
+        Separator::And => tokens.expect_keyword(b"and"),
+        Separator::Or => tokens.expect_keyword(b"or"),
     }
 }
 
-fn behind<T: ListItem>(
+fn next_item<T: ListItem>(
     alloc: Global,
     tokens: &mut Cursor<'_>,
     separator: Separator,
 ) -> Result<T, ReadFault>
-    ensures { Reads (behind_at (spec.is_separator separator) T.item_at tokens.old) result tokens.new }
+    ensures { Reads (suffix_at (spec.is_separator separator) T.item_at tokens.old) result tokens.new }
 {
     pass(tokens, separator)?;
     T::item(alloc, tokens)
 }
 
-/// One item, and at most so many further ones behind separators.
-pub fn listed<T: ListItem>(
+/// Parses one item, and at most `most` others, each after a separator.
+pub fn separated_list<T: ListItem>(
     alloc: Global,
     tokens: &mut Cursor<'_>,
     separator: Separator,
@@ -73,15 +73,15 @@ pub fn listed<T: ListItem>(
     let mut found = Items::new(alloc);
     found.push(T::item(alloc, tokens)?)?;
     for _ in 0..most {
-        if !goes_on(tokens, separator) {
+        if !begins_with_separator(tokens, separator) {
             return Ok(found);
         }
-        found.push(behind::<T>(alloc, tokens, separator)?)?;
+        found.push(next_item::<T>(alloc, tokens, separator)?)?;
     }
     Ok(found)
 }
 
-/// One item, and any number of further ones behind separators.
+/// Parses one item, and any number of others, each after a separator.
 pub fn all<T: ListItem>(
     alloc: Global,
     tokens: &mut Cursor<'_>,
@@ -90,5 +90,5 @@ pub fn all<T: ListItem>(
     ensures { Reads (all_at (spec.is_separator separator) T.item_at tokens.old) result tokens.new }
 {
     let most = tokens.len();
-    listed(alloc, tokens, separator, most)
+    separated_list(alloc, tokens, separator, most)
 }

@@ -1,11 +1,11 @@
-//! Names of tables and of columns.
+//! Parsing of names of tables and columns.
 
 ghost use Rattle.rs_parse.specs.Read.{Reads};
 ghost use Rattle.rs_parse.specs.Reader as spec;
 
 use crate::cursor::Cursor;
 use crate::list::ListItem;
-use rs_ast::{ColDef, ColRef, Mark};
+use rs_ast::{ColDef, ColRef, Symbol};
 use rs_base::{Ident, NameText, ReadFault, SiteNo};
 use std::alloc::Global;
 
@@ -13,7 +13,7 @@ use std::alloc::Global;
 fn at_site(tokens: &mut Cursor<'_>) -> Result<SiteNo, ReadFault>
     ensures { Reads (spec.at_site_at tokens.old) result tokens.new }
 {
-    tokens.mark(Mark::At)?;
+    tokens.expect_symbol(Symbol::At)?;
     tokens.site()
 }
 
@@ -21,14 +21,14 @@ fn at_site(tokens: &mut Cursor<'_>) -> Result<SiteNo, ReadFault>
 fn optional_site(tokens: &mut Cursor<'_>) -> Result<Option<SiteNo>, ReadFault>
     ensures { Reads (spec.optional_site_at tokens.old) result tokens.new }
 {
-    if tokens.begins_with_mark(Mark::At) {
+    if tokens.begins_with_symbol(Symbol::At) {
         Ok(Some(at_site(tokens)?))
     } else {
         Ok(None)
     }
 }
 
-/// What follows a name's creator.
+/// Parses the rest of a name, after its creator.
 #[tactic(auto, unfolding(crate::specs::Reader::created_at))]
 fn created(
     creator: Ident,
@@ -37,7 +37,7 @@ fn created(
 ) -> Result<NameText, ReadFault>
     ensures { Reads (spec.created_at creator creator_site tokens.old) result tokens.new }
 {
-    tokens.mark(Mark::Dot)?;
+    tokens.expect_symbol(Symbol::Dot)?;
     let object = tokens.ident()?;
     let birth = optional_site(tokens)?;
     Ok(NameText {
@@ -48,14 +48,14 @@ fn created(
     })
 }
 
-/// A table's name: `creator@site.object@site`, of which the object alone is needed.
+/// Parses a table's name: `creator@site.object@site`, of which only the object is required.
 #[tactic(auto, unfolding(crate::specs::Reader::name_at))]
 pub fn name(tokens: &mut Cursor<'_>) -> Result<NameText, ReadFault>
     ensures { Reads (spec.name_at tokens.old) result tokens.new }
 {
     let first = tokens.ident()?;
     let site = optional_site(tokens)?;
-    if tokens.begins_with_mark(Mark::Dot) {
+    if tokens.begins_with_symbol(Symbol::Dot) {
         return created(first, site, tokens);
     }
     Ok(NameText {
@@ -66,12 +66,12 @@ pub fn name(tokens: &mut Cursor<'_>) -> Result<NameText, ReadFault>
     })
 }
 
-/// What follows a column's table.
+/// Parses the rest of a reference to a column, after its table.
 #[tactic(auto, unfolding(crate::specs::Reader::column_of_at))]
 fn column_of(table: Ident, tokens: &mut Cursor<'_>) -> Result<ColRef, ReadFault>
     ensures { Reads (spec.column_of_at table tokens.old) result tokens.new }
 {
-    tokens.mark(Mark::Dot)?;
+    tokens.expect_symbol(Symbol::Dot)?;
     let column = tokens.ident()?;
     Ok(ColRef {
         table: Some(table),
@@ -79,13 +79,13 @@ fn column_of(table: Ident, tokens: &mut Cursor<'_>) -> Result<ColRef, ReadFault>
     })
 }
 
-/// A column of a statement: `column` or `table.column`.
+/// Parses a reference to a column: `column` or `table.column`.
 #[tactic(auto, unfolding(crate::specs::Reader::col_ref_at))]
 pub fn col_ref(tokens: &mut Cursor<'_>) -> Result<ColRef, ReadFault>
     ensures { Reads (spec.col_ref_at tokens.old) result tokens.new }
 {
     let first = tokens.ident()?;
-    if tokens.begins_with_mark(Mark::Dot) {
+    if tokens.begins_with_symbol(Symbol::Dot) {
         return column_of(first, tokens);
     }
     Ok(ColRef {
@@ -94,7 +94,7 @@ pub fn col_ref(tokens: &mut Cursor<'_>) -> Result<ColRef, ReadFault>
     })
 }
 
-/// A column as a table declares it.
+/// Parses a column definition.
 #[tactic(auto, unfolding(crate::specs::Reader::column_at))]
 fn column(tokens: &mut Cursor<'_>) -> Result<ColDef, ReadFault>
     ensures { Reads (spec.column_at tokens.old) result tokens.new }

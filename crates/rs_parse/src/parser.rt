@@ -1,8 +1,8 @@
-//! Parsing a text.
+//! The parser's entry point.
 
 ghost use Rattle.std.specs.Prelude.{◌≡◌, ℕ, Err, IfOk};
 ghost use Rattle.rs_ast.specs.declared.stmt.Stmt.{Stmt};
-ghost use Rattle.rs_parse.specs.Parsing.{Spells, IsFault, Statement, ParseGives, place_of, parsed_of};
+ghost use Rattle.rs_parse.specs.Parsing.{Spells, IsFault, Statement, ParseGives, offset_of, parsed_of};
 ghost use Rattle.rs_parse.specs.declared.parser.ParseFault.TheVariants as faults;
 
 use crate::cursor::Cursor;
@@ -14,10 +14,10 @@ use rs_base::{NoMemory, ReadFault};
 use std::alloc::Global;
 use thiserror::Error;
 
-/// Why a text is no request.
+/// The fault of a text that isn't parsed.
 #[derive(Clone, Copy, Debug, PartialEq, Eq, Error)]
 pub enum ParseFault {
-    /// No request has this text. The place is the byte, counted from 0, from which on it can't be one.
+    /// No request has this text. `place` is the byte offset, from 0, at which it stops being a prefix of one.
     #[error("no request has this text")]
     Syntax { place: usize },
     #[error("out of memory")]
@@ -35,9 +35,9 @@ impl From<NoMemory> for ParseFault {
     }
 }
 
-/// The byte at which the tokens begin that are left, or where the split ends.
-fn place(split: &Split, left: usize) -> usize
-    ensures { result ≡ place_of split.now left }
+/// Returns the byte offset of the first of the last `left` tokens, or the end of the split if `left` is 0.
+fn offset(split: &Split, left: usize) -> usize
+    ensures { result ≡ offset_of split.now left }
 {
     let number = split.tokens.len().saturating_sub(left);
     match split.starts.get(number) {
@@ -61,28 +61,29 @@ fn read(alloc: Global, text: &[u8]) -> Result<Stmt, ParseFault>
             }
         }
         Err(ReadFault::Malformed) => Err(ParseFault::Syntax {
-            place: place(&split, tokens.len()),
+            place: offset(&split, tokens.len()),
         }),
         Err(ReadFault::NoMemory) => Err(ParseFault::NoMemory),
     }
 }
 
-/// The statement that a text spells, with a semicolon or none behind it. Words are read in either case. A statement has at
-/// most 16 columns, items, columns of a group, keys, parameters, values of a tuple and sets, a query at most 6 tables, and a
-/// program at most 8 statements; a word has at most 24 bytes, a text value at most 255, and a number is at most 2^63 - 1.
+/// Parses the text of a statement, with or without a semicolon at its end. Words are read in either case. A statement has
+/// at most 16 columns, select items, GROUP BY columns, sort keys, parameters, values of a tuple or of an EXECUTE, and
+/// assignments, a query at most 6 tables, and a program at most 8 statements; a word has at most 24 bytes, a text literal
+/// at most 255, and a number is at most `2 ^ 63 - 1`.
 ///
-/// `Syntax` says that no request has this text, and the first byte, counted from 0, of the first token such that no request
-/// begins with the tokens up to it; where no token begins at a byte that is reached before that, it is that byte; and where
-/// all tokens begin a request but are none, it is the text's length. `NoMemory` says nothing of the text. The time goes with
-/// the length of the text.
+/// `Syntax` reports that no request has this text, with the byte offset, from 0, of the first token such that no request
+/// begins with the tokens up to it; or of the first byte at which no token begins, if that is reached before; or the
+/// text's length, if some request begins with all of the tokens but they are no request. On out of memory nothing is
+/// reported of the text. Linear in the text's length.
 pub fn parse(alloc: Global, text: &[u8]) -> Result<Stmt, ParseFault>
-    // What is read is spelled so.
+    // The text is that of the statement that is returned.
     ensures found { IfOk result (λ stmt. Spells text.now stmt) }
-    // What is spelled so is read, unless memory is wanting.
+    // The text of a statement is parsed, unless an allocation fails.
     ensures only { (stmt : Stmt) → Spells text.now stmt → ParseGives result (Statement stmt) }
-    // The fault of the text stands there.
-    ensures fault { (place : ℕ) → result ≡ Err (faults.Syntax place) → IsFault text.now place }
-    // Which statement or place it is, as a function of the text.
+    // The text's fault is at the byte offset that is reported.
+    ensures fault { (offset : ℕ) → result ≡ Err (faults.Syntax offset) → IsFault text.now offset }
+    // The statement or the byte offset is a function of the text.
     ensures exact { ParseGives result (parsed_of text.now) }
 {
     read(alloc, text)

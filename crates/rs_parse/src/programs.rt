@@ -1,13 +1,13 @@
-//! Statements on programs and about the site itself.
+//! Parsing of statements on programs, and of EXPLAIN and SHOW.
 
 ghost use Rattle.rs_parse.specs.Read.{Reads};
 ghost use Rattle.rs_parse.specs.Reader as spec;
 
 use crate::changes::dml;
 use crate::cursor::Cursor;
-use crate::list::{Separator, listed};
+use crate::list::{Separator, separated_list};
 use crate::queries::select;
-use rs_ast::{Dml, Dmls, Idents, Mark, Stmt};
+use rs_ast::{Dml, Dmls, Idents, Stmt, Symbol};
 use rs_base::{ReadFault, Row};
 use sqlite_items::Items;
 use std::alloc::Global;
@@ -17,11 +17,11 @@ fn dml_ended(alloc: Global, tokens: &mut Cursor<'_>) -> Result<Dml, ReadFault>
     ensures { Reads (spec.dml_ended_at tokens.old) result tokens.new }
 {
     let dml = dml(alloc, tokens)?;
-    tokens.mark(Mark::Semicolon)?;
+    tokens.expect_symbol(Symbol::Semicolon)?;
     Ok(dml)
 }
 
-/// One to eight statements, each with its semicolon.
+/// Parses one to eight statements, each with its semicolon.
 #[tactic(auto, unfolding(crate::specs::Reader::body_at))]
 fn body(alloc: Global, tokens: &mut Cursor<'_>) -> Result<Dmls, ReadFault>
     ensures { Reads (spec.body_at tokens.old) result tokens.new }
@@ -38,20 +38,20 @@ fn body(alloc: Global, tokens: &mut Cursor<'_>) -> Result<Dmls, ReadFault>
 }
 
 fn params(alloc: Global, tokens: &mut Cursor<'_>) -> Result<Idents, ReadFault>
-    ensures { Reads (spec.listed_or_none_at spec.is_ident_token spec.ident_at 15 tokens.old) result tokens.new }
+    ensures { Reads (spec.list_or_none_at spec.is_ident_token spec.ident_at 15 tokens.old) result tokens.new }
 {
     if tokens.begins_with_ident() {
-        listed(alloc, tokens, Separator::Comma, 15)
+        separated_list(alloc, tokens, Separator::Comma, 15)
     } else {
         Ok(Items::new(alloc))
     }
 }
 
 fn given(alloc: Global, tokens: &mut Cursor<'_>) -> Result<Row, ReadFault>
-    ensures { Reads (spec.listed_or_none_at spec.begins_literal spec.literal_at 15 tokens.old) result tokens.new }
+    ensures { Reads (spec.list_or_none_at spec.begins_literal spec.literal_at 15 tokens.old) result tokens.new }
 {
     if tokens.begins_with_literal() {
-        listed(alloc, tokens, Separator::Comma, 15)
+        separated_list(alloc, tokens, Separator::Comma, 15)
     } else {
         Ok(Items::new(alloc))
     }
@@ -61,14 +61,14 @@ fn given(alloc: Global, tokens: &mut Cursor<'_>) -> Result<Row, ReadFault>
 pub fn compile(alloc: Global, tokens: &mut Cursor<'_>) -> Result<Stmt, ReadFault>
     ensures { Reads (spec.compile_at tokens.old) result tokens.new }
 {
-    tokens.word(b"compile")?;
+    tokens.expect_keyword(b"compile")?;
     let program = tokens.ident()?;
-    tokens.mark(Mark::Open)?;
+    tokens.expect_symbol(Symbol::Open)?;
     let params = params(alloc, tokens)?;
-    tokens.mark(Mark::Close)?;
-    tokens.word(b"as")?;
+    tokens.expect_symbol(Symbol::Close)?;
+    tokens.expect_keyword(b"as")?;
     let body = body(alloc, tokens)?;
-    tokens.word(b"end")?;
+    tokens.expect_keyword(b"end")?;
     Ok(Stmt::Compile {
         program,
         params,
@@ -80,11 +80,11 @@ pub fn compile(alloc: Global, tokens: &mut Cursor<'_>) -> Result<Stmt, ReadFault
 pub fn execute(alloc: Global, tokens: &mut Cursor<'_>) -> Result<Stmt, ReadFault>
     ensures { Reads (spec.execute_at tokens.old) result tokens.new }
 {
-    tokens.word(b"execute")?;
+    tokens.expect_keyword(b"execute")?;
     let program = tokens.ident()?;
-    tokens.mark(Mark::Open)?;
+    tokens.expect_symbol(Symbol::Open)?;
     let values = given(alloc, tokens)?;
-    tokens.mark(Mark::Close)?;
+    tokens.expect_symbol(Symbol::Close)?;
     Ok(Stmt::Execute { program, values })
 }
 
@@ -92,7 +92,7 @@ pub fn execute(alloc: Global, tokens: &mut Cursor<'_>) -> Result<Stmt, ReadFault
 pub fn explain(alloc: Global, tokens: &mut Cursor<'_>) -> Result<Stmt, ReadFault>
     ensures { Reads (spec.explain_at tokens.old) result tokens.new }
 {
-    tokens.word(b"explain")?;
+    tokens.expect_keyword(b"explain")?;
     Ok(Stmt::Explain(select(alloc, tokens)?))
 }
 
@@ -100,12 +100,12 @@ pub fn explain(alloc: Global, tokens: &mut Cursor<'_>) -> Result<Stmt, ReadFault
 pub fn show(tokens: &mut Cursor<'_>) -> Result<Stmt, ReadFault>
     ensures { Reads (spec.show_at tokens.old) result tokens.new }
 {
-    tokens.word(b"show")?;
+    tokens.expect_keyword(b"show")?;
     if tokens.begins_with_word(b"sections") {
-        tokens.word(b"sections")?;
+        tokens.expect_keyword(b"sections")?;
         Ok(Stmt::ShowSections)
     } else {
-        tokens.word(b"cache")?;
+        tokens.expect_keyword(b"cache")?;
         Ok(Stmt::ShowCache)
     }
 }

@@ -1,13 +1,13 @@
-//! SELECT.
+//! Parsing of queries.
 
 ghost use Rattle.rs_parse.specs.Read.{Reads, optional_at};
 ghost use Rattle.rs_parse.specs.Reader as spec;
 
 use crate::clauses::optional_clauses;
 use crate::cursor::Cursor;
-use crate::list::{ListItem, Separator, listed};
+use crate::list::{ListItem, Separator, separated_list};
 use crate::names::{col_ref, name};
-use rs_ast::{ColRef, ColRefs, Item, Key, KeyBy, Keys, Mark, Select, SelectItems, TableRef};
+use rs_ast::{ColRef, ColRefs, Item, Key, KeyBy, Keys, Select, SelectItems, Symbol, TableRef};
 use rs_base::{Ident, ReadFault};
 use sqlite_items::Items;
 use std::alloc::Global;
@@ -16,22 +16,22 @@ use std::alloc::Global;
 fn count(tokens: &mut Cursor<'_>) -> Result<Item, ReadFault>
     ensures { Reads (spec.count_at tokens.old) result tokens.new }
 {
-    tokens.word(b"count")?;
-    tokens.mark(Mark::Open)?;
-    tokens.mark(Mark::Star)?;
-    tokens.mark(Mark::Close)?;
+    tokens.expect_keyword(b"count")?;
+    tokens.expect_symbol(Symbol::Open)?;
+    tokens.expect_symbol(Symbol::Star)?;
+    tokens.expect_symbol(Symbol::Close)?;
     Ok(Item::Count)
 }
 
-/// The column of an aggregate.
+/// Parses an aggregate over a column, and returns the column.
 #[tactic(auto, unfolding(crate::specs::Reader::of_column_at))]
 fn of_column(aggregate: &[u8], tokens: &mut Cursor<'_>) -> Result<ColRef, ReadFault>
     ensures { Reads (spec.of_column_at aggregate.now tokens.old) result tokens.new }
 {
-    tokens.word(aggregate)?;
-    tokens.mark(Mark::Open)?;
+    tokens.expect_keyword(aggregate)?;
+    tokens.expect_symbol(Symbol::Open)?;
     let column = col_ref(tokens)?;
-    tokens.mark(Mark::Close)?;
+    tokens.expect_symbol(Symbol::Close)?;
     Ok(column)
 }
 
@@ -52,16 +52,16 @@ fn item(tokens: &mut Cursor<'_>) -> Result<Item, ReadFault>
     }
 }
 
-/// The items of a query, or none for every column.
+/// Parses the items of a select list, or `*`, which is `None`.
 #[tactic(auto, unfolding(crate::specs::Reader::items_at))]
 fn items(alloc: Global, tokens: &mut Cursor<'_>) -> Result<Option<SelectItems>, ReadFault>
     ensures { Reads (spec.items_at tokens.old) result tokens.new }
 {
-    if tokens.begins_with_mark(Mark::Star) {
-        tokens.mark(Mark::Star)?;
+    if tokens.begins_with_symbol(Symbol::Star) {
+        tokens.expect_symbol(Symbol::Star)?;
         Ok(None)
     } else {
-        Ok(Some(listed(alloc, tokens, Separator::Comma, 15)?))
+        Ok(Some(separated_list(alloc, tokens, Separator::Comma, 15)?))
     }
 }
 
@@ -70,7 +70,7 @@ fn distinct(tokens: &mut Cursor<'_>) -> Result<bool, ReadFault>
     ensures { Reads (spec.distinct_at tokens.old) result tokens.new }
 {
     if tokens.begins_with_word(b"distinct") {
-        tokens.word(b"distinct")?;
+        tokens.expect_keyword(b"distinct")?;
         Ok(true)
     } else {
         Ok(false)
@@ -100,9 +100,9 @@ fn table_ref(tokens: &mut Cursor<'_>) -> Result<TableRef, ReadFault>
 fn group_by(alloc: Global, tokens: &mut Cursor<'_>) -> Result<ColRefs, ReadFault>
     ensures { Reads (spec.group_by_at tokens.old) result tokens.new }
 {
-    tokens.word(b"group")?;
-    tokens.word(b"by")?;
-    listed(alloc, tokens, Separator::Comma, 15)
+    tokens.expect_keyword(b"group")?;
+    tokens.expect_keyword(b"by")?;
+    separated_list(alloc, tokens, Separator::Comma, 15)
 }
 
 #[tactic(auto, unfolding(crate::specs::Reader::group_at))]
@@ -123,7 +123,7 @@ fn key_by(tokens: &mut Cursor<'_>) -> Result<KeyBy, ReadFault>
     if tokens.begins_with_ident() {
         Ok(KeyBy::Col(col_ref(tokens)?))
     } else {
-        Ok(KeyBy::Place(tokens.place()?))
+        Ok(KeyBy::Place(tokens.ordinal()?))
     }
 }
 
@@ -132,10 +132,10 @@ fn is_desc(tokens: &mut Cursor<'_>) -> Result<bool, ReadFault>
     ensures { Reads (spec.direction_at tokens.old) result tokens.new }
 {
     if tokens.begins_with_word(b"desc") {
-        tokens.word(b"desc")?;
+        tokens.expect_keyword(b"desc")?;
         Ok(true)
     } else if tokens.begins_with_word(b"asc") {
-        tokens.word(b"asc")?;
+        tokens.expect_keyword(b"asc")?;
         Ok(false)
     } else {
         Ok(false)
@@ -155,9 +155,9 @@ fn key(tokens: &mut Cursor<'_>) -> Result<Key, ReadFault>
 fn order_by(alloc: Global, tokens: &mut Cursor<'_>) -> Result<Keys, ReadFault>
     ensures { Reads (spec.order_by_at tokens.old) result tokens.new }
 {
-    tokens.word(b"order")?;
-    tokens.word(b"by")?;
-    listed(alloc, tokens, Separator::Comma, 15)
+    tokens.expect_keyword(b"order")?;
+    tokens.expect_keyword(b"by")?;
+    separated_list(alloc, tokens, Separator::Comma, 15)
 }
 
 #[tactic(auto, unfolding(crate::specs::Reader::order_at))]
@@ -171,16 +171,16 @@ fn order(alloc: Global, tokens: &mut Cursor<'_>) -> Result<Keys, ReadFault>
     }
 }
 
-/// A query.
+/// Parses a query.
 #[tactic(auto, unfolding(crate::specs::Reader::select_at))]
 pub fn select(alloc: Global, tokens: &mut Cursor<'_>) -> Result<Select, ReadFault>
     ensures { Reads (spec.select_at tokens.old) result tokens.new }
 {
-    tokens.word(b"select")?;
+    tokens.expect_keyword(b"select")?;
     let distinct = distinct(tokens)?;
     let items = items(alloc, tokens)?;
-    tokens.word(b"from")?;
-    let from = listed(alloc, tokens, Separator::Comma, 5)?;
+    tokens.expect_keyword(b"from")?;
+    let from = separated_list(alloc, tokens, Separator::Comma, 5)?;
     let clauses = optional_clauses(alloc, tokens)?;
     let group = group(alloc, tokens)?;
     let order = order(alloc, tokens)?;

@@ -1,4 +1,4 @@
-//! A place in a text.
+//! A cursor over a text, and the readers of tokens.
 
 ghost use Rattle.std.specs.Prelude.{◌≡◌, ◌≤◌, length, drop, if◌then◌else◌};
 ghost use Rattle.std.specs.List.{prefix_len};
@@ -7,12 +7,12 @@ ghost use Rattle.rs_parse.specs.Tokens as spec;
 ghost use Rattle.rs_parse.specs.Scanning.{token_here, Steps};
 
 use crate::span::{blanks, is_digit, is_letter, number_len, word_len};
-use rs_ast::{Mark, Token};
+use rs_ast::{Symbol, Token};
 use rs_base::{Bytes, Ident, NoMemory, ReadFault, Txt, TxtFault};
 use std::alloc::Global;
 use std::marker::Model;
 
-/// The bytes that are still to be read.
+/// A cursor over a text: the bytes that are still to be read.
 #[derive(Drop)]
 pub struct Scanner<'a> {
     left: &'a [u8],
@@ -44,7 +44,7 @@ impl<'a> Scanner<'a> {
         Scanner { left: text }
     }
 
-    /// How many bytes are still to be read.
+    /// Returns the number of bytes that are still to be read.
     pub fn len(&self) -> usize
         ensures { result ≡ length self.now }
     {
@@ -87,7 +87,7 @@ impl<'a> Scanner<'a> {
         Ok(Token::Number(value as u64))
     }
 
-    /// What stands up to the closing quote, with each doubled quote taken as one.
+    /// Reads the bytes up to the closing quote, with each doubled quote as one.
     fn quoted(&mut self, alloc: Global) -> Result<Bytes, ReadFault>
         ensures { Reads (spec.quoted_at self.old) result self.new }
     {
@@ -111,7 +111,7 @@ impl<'a> Scanner<'a> {
         }
     }
 
-    /// A text, behind its opening quote.
+    /// Reads a text literal, after its opening quote.
     #[tactic(auto, unfolding(crate::specs::Tokens::text_at))]
     fn text(&mut self, alloc: Global) -> Result<Token, ReadFault>
         ensures { Reads (spec.text_at self.old) result self.new }
@@ -124,7 +124,7 @@ impl<'a> Scanner<'a> {
         }
     }
 
-    /// Goes behind this byte, where it stands there.
+    /// Consumes this byte if it is next, and returns whether it was.
     fn eat(&mut self, byte: u8) -> bool
         ensures eaten { result ≡ spec.begins_with byte self.old }
         ensures left { self.new ≡ (if result then drop 1 self.old else self.old) }
@@ -138,28 +138,28 @@ impl<'a> Scanner<'a> {
         false
     }
 
-    /// A mark, behind its first byte.
-    #[tactic(auto, unfolding(crate::specs::Tokens::mark_at))]
-    fn mark(&mut self, first: u8) -> Result<Mark, ReadFault>
-        ensures { Reads (spec.mark_at first self.old) result self.new }
+    /// Reads a symbol, after its first byte.
+    #[tactic(auto, unfolding(crate::specs::Tokens::symbol_at))]
+    fn symbol(&mut self, first: u8) -> Result<Symbol, ReadFault>
+        ensures { Reads (spec.symbol_at first self.old) result self.new }
     {
         match first {
-            b'(' => Ok(Mark::Open),
-            b')' => Ok(Mark::Close),
-            b',' => Ok(Mark::Comma),
-            b'.' => Ok(Mark::Dot),
-            b';' => Ok(Mark::Semicolon),
-            b'@' => Ok(Mark::At),
-            b'*' => Ok(Mark::Star),
-            b':' => Ok(Mark::Colon),
-            b'+' => Ok(Mark::Plus),
-            b'-' => Ok(Mark::Minus),
-            b'=' => Ok(Mark::Equal),
-            b'<' if self.eat(b'>') => Ok(Mark::NotEqual),
-            b'<' if self.eat(b'=') => Ok(Mark::LessOrEqual),
-            b'<' => Ok(Mark::Less),
-            b'>' if self.eat(b'=') => Ok(Mark::GreaterOrEqual),
-            b'>' => Ok(Mark::Greater),
+            b'(' => Ok(Symbol::Open),
+            b')' => Ok(Symbol::Close),
+            b',' => Ok(Symbol::Comma),
+            b'.' => Ok(Symbol::Dot),
+            b';' => Ok(Symbol::Semicolon),
+            b'@' => Ok(Symbol::At),
+            b'*' => Ok(Symbol::Star),
+            b':' => Ok(Symbol::Colon),
+            b'+' => Ok(Symbol::Plus),
+            b'-' => Ok(Symbol::Minus),
+            b'=' => Ok(Symbol::Equal),
+            b'<' if self.eat(b'>') => Ok(Symbol::NotEqual),
+            b'<' if self.eat(b'=') => Ok(Symbol::LessOrEqual),
+            b'<' => Ok(Symbol::Less),
+            b'>' if self.eat(b'=') => Ok(Symbol::GreaterOrEqual),
+            b'>' => Ok(Symbol::Greater),
             _ => Err(ReadFault::Malformed),
         }
     }
@@ -182,10 +182,10 @@ impl<'a> Scanner<'a> {
         if first == b'\'' {
             return self.text(alloc);
         }
-        Ok(Token::Mark(self.mark(first)?))
+        Ok(Token::Symbol(self.symbol(first)?))
     }
 
-    /// The token that stands here, or `None` where none does.
+    /// Reads the next token, or returns `None` if no token begins here.
     pub fn next(&mut self, alloc: Global) -> Result<Option<Token>, NoMemory>
         ensures { Steps result self.old self.new }
     {

@@ -1,12 +1,12 @@
-//! Statements on tables, indexes and synonyms.
+//! Parsing of CREATE, DROP and MIGRATE.
 
 ghost use Rattle.rs_parse.specs.Read.{Reads};
 ghost use Rattle.rs_parse.specs.Reader as spec;
 
 use crate::cursor::Cursor;
-use crate::list::{Separator, listed};
+use crate::list::{Separator, separated_list};
 use crate::names::name;
-use rs_ast::{Mark, Stmt};
+use rs_ast::{Stmt, Symbol};
 use rs_base::ReadFault;
 use std::alloc::Global;
 
@@ -14,11 +14,11 @@ use std::alloc::Global;
 fn create_table(alloc: Global, tokens: &mut Cursor<'_>) -> Result<Stmt, ReadFault>
     ensures { Reads (spec.create_table_at tokens.old) result tokens.new }
 {
-    tokens.word(b"table")?;
+    tokens.expect_keyword(b"table")?;
     let name = name(tokens)?;
-    tokens.mark(Mark::Open)?;
-    let columns = listed(alloc, tokens, Separator::Comma, 15)?;
-    tokens.mark(Mark::Close)?;
+    tokens.expect_symbol(Symbol::Open)?;
+    let columns = separated_list(alloc, tokens, Separator::Comma, 15)?;
+    tokens.expect_symbol(Symbol::Close)?;
     Ok(Stmt::CreateTable { name, columns })
 }
 
@@ -26,13 +26,13 @@ fn create_table(alloc: Global, tokens: &mut Cursor<'_>) -> Result<Stmt, ReadFaul
 fn create_index(tokens: &mut Cursor<'_>) -> Result<Stmt, ReadFault>
     ensures { Reads (spec.create_index_at tokens.old) result tokens.new }
 {
-    tokens.word(b"index")?;
+    tokens.expect_keyword(b"index")?;
     let index = tokens.ident()?;
-    tokens.word(b"on")?;
+    tokens.expect_keyword(b"on")?;
     let name = name(tokens)?;
-    tokens.mark(Mark::Open)?;
+    tokens.expect_symbol(Symbol::Open)?;
     let column = tokens.ident()?;
-    tokens.mark(Mark::Close)?;
+    tokens.expect_symbol(Symbol::Close)?;
     Ok(Stmt::CreateIndex {
         index,
         name,
@@ -44,9 +44,9 @@ fn create_index(tokens: &mut Cursor<'_>) -> Result<Stmt, ReadFault>
 fn create_synonym(tokens: &mut Cursor<'_>) -> Result<Stmt, ReadFault>
     ensures { Reads (spec.create_synonym_at tokens.old) result tokens.new }
 {
-    tokens.word(b"synonym")?;
+    tokens.expect_keyword(b"synonym")?;
     let synonym = tokens.ident()?;
-    tokens.word(b"for")?;
+    tokens.expect_keyword(b"for")?;
     let name = name(tokens)?;
     Ok(Stmt::CreateSynonym { synonym, name })
 }
@@ -55,7 +55,7 @@ fn create_synonym(tokens: &mut Cursor<'_>) -> Result<Stmt, ReadFault>
 pub fn create(alloc: Global, tokens: &mut Cursor<'_>) -> Result<Stmt, ReadFault>
     ensures { Reads (spec.create_at tokens.old) result tokens.new }
 {
-    tokens.word(b"create")?;
+    tokens.expect_keyword(b"create")?;
     if tokens.begins_with_word(b"table") {
         create_table(alloc, tokens)
     } else if tokens.begins_with_word(b"index") {
@@ -69,7 +69,7 @@ pub fn create(alloc: Global, tokens: &mut Cursor<'_>) -> Result<Stmt, ReadFault>
 fn drop_table(tokens: &mut Cursor<'_>) -> Result<Stmt, ReadFault>
     ensures { Reads (spec.drop_table_at tokens.old) result tokens.new }
 {
-    tokens.word(b"table")?;
+    tokens.expect_keyword(b"table")?;
     let name = name(tokens)?;
     Ok(Stmt::DropTable { name })
 }
@@ -78,9 +78,9 @@ fn drop_table(tokens: &mut Cursor<'_>) -> Result<Stmt, ReadFault>
 fn drop_index(tokens: &mut Cursor<'_>) -> Result<Stmt, ReadFault>
     ensures { Reads (spec.drop_index_at tokens.old) result tokens.new }
 {
-    tokens.word(b"index")?;
+    tokens.expect_keyword(b"index")?;
     let index = tokens.ident()?;
-    tokens.word(b"on")?;
+    tokens.expect_keyword(b"on")?;
     let name = name(tokens)?;
     Ok(Stmt::DropIndex { index, name })
 }
@@ -89,7 +89,7 @@ fn drop_index(tokens: &mut Cursor<'_>) -> Result<Stmt, ReadFault>
 fn drop_synonym(tokens: &mut Cursor<'_>) -> Result<Stmt, ReadFault>
     ensures { Reads (spec.drop_synonym_at tokens.old) result tokens.new }
 {
-    tokens.word(b"synonym")?;
+    tokens.expect_keyword(b"synonym")?;
     let synonym = tokens.ident()?;
     Ok(Stmt::DropSynonym { synonym })
 }
@@ -98,7 +98,7 @@ fn drop_synonym(tokens: &mut Cursor<'_>) -> Result<Stmt, ReadFault>
 fn drop_program(tokens: &mut Cursor<'_>) -> Result<Stmt, ReadFault>
     ensures { Reads (spec.drop_program_at tokens.old) result tokens.new }
 {
-    tokens.word(b"program")?;
+    tokens.expect_keyword(b"program")?;
     let program = tokens.ident()?;
     Ok(Stmt::DropProgram { program })
 }
@@ -107,7 +107,7 @@ fn drop_program(tokens: &mut Cursor<'_>) -> Result<Stmt, ReadFault>
 pub fn drop_any(tokens: &mut Cursor<'_>) -> Result<Stmt, ReadFault>
     ensures { Reads (spec.drop_at tokens.old) result tokens.new }
 {
-    tokens.word(b"drop")?;
+    tokens.expect_keyword(b"drop")?;
     if tokens.begins_with_word(b"table") {
         drop_table(tokens)
     } else if tokens.begins_with_word(b"index") {
@@ -123,10 +123,10 @@ pub fn drop_any(tokens: &mut Cursor<'_>) -> Result<Stmt, ReadFault>
 pub fn migrate(tokens: &mut Cursor<'_>) -> Result<Stmt, ReadFault>
     ensures { Reads (spec.migrate_at tokens.old) result tokens.new }
 {
-    tokens.word(b"migrate")?;
-    tokens.word(b"table")?;
+    tokens.expect_keyword(b"migrate")?;
+    tokens.expect_keyword(b"table")?;
     let name = name(tokens)?;
-    tokens.word(b"to")?;
+    tokens.expect_keyword(b"to")?;
     let to = tokens.site()?;
     Ok(Stmt::Migrate { name, to })
 }

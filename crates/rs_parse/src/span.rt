@@ -1,4 +1,4 @@
-//! How far blanks, words and numbers go.
+//! The lengths of blanks, words and numbers.
 
 ghost use Rattle.std.specs.Prelude.{◌≡◌, ◌≤◌, length};
 ghost use Rattle.std.specs.List.{prefix_len};
@@ -28,7 +28,7 @@ fn is_word_byte(byte: u8) -> bool
     is_letter(byte) || is_digit(byte) || byte == b'_'
 }
 
-/// How many bytes at the front are blank.
+/// Returns the length of the blanks that begin the bytes.
 pub fn blanks(bytes: &[u8]) -> usize
     ensures len { result ≡ prefix_len spec.is_blank bytes.now }
     ensures within { result ≤ length bytes.now }
@@ -36,7 +36,7 @@ pub fn blanks(bytes: &[u8]) -> usize
     bytes.iter().take_while(|byte| is_blank(**byte)).count()
 }
 
-/// How many bytes at the front are of a word.
+/// Returns the length of the word that begins the bytes.
 pub fn word_len(bytes: &[u8]) -> usize
     ensures len { result ≡ prefix_len spec.is_word_byte bytes.now }
     ensures within { result ≤ length bytes.now }
@@ -44,7 +44,7 @@ pub fn word_len(bytes: &[u8]) -> usize
     bytes.iter().take_while(|byte| is_word_byte(**byte)).count()
 }
 
-/// How many bytes at the front are digits.
+/// Returns the length of the digits that begin the bytes.
 pub fn number_len(bytes: &[u8]) -> usize
     ensures len { result ≡ prefix_len spec.is_digit bytes.now }
     ensures within { result ≤ length bytes.now }

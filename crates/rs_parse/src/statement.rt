@@ -1,4 +1,4 @@
-//! A statement alone.
+//! Parsing of a whole request.
 
 ghost use Rattle.rs_parse.specs.Read.{Reads};
 ghost use Rattle.rs_parse.specs.Reader as spec;
@@ -7,7 +7,7 @@ use crate::changes::dml;
 use crate::cursor::Cursor;
 use crate::programs::{compile, execute, explain, show};
 use crate::schema::{create, drop_any, migrate};
-use rs_ast::{Mark, Stmt};
+use rs_ast::{Stmt, Symbol};
 use rs_base::ReadFault;
 use std::alloc::Global;
 
@@ -34,13 +34,13 @@ fn stmt(alloc: Global, tokens: &mut Cursor<'_>) -> Result<Stmt, ReadFault>
     }
 }
 
-/// A semicolon or none.
+/// Parses an optional semicolon.
 #[tactic(auto, unfolding(crate::specs::Reader::end_at))]
 fn end(tokens: &mut Cursor<'_>) -> Result<(), ReadFault>
     ensures { Reads (spec.end_at tokens.old) result tokens.new }
 {
-    if tokens.begins_with_mark(Mark::Semicolon) {
-        tokens.mark(Mark::Semicolon)
+    if tokens.begins_with_symbol(Symbol::Semicolon) {
+        tokens.expect_symbol(Symbol::Semicolon)
     } else {
         Ok(())
     }
@@ -55,11 +55,11 @@ fn ended(alloc: Global, tokens: &mut Cursor<'_>) -> Result<Stmt, ReadFault>
     Ok(stmt)
 }
 
-/// The statement that all of the tokens spell.
+/// Parses all of the tokens as one statement.
 #[tactic(auto, unfolding(crate::specs::Reader::request_of))]
 pub fn request(alloc: Global, tokens: &mut Cursor<'_>) -> Result<Stmt, ReadFault>
     ensures { Reads (spec.request_of tokens.old) result tokens.new }
 {
     let stmt = ended(alloc, tokens)?;
-    tokens.alone(stmt)
+    tokens.expect_end(stmt)
 }

@@ -1,11 +1,11 @@
-//! Values, parameters and expressions.
+//! Parsing of values, parameters and expressions.
 
 ghost use Rattle.rs_parse.specs.Read.{Reads, optional_at};
 ghost use Rattle.rs_parse.specs.Reader as spec;
 
 use crate::cursor::Cursor;
-use crate::list::{ListItem, Separator, listed};
-use rs_ast::{Arith, Expr, Mark, Set, Term, TermRow};
+use crate::list::{ListItem, Separator, separated_list};
+use rs_ast::{Arith, Expr, Set, Symbol, Term, TermRow};
 use rs_base::{Ident, ReadFault, Value};
 use std::alloc::Global;
 
@@ -13,37 +13,37 @@ use std::alloc::Global;
 fn negative(tokens: &mut Cursor<'_>) -> Result<Value, ReadFault>
     ensures { Reads (spec.negative_at tokens.old) result tokens.new }
 {
-    tokens.mark(Mark::Minus)?;
+    tokens.expect_symbol(Symbol::Minus)?;
     tokens.negated()
 }
 
-/// A number, a number behind `-`, or a text.
+/// Parses a literal: a number, `-` and a number, or a text literal.
 #[tactic(auto, unfolding(crate::specs::Reader::literal_at))]
 pub fn literal(alloc: Global, tokens: &mut Cursor<'_>) -> Result<Value, ReadFault>
     ensures { Reads (spec.literal_at tokens.old) result tokens.new }
 {
-    if tokens.begins_with_mark(Mark::Minus) {
+    if tokens.begins_with_symbol(Symbol::Minus) {
         negative(tokens)
     } else {
         tokens.unsigned(alloc)
     }
 }
 
-/// A parameter: `:name`.
+/// Parses a parameter: `:name`.
 #[tactic(auto, unfolding(crate::specs::Reader::param_at))]
 pub fn param(tokens: &mut Cursor<'_>) -> Result<Ident, ReadFault>
     ensures { Reads (spec.param_at tokens.old) result tokens.new }
 {
-    tokens.mark(Mark::Colon)?;
+    tokens.expect_symbol(Symbol::Colon)?;
     tokens.ident()
 }
 
-/// What an INSERT puts into a column.
+/// Parses a value of INSERT: a literal or a parameter.
 #[tactic(auto, unfolding(crate::specs::Reader::val_at))]
 fn val(alloc: Global, tokens: &mut Cursor<'_>) -> Result<Term, ReadFault>
     ensures { Reads (spec.val_at tokens.old) result tokens.new }
 {
-    if tokens.begins_with_mark(Mark::Colon) {
+    if tokens.begins_with_symbol(Symbol::Colon) {
         Ok(Term::Param(param(tokens)?))
     } else {
         Ok(Term::Lit(literal(alloc, tokens)?))
@@ -94,19 +94,19 @@ fn set(alloc: Global, tokens: &mut Cursor<'_>) -> Result<Set, ReadFault>
     ensures { Reads (spec.set_at tokens.old) result tokens.new }
 {
     let column = tokens.ident()?;
-    tokens.mark(Mark::Equal)?;
+    tokens.expect_symbol(Symbol::Equal)?;
     let expr = expr(alloc, tokens)?;
     Ok(Set { column, expr })
 }
 
-/// One to sixteen values between brackets.
+/// Parses one to sixteen values in parentheses.
 #[tactic(auto, unfolding(crate::specs::Reader::tuple_at))]
 fn tuple(alloc: Global, tokens: &mut Cursor<'_>) -> Result<TermRow, ReadFault>
     ensures { Reads (spec.tuple_at tokens.old) result tokens.new }
 {
-    tokens.mark(Mark::Open)?;
-    let row = listed(alloc, tokens, Separator::Comma, 15)?;
-    tokens.mark(Mark::Close)?;
+    tokens.expect_symbol(Symbol::Open)?;
+    let row = separated_list(alloc, tokens, Separator::Comma, 15)?;
+    tokens.expect_symbol(Symbol::Close)?;
     Ok(row)
 }
 

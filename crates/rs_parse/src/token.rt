@@ -1,9 +1,9 @@
-//! What single tokens stand for.
+//! The meaning of single tokens.
 
 ghost use Rattle.std.specs.Prelude.{◌≡◌, IfOk, is_some};
 ghost use Rattle.rs_parse.specs.Reader as spec;
 
-use rs_ast::{Arith, Mark, Op, Token, is_reserved};
+use rs_ast::{Arith, Op, Symbol, Token, is_reserved};
 use rs_base::{Ident, Kind, NoMemory, SiteNo, Value};
 use std::alloc::Global;
 
@@ -20,7 +20,7 @@ pub fn ident_of(token: &Token) -> Option<Ident>
         }
         Token::Number(_) => None,
         Token::Text(_) => None,
-        Token::Mark(_) => None,
+        Token::Symbol(_) => None,
     }
 }
 
@@ -37,7 +37,7 @@ pub fn site_of(token: &Token) -> Option<SiteNo>
             }
         }
         Token::Text(_) => None,
-        Token::Mark(_) => None,
+        Token::Symbol(_) => None,
     }
 }
 
@@ -60,20 +60,20 @@ pub fn kind_of(token: &Token) -> Option<Kind>
         Token::Word(word) => kind_of_word(word.as_bytes()),
         Token::Number(_) => None,
         Token::Text(_) => None,
-        Token::Mark(_) => None,
+        Token::Symbol(_) => None,
     }
 }
 
-fn op_of_mark(mark: Mark) -> Option<Op>
-    ensures { result ≡ spec.op_of_mark mark }
+fn op_of_symbol(symbol: Symbol) -> Option<Op>
+    ensures { result ≡ spec.op_of_symbol symbol }
 {
-    match mark {
-        Mark::Equal => Some(Op::Eq),
-        Mark::NotEqual => Some(Op::Ne),
-        Mark::Less => Some(Op::Lt),
-        Mark::LessOrEqual => Some(Op::Le),
-        Mark::Greater => Some(Op::Gt),
-        Mark::GreaterOrEqual => Some(Op::Ge),
+    match symbol {
+        Symbol::Equal => Some(Op::Eq),
+        Symbol::NotEqual => Some(Op::Ne),
+        Symbol::Less => Some(Op::Lt),
+        Symbol::LessOrEqual => Some(Op::Le),
+        Symbol::Greater => Some(Op::Gt),
+        Symbol::GreaterOrEqual => Some(Op::Ge),
         _ => None,
     }
 }
@@ -85,17 +85,17 @@ pub fn op_of(token: &Token) -> Option<Op>
         Token::Word(_) => None,
         Token::Number(_) => None,
         Token::Text(_) => None,
-        Token::Mark(mark) => op_of_mark(*mark),
+        Token::Symbol(symbol) => op_of_symbol(*symbol),
     }
 }
 
-fn arith_of_mark(mark: Mark) -> Option<Arith>
-    ensures { result ≡ spec.arith_of_mark mark }
+fn arith_of_symbol(symbol: Symbol) -> Option<Arith>
+    ensures { result ≡ spec.arith_of_symbol symbol }
 {
-    match mark {
-        Mark::Plus => Some(Arith::Add),
-        Mark::Minus => Some(Arith::Sub),
-        Mark::Star => Some(Arith::Mul),
+    match symbol {
+        Symbol::Plus => Some(Arith::Add),
+        Symbol::Minus => Some(Arith::Sub),
+        Symbol::Star => Some(Arith::Mul),
         _ => None,
     }
 }
@@ -107,23 +107,23 @@ pub fn arith_of(token: &Token) -> Option<Arith>
         Token::Word(_) => None,
         Token::Number(_) => None,
         Token::Text(_) => None,
-        Token::Mark(mark) => arith_of_mark(*mark),
+        Token::Symbol(symbol) => arith_of_symbol(*symbol),
     }
 }
 
-/// A key's place.
-pub fn place_of(token: &Token) -> Option<u32>
-    ensures { result ≡ spec.place_of token.now }
+/// Returns the ordinal of a select item, below `2 ^ 32`.
+pub fn ordinal_of(token: &Token) -> Option<u32>
+    ensures { result ≡ spec.ordinal_of token.now }
 {
     match token {
         Token::Word(_) => None,
         Token::Number(n) => { if *n < 1 << 32 { Some(*n as u32) } else { None } }
         Token::Text(_) => None,
-        Token::Mark(_) => None,
+        Token::Symbol(_) => None,
     }
 }
 
-/// A number behind `-`.
+/// Returns the value of a number after `-`, below `2 ^ 63`.
 pub fn negated_of(token: &Token) -> Option<Value>
     ensures { result ≡ spec.negated_of token.now }
 {
@@ -137,7 +137,7 @@ pub fn negated_of(token: &Token) -> Option<Value>
             }
         }
         Token::Text(_) => None,
-        Token::Mark(_) => None,
+        Token::Symbol(_) => None,
     }
 }
 
@@ -148,11 +148,11 @@ pub fn is_unsigned(token: &Token) -> bool
         Token::Word(_) => false,
         Token::Number(n) => *n < 1 << 63,
         Token::Text(_) => true,
-        Token::Mark(_) => false,
+        Token::Symbol(_) => false,
     }
 }
 
-/// A number without a sign, or a text.
+/// Returns the value of a number without a sign, below `2 ^ 63`, or of a text literal.
 pub fn unsigned_of(alloc: Global, token: &Token) -> Result<Option<Value>, NoMemory>
     ensures { IfOk result (λ value. value ≡ spec.unsigned_of token.now) }
 {
@@ -166,11 +166,11 @@ pub fn unsigned_of(alloc: Global, token: &Token) -> Result<Option<Value>, NoMemo
             }
         }
         Token::Text(text) => Ok(Some(Value::Text(text.copy(alloc)?))),
-        Token::Mark(_) => Ok(None),
+        Token::Symbol(_) => Ok(None),
     }
 }
 
-/// A statement on rows may begin with it.
+/// Returns whether a statement on rows may begin with the token.
 pub fn is_dml(token: &Token) -> bool
     ensures { result ≡ spec.begins_dml token.now }
 {

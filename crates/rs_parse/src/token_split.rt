@@ -1,14 +1,15 @@
-//! How a text is split into tokens.
+//! The split of a text into tokens.
 
 use rs_ast::Tokens;
 use sqlite_items::Items;
 
-/// A text's tokens, the byte at which each begins, and the place at which the split ends.
-#[derive(Debug, Drop)]
+/// A text's tokens, the byte offset at which each begins, and the byte offset at which the split ends.
+#[derive(Drop)]
 pub struct Split {
     pub tokens: Tokens,
     pub starts: Items<usize>,
-    /// The text's length where it is split to its end, and else the first byte reached at which no token begins.
+    /// The text's length if it is split to its end, and otherwise the offset of the first byte reached at which no token
+    /// begins.
     pub end: usize,
     /// Whether the text is split to its end.
     pub whole: bool,

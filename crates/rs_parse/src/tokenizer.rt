@@ -1,4 +1,4 @@
-//! From a text to its tokens.
+//! The tokenizer.
 
 ghost use Rattle.std.specs.Prelude.{◌≡◌, IfOk};
 ghost use Rattle.rs_parse.specs.Tokens as spec;
@@ -8,10 +8,10 @@ use crate::token_split::Split;
 use rs_base::{NoMemory, with_room};
 use std::alloc::Global;
 
-/// Room for the tokens of most texts.
+/// The number of tokens that most texts don't exceed.
 const ROOM: usize = 16;
 
-/// Splits a text into tokens, up to the first byte at which no token begins. The time goes with the text's length.
+/// Splits a text into tokens, up to the first byte at which no token begins. Linear in the text's length.
 pub fn split(alloc: Global, text: &[u8]) -> Result<Split, NoMemory>
     ensures { IfOk result (λ split. split ≡ spec.split_of text.now) }
 {
@@ -20,16 +20,16 @@ pub fn split(alloc: Global, text: &[u8]) -> Result<Split, NoMemory>
     let mut scanner = Scanner::new(text);
     loop {
         scanner.skip_blanks();
-        let place = text.len() - scanner.len();
+        let offset = text.len() - scanner.len();
         let Some(token) = scanner.next(alloc)? else {
             return Ok(Split {
                 tokens,
                 starts,
-                end: place,
-                whole: place == text.len(),
+                end: offset,
+                whole: offset == text.len(),
             });
         };
         tokens.push(token)?;
-        starts.push(place)?;
+        starts.push(offset)?;
     }
 }

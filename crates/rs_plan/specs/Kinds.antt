@@ -9,7 +9,7 @@ same_kind kinds.Int kinds.Text = false
 same_kind kinds.Text kinds.Int = false
 same_kind kinds.Text kinds.Text = true
 
--- two kinds are the same; one that isn't known, that of a parameter without a value, fits any
+-- two kinds are the same; an unknown one, that of a parameter without a value, fits any
 abbrev pub kinds_fit : Option Kind → Option Kind → Bool
 kinds_fit None other = true
 kinds_fit (Some kind) None = true

@@ -1,4 +1,4 @@
--- When a bound statement is over tables of which entries tell. A parameter fits any kind.
+-- When a bound statement is over the tables that entries describe. A parameter fits any kind.
 use Rattle.std.specs.Prelude.{◌≡◌, ◌≤◌, ℕ, Bool, true, false, ◌&&◌, ◌||◌, not, ◌==◌, nat_lt, List, [], ◌∷◌, map, flat_map, length, Option, Some, None, slice_get, IsTrue, All}
 use Rattle.std.specs.List.{list_any, list_all}
 use Rattle.std.specs.Cmp.Lexicographic.{pointwise}
@@ -23,33 +23,33 @@ use Rattle.rs_plan.specs.Kinds.{kinds_fit}
 
 -- ---- columns
 
--- the kinds of the columns, place by place
+-- the kinds of the columns, by column index
 abbrev pub kinds_of : List Entry → List Kind
 kinds_of entries = flat_map (λ entry. map (λ column. column.kind) entry.columns) entries
 
-abbrev pub is_place : List Kind → ℕ → Bool
-is_place columns place = nat_lt place (length columns)
+abbrev pub is_column_index : List Kind → ℕ → Bool
+is_column_index columns column_index = nat_lt column_index (length columns)
 
 -- there is such a column, and it has this kind
 abbrev pub has_kind : List Kind → Kind → ℕ → Bool
-has_kind columns kind place = is_place columns place && kinds_fit (Some kind) (slice_get columns place)
+has_kind columns kind column_index = is_column_index columns column_index && kinds_fit (Some kind) (slice_get columns column_index)
 
--- ---- clauses
+---- predicates
 
 abbrev pub side_kind : List Kind → BoundSide → Option Kind
-side_kind columns (sides.Place place) = slice_get columns place
+side_kind columns (sides.Place column_index) = slice_get columns column_index
 side_kind columns (sides.Lit value) = Some (kind_of value)
 side_kind columns (sides.Param param) = None
 
-abbrev pub side_is_place : List Kind → BoundSide → Bool
-side_is_place columns (sides.Place place) = is_place columns place
-side_is_place columns (sides.Lit value) = true
-side_is_place columns (sides.Param param) = true
+abbrev pub side_is_column : List Kind → BoundSide → Bool
+side_is_column columns (sides.Place column_index) = is_column_index columns column_index
+side_is_column columns (sides.Lit value) = true
+side_is_column columns (sides.Param param) = true
 
--- its columns are there, and its two sides have one kind
+-- its columns are there, and its two operands have one kind
 abbrev pub cmp_fits : List Kind → BoundCmp → Bool
 cmp_fits columns cmp =
-    is_place columns cmp.left && side_is_place columns cmp.right && kinds_fit (slice_get columns cmp.left) (side_kind columns cmp.right)
+    is_column_index columns cmp.left && side_is_column columns cmp.right && kinds_fit (slice_get columns cmp.left) (side_kind columns cmp.right)
 
 abbrev pub clauses_fit : List Kind → List (List BoundCmp) → Bool
 clauses_fit columns clauses = list_all (list_all (cmp_fits columns)) clauses
@@ -58,36 +58,36 @@ clauses_fit columns clauses = list_all (list_all (cmp_fits columns)) clauses
 
 -- its column is there; a sum is over integers
 abbrev pub item_fits : List Kind → ShapeItem → Bool
-item_fits columns (items.Col place) = is_place columns place
+item_fits columns (items.Col column_index) = is_column_index columns column_index
 item_fits columns items.Count = true
-item_fits columns (items.Sum place) = has_kind columns kinds.Int place
-item_fits columns (items.Min place) = is_place columns place
-item_fits columns (items.Max place) = is_place columns place
+item_fits columns (items.Sum column_index) = has_kind columns kinds.Int column_index
+item_fits columns (items.Min column_index) = is_column_index columns column_index
+item_fits columns (items.Max column_index) = is_column_index columns column_index
 
 abbrev pub is_aggregate : ShapeItem → Bool
-is_aggregate (items.Col place) = false
+is_aggregate (items.Col column_index) = false
 is_aggregate items.Count = true
-is_aggregate (items.Sum place) = true
-is_aggregate (items.Min place) = true
-is_aggregate (items.Max place) = true
+is_aggregate (items.Sum column_index) = true
+is_aggregate (items.Min column_index) = true
+is_aggregate (items.Max column_index) = true
 
 abbrev pub is_filled : {A : Type 0} → List A → Bool
 is_filled [] = false
 is_filled (item ∷ items) = true
 
--- the item is no column but one of those of the group
+-- the item is no column, or one of the group
 abbrev pub is_of_group : List ℕ → ShapeItem → Bool
-is_of_group group (items.Col place) = list_any (λ other. place == other) group
+is_of_group group (items.Col column_index) = list_any (λ other. column_index == other) group
 is_of_group group items.Count = true
-is_of_group group (items.Sum place) = true
-is_of_group group (items.Min place) = true
-is_of_group group (items.Max place) = true
+is_of_group group (items.Sum column_index) = true
+is_of_group group (items.Min column_index) = true
+is_of_group group (items.Max column_index) = true
 
--- The shape is over these columns: all its columns, items and keys are there; it is grouped exactly where an item is an
+-- The shape is over these columns: all its columns, items and keys are there; it is grouped exactly if an item is an
 -- aggregate or there are columns to group by; and then each item that is a column is one of these.
 pub record IsShapeOver (columns : List Kind) (shape : Shape) : Type 0 where
   pub items : IsTrue (list_all (item_fits columns) shape.items)
-  pub group : IsTrue (list_all (is_place columns) shape.group)
+  pub group : IsTrue (list_all (is_column_index columns) shape.group)
   pub keys : IsTrue (list_all (λ key. nat_lt key.item (length shape.items)) shape.keys)
   pub grouped : shape.grouped ≡ (list_any is_aggregate shape.items || is_filled shape.group)
   pub grouped_items : IsTrue (not shape.grouped || list_all (is_of_group shape.group) shape.items)
@@ -95,24 +95,24 @@ pub record IsShapeOver (columns : List Kind) (shape : Shape) : Type 0 where
 -- ---- changes
 
 abbrev pub term_kind : List Kind → BoundTerm → Option Kind
-term_kind columns (terms.Place place) = slice_get columns place
+term_kind columns (terms.Place column_index) = slice_get columns column_index
 term_kind columns (terms.Lit value) = Some (kind_of value)
 term_kind columns (terms.Param param) = None
 
-abbrev pub term_is_place : List Kind → BoundTerm → Bool
-term_is_place columns (terms.Place place) = is_place columns place
-term_is_place columns (terms.Lit value) = true
-term_is_place columns (terms.Param param) = true
+abbrev pub term_is_column : List Kind → BoundTerm → Bool
+term_is_column columns (terms.Place column_index) = is_column_index columns column_index
+term_is_column columns (terms.Lit value) = true
+term_is_column columns (terms.Param param) = true
 
 -- its columns are there, and it fits the kind
 abbrev pub term_fits : List Kind → Kind → BoundTerm → Bool
-term_fits columns kind term = term_is_place columns term && kinds_fit (Some kind) (term_kind columns term)
+term_fits columns kind term = term_is_column columns term && kinds_fit (Some kind) (term_kind columns term)
 
 abbrev pub more_fits : List Kind → Option (Arith × BoundTerm) → Bool
 more_fits columns None = true
 more_fits columns (Some (op, second)) = term_fits columns kinds.Int second
 
--- the kind of what a set computes: an integer where two terms are combined, and else that of its column
+-- the kind that an assignment computes: an integer if two terms are combined, and else that of its column
 abbrev pub set_kind : Kind → Option (Arith × BoundTerm) → Kind
 set_kind kind None = kind
 set_kind kind (Some more) = kinds.Int
@@ -128,7 +128,7 @@ set_fits columns set = set_fits_kind columns set (slice_get columns set.column)
 
 -- a value or a parameter, and no column
 abbrev pub is_given : BoundTerm → Bool
-is_given (terms.Place place) = false
+is_given (terms.Place column_index) = false
 is_given (terms.Lit value) = true
 is_given (terms.Param param) = true
 
@@ -164,7 +164,7 @@ pub record IsDeleteOver (name : Swn) (clauses : List (List BoundCmp)) (entries :
   pub tables : AreEntriesOf (name ∷ []) entries
   pub clauses_are : IsTrue (clauses_fit (kinds_of entries) clauses)
 
--- the statement is over the tables of which the entries tell
+-- the statement is over the tables that the entries describe
 abbrev pub IsOver : Bound → List Entry → Type 0
 IsOver (bounds.Select names aliases widths clauses shape) entries = IsSelectOver names aliases widths clauses shape entries
 IsOver (bounds.Insert name rows) entries = IsInsertOver name rows entries

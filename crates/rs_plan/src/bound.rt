@@ -7,9 +7,9 @@ use sqlite_items::Items;
 /// Names of tables.
 pub type Swns = Items<Swn>;
 
-/// A statement on the rows of tables, whose columns are places. A query has, for each of its tables in order, its name,
-/// the name that it goes by, and its number of columns.
-#[derive(Debug, Drop)]
+/// A statement on the rows of tables, its columns bound to column indexes. A query has, for each of its tables in order,
+/// its name, its alias, and its number of columns.
+#[derive(Drop)]
 pub enum Bound {
     Select {
         names: Swns,

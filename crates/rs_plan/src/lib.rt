@@ -1,4 +1,4 @@
-//! Statements whose names are bound to columns, and what it is for one to be over tables.
+//! Statements whose names are bound to columns, and when one is over given tables.
 #![tactic(auto)]
 
 mod bound;

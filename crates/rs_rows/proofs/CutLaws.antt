@@ -1,4 +1,4 @@
--- How rows are cut out of a list of values, and what is put behind them.
+-- Rows cut out of a list of values, and values appended to them.
 use Rattle.std.proofs.Common.{◌≡◌, ℕ, suc, ◌+◌, ◌≤◌, List, [], ◌∷◌, ◌++◌, length, take, drop, sum, refl, sym, ap, ◌∙◌, arith, length-append, length-drop}
 use Rattle.std.proofs.lemmas.List.{nil_from_length, take-append-le, drop-append-le}
 use Rattle.std.proofs.lemmas.List.Sums.{sum_by-cons, sum_by-append}
@@ -13,11 +13,11 @@ pub length_of_cut : {A : Type 0} (widths : List ℕ) (values : List A) → lengt
 length_of_cut [] values = refl
 length_of_cut (width ∷ widths) values = ap suc (length_of_cut widths (drop width values))
 
--- what was put first is what is taken
+-- what was appended first is what is taken
 pub taken_back : {A : Type 0} (values more : List A) → take (length values) (values ++ more) ≡ values
 taken_back values more = take-append_seam values more
 
--- more values, and their widths, put behind those that are all cut
+-- more values, and their widths, appended to those that are all cut
 pub cut_of_more : {A : Type 0} (widths more : List ℕ) (values others : List A) → sum widths ≡ length values → cut (widths ++ more) (values ++ others) ≡ cut widths values ++ cut more others
 cut_of_more [] more values others whole = rw (nil_from_length values (sym whole)) refl
 cut_of_more {A} (width ∷ widths) more values others whole =
@@ -27,7 +27,7 @@ cut_of_more {A} (width ∷ widths) more values others whole =
     rw (take-append-le width values others within, drop-append-le width values others within)
     (ap (λ (rows : List (List A)). take width values ∷ rows) (cut_of_more widths more (drop width values) others left))
 
--- the values of one more row, put behind those that are all cut
+-- the values of one more row, appended to those that are all cut
 pub cut_of_one_more : {A : Type 0} (widths : List ℕ) (values row : List A) → sum widths ≡ length values → cut (widths ++ length row ∷ []) (values ++ row) ≡ cut widths values ++ row ∷ []
 cut_of_one_more {A} widths values row whole =
     cut_of_more widths (length row ∷ []) values row whole ∙ ap (λ (last : List A). cut widths values ++ last ∷ []) (take-length row)

@@ -1,4 +1,4 @@
--- Rows that stand one behind the other in a list of values.
+-- Rows one after the other in a list of values.
 use Rattle.std.specs.Prelude.{ℕ, List, [], ◌∷◌, take, drop}
 
 -- the values cut into rows of these widths

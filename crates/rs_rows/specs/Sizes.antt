@@ -1,4 +1,4 @@
--- How many bytes rows take.
+-- The encoded size of rows.
 use Rattle.std.specs.Prelude.{ℕ, sum_by}
 use Rattle.rs_base.specs.Sizes.{row_size}
 use Rattle.rs_base.specs.Value.{RowList}

@@ -1,4 +1,4 @@
-//! Rows of values, held flat: the values of all rows stand in one list, one row behind the other.
+//! Rows of values, stored flat: the values of all rows in one list, one row after the other.
 #![tactic(auto)]
 
 mod row_run;

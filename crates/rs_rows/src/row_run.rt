@@ -1,4 +1,4 @@
-//! Rows that are lent.
+//! Borrowed rows.
 
 ghost use Rattle.std.specs.Prelude.{◌≡◌, ◌==◌, [], ◌∷◌, length, sum, MatchOption};
 ghost use Rattle.rs_rows.specs.Cut.{cut};
@@ -6,8 +6,8 @@ ghost use Rattle.rs_rows.specs.Cut.{cut};
 use rs_base::Value;
 use std::marker::Model;
 
-/// Rows that are lent: their values, one row behind the other, and how many values each row has.
-#[derive(Debug, Drop)]
+/// Borrowed rows: their values, one row after the other, and the number of values of each row.
+#[derive(Drop)]
 pub struct RowRun<'a> {
     values: &'a [Value],
     widths: &'a [usize],
@@ -35,7 +35,7 @@ impl<'a> RowRun<'a> {
         }
     }
 
-    /// The values cut into rows of these widths.
+    /// Returns the values cut into rows of these widths.
     pub(crate) fn of(values: &'a [Value], widths: &'a [usize]) -> RowRun<'a>
         requires { sum widths.now ≡ length values.now }
         ensures { result ≡ cut widths.now values.now }
@@ -43,8 +43,8 @@ impl<'a> RowRun<'a> {
         RowRun { values, widths }
     }
 
-    /// The same rows, lent once more.
-    pub fn again(&self) -> RowRun<'a>
+    /// Borrows the same rows once more.
+    pub fn view(&self) -> RowRun<'a>
         ensures { result ≡ self.now }
     {
         RowRun {
@@ -67,7 +67,7 @@ impl<'a> RowRun<'a> {
         self.widths.is_empty()
     }
 
-    /// The first row, and those behind it.
+    /// Returns the first row and the others; `None` exactly if there is no row.
     pub fn split_first(&self) -> Option<(&'a [Value], RowRun<'a>)>
         ensures { MatchOption result (self.now ≡ []) (λ parts. self.now ≡ parts.0.now ∷ parts.1) }
     {

@@ -1,4 +1,4 @@
-//! Rows that are held.
+//! Owned rows.
 
 ghost use Rattle.std.specs.Prelude.{◌≡◌, ◌-◌, ◌^◌, [], ◌∷◌, ◌++◌, length, take, min, IfOk, OnOk, OnErr};
 ghost use Rattle.rs_rows.specs.Sizes as spec;
@@ -8,9 +8,9 @@ use rs_base::{NoMemory, Row, Value, row_size};
 use std::alloc::Global;
 use std::marker::Model;
 
-/// Rows in order of insertion: their values, one row behind the other, how many values each row has, and how many bytes
-/// they have.
-#[derive(Debug, Drop)]
+/// Rows in order of insertion: their values, one row after the other, the number of values of each row, and their
+/// encoded size.
+#[derive(Drop)]
 pub struct StoredRows {
     values: Vec<Value>,
     widths: Vec<usize>,
@@ -40,7 +40,7 @@ impl StoredRows {
         }
     }
 
-    /// A copy of the rows.
+    /// Copies the rows.
     pub fn copied(alloc: Global, rows: &[Row]) -> Result<StoredRows, NoMemory>
         ensures { IfOk result (λ stored. stored ≡ rows.now) }
     {
@@ -51,7 +51,7 @@ impl StoredRows {
         Ok(stored)
     }
 
-    /// The rows, lent.
+    /// Borrows the rows.
     pub fn as_run(&self) -> RowRun<'_>
         ensures { result ≡ self.now }
     {
@@ -65,14 +65,14 @@ impl StoredRows {
         self.widths.len()
     }
 
-    /// How many bytes the spellings of the rows' values take, and no more than the greatest `u64`.
+    /// Returns the encoded size of the rows in bytes, at most 2 ^ 64 - 1.
     pub fn bytes(&self) -> u64
         ensures { result ≡ min (spec.rows_size self.now) (2 ^ 64 - 1) }
     {
         self.bytes
     }
 
-    /// Puts a copy of the row at the end. Where memory is wanting, nothing changes.
+    /// Appends a copy of the row. On out of memory nothing changes.
     #[tactic(auto, using(crate::proofs::CutLaws::cut_of_one_more, crate::proofs::CutLaws::whole_of_more, crate::proofs::CutLaws::size_of_more))]
     pub fn push(&mut self, alloc: Global, row: &[Value]) -> Result<(), NoMemory>
         ensures ok { OnOk result (self.new ≡ self.old ++ row.now ∷ []) }
@@ -87,7 +87,7 @@ impl StoredRows {
         put
     }
 
-    /// Moves `more` to the end, in time that goes with `more`. Where memory is wanting, nothing changes.
+    /// Moves `more` to the end. Linear in `more`. On out of memory nothing changes.
     #[tactic(auto, using(crate::proofs::CutLaws::cut_of_more, crate::proofs::CutLaws::whole_of_more, crate::proofs::CutLaws::size_of_more))]
     pub fn append(&mut self, mut more: StoredRows) -> Result<(), NoMemory>
         ensures ok { OnOk result (self.new ≡ self.old ++ more) }
@@ -104,7 +104,7 @@ impl StoredRows {
     }
 }
 
-/// Puts copies of the row's values, and their number, at the ends. Where memory is wanting, some of the copies may stay.
+/// Appends copies of the row's values, and their number. On out of memory some of the copies may stay.
 #[tactic(auto, using(crate::proofs::CutLaws::taken_back))]
 fn put_row(
     alloc: Global,

@@ -1,4 +1,4 @@
--- The loop over the events of a source: what was read, in front of what is still read.
+-- The loop over the events of a source: the events read, before those still to be read.
 use Rattle.std.proofs.Common.{◌≡◌, ℕ, ◌+◌, ◌≤◌, Bool, true, false, cond, List, [], ◌∷◌, ◌++◌, length, Option, Some, None, Result, Ok, Err, refl, sym, ap, ◌∙◌, subst, append_assoc, arith}
 use Rattle.rs_sched.specs.declared.event.Event.{Event}
 use Rattle.rs_sched.specs.declared.fault.Why.{Why}
@@ -103,7 +103,7 @@ pub fewer : (left new : Left) (event : Event) → next_of left ≡ Ok (Some even
 unfolding next_of
 fewer left new event e = fewer_in left.lines left.sites left.before event new e
 
--- ---- by what came of the next line
+---- by the result of the next line
 
 some_next : (left new : Left) (next : Option Event) (event : Event) → next_of left ≡ Ok (next, new) → next ≡ Some event → next_of left ≡ Ok (Some event, new)
 some_next left new next event e is = e ∙ ap (λ (n : Option Event). Ok (n, new)) is

@@ -7,7 +7,7 @@ use Rattle.rs_sched.specs.declared.fault.Why.TheVariants as whys
 use Rattle.rs_sched.specs.declared.fault.SchedFault.{SchedFault}
 use Rattle.rs_sched.specs.declared.fault.SchedFault.TheVariants as scheds
 use Rattle.rs_sched.specs.Lines.{lines_of, without_returns, is_comment}
-use Rattle.rs_sched.specs.Spelling.{line_of}
+use Rattle.rs_sched.specs.Encoding.{line_of}
 use Rattle.rs_sched.specs.Schedule.{AreLines}
 use Rattle.rs_sched.specs.Faults.{IsFault}
 use Rattle.rs_sched.specs.Reader as sched
@@ -19,13 +19,13 @@ use Rattle.rs_world.specs.Accepted.{may_come, is_open_after, are_accepted}
 use Rattle.rs_run.specs.declared.source.Cause.{Cause}
 use Rattle.rs_run.specs.declared.source.Cause.TheVariants as causes
 use Rattle.rs_run.specs.declared.source.Refusal.{Refusal}
-use Rattle.rs_run.specs.Refusal.{IsSource, may_all_come, is_open_behind, IsLaterLine, LacksSettle}
+use Rattle.rs_run.specs.Refusal.{IsSource, may_all_come, is_open_after_all, IsLaterLine, LacksSettle}
 use Rattle.rs_run.specs.SourceReader.{Read, refused, with_events, end_by, further_by, source_at, source_of}
 
 -- ---- which events may come
 
 -- a list that is accepted is one of events that may come, and none of its asks lacks its settle
-accepted_parts : (given : List Event) (unsettled : Bool) → are_accepted unsettled given ≡ true → (may_all_come unsettled given ≡ true) × (is_open_behind unsettled given ≡ false)
+accepted_parts : (given : List Event) (unsettled : Bool) → are_accepted unsettled given ≡ true → (may_all_come unsettled given ≡ true) × (is_open_after_all unsettled given ≡ false)
 accepted_parts [] true h = absurd cc
 accepted_parts [] false h = (refl, refl)
 accepted_parts (event ∷ given) unsettled h =
@@ -39,7 +39,7 @@ and_false false = refl
 
 -- ---- lines that are read by the grammar alone
 
--- what is read of a line that gives an event, and of those behind it
+-- what is read of a line that gives an event, and of those after it
 event_lines_at : (line : List ℕ) (lines : List (List ℕ)) (sites : Option ℕ) (before : ℕ) (event : Event) → is_comment (without_returns line) ≡ false → line_at sites (without_returns line) ≡ Ok event
     → lines_at sites before (line ∷ lines) ≡ sched.with_events (event ∷ []) (lines_at (sites_after sites event) (before + 1) lines)
 event_lines_at line lines sites before event comment read = rw (comment, read) refl
@@ -47,12 +47,12 @@ event_lines_at line lines sites before event comment read = rw (comment, read) r
 comment_lines_at : (line : List ℕ) (lines : List (List ℕ)) (sites : Option ℕ) (before : ℕ) → is_comment (without_returns line) ≡ true → lines_at sites before (line ∷ lines) ≡ lines_at sites (before + 1) lines
 comment_lines_at line lines sites before comment = rw comment refl
 
-record Behind (event : Event) (read : Result (List Event) SchedFault) (given : List Event) : Type 0 where
+record After (event : Event) (read : Result (List Event) SchedFault) (given : List Event) : Type 0 where
   others : List Event
   read_is : read ≡ Ok others
   given_is : given ≡ event ∷ others
 
-with_ok : (event : Event) (read : Result (List Event) SchedFault) (given : List Event) → sched.with_events (event ∷ []) read ≡ Ok given → Behind event read given
+with_ok : (event : Event) (read : Result (List Event) SchedFault) (given : List Event) → sched.with_events (event ∷ []) read ≡ Ok given → After event read given
 with_ok event (Err fault) given e = absurd cc
 with_ok event (Ok others) given e = record { others = others; read_is = refl; given_is = cc }
 
@@ -60,19 +60,19 @@ with_ok event (Ok others) given e = record { others = others; read_is = refl; gi
 
 -- one of the lines gives an event that may not come
 record LaterAmong (unsettled : Bool) (sites : Option ℕ) (before : ℕ) (lines : List (List ℕ)) (at : ℕ) : Type 0 where
-  front : List (List ℕ)
+  prefix : List (List ℕ)
   line : List ℕ
-  behind : List (List ℕ)
-  parted : lines ≡ front ++ line ∷ behind
-  place : at ≡ before + length front + 1
+  suffix : List (List ℕ)
+  separated : lines ≡ prefix ++ line ∷ suffix
+  numbered : at ≡ before + length prefix + 1
   given : List Event
   event : Event
-  given_lines : AreLines front given
+  given_lines : AreLines prefix given
   event_line : without_returns line ≡ line_of event
   right : Completes sites (given ++ event ∷ [])
   may : may_all_come unsettled given ≡ true
-  may_not : may_come (is_open_behind unsettled given) event ≡ false
-  -- where all lines are right, not all events may come
+  may_not : may_come (is_open_after_all unsettled given) event ≡ false
+  -- if all lines are right, not all events may come
   not_all : (all : List Event) → lines_at sites before lines ≡ Ok all → may_all_come unsettled all ≡ false
 
 -- the last ask has no settle
@@ -80,8 +80,8 @@ record LacksAmong (unsettled : Bool) (sites : Option ℕ) (before : ℕ) (lines 
   given : List Event
   read : lines_at sites before lines ≡ Ok given
   may : may_all_come unsettled given ≡ true
-  left_open : is_open_behind unsettled given ≡ true
-  place : at ≡ before + length lines + 1
+  left_open : is_open_after_all unsettled given ≡ true
+  numbered : at ≡ before + length lines + 1
 
 data Found (unsettled : Bool) (sites : Option ℕ) (before : ℕ) (lines : List (List ℕ)) (read : Read) : Type 0 where
   played : (given : List Event) → read ≡ Ok given → lines_at sites before lines ≡ Ok given → are_accepted unsettled given ≡ true → Found unsettled sites before lines read
@@ -91,7 +91,7 @@ data Found (unsettled : Bool) (sites : Option ℕ) (before : ℕ) (lines : List 
 
 found_end : (unsettled : Bool) (sites : Option ℕ) (before : ℕ) → Found unsettled sites before [] (end_by unsettled sites before)
 found_end unsettled None before = bad (before + 1) whys.NoSites refl refl
-found_end true (Some sites) before = lacks (before + 1) refl (record { given = []; read = refl; may = refl; left_open = refl; place = omega arith })
+found_end true (Some sites) before = lacks (before + 1) refl (record { given = []; read = refl; may = refl; left_open = refl; numbered = omega arith })
 found_end false (Some sites) before = played [] refl refl refl
 
 found_comment : (unsettled : Bool) (sites : Option ℕ) (before : ℕ) (line : List ℕ) (lines : List (List ℕ)) (read : Read) → is_comment (without_returns line) ≡ true → Found unsettled sites (before + 1) lines read → Found unsettled sites before (line ∷ lines) read
@@ -102,17 +102,17 @@ found_comment unsettled sites before line lines read comment (lacks at is h) = l
   read = comment_lines_at line lines sites before comment ∙ h.read;
   may = h.may;
   left_open = h.left_open;
-  place = omega (arith, h.place);
+  numbered = omega (arith, h.numbered);
 })
 found_comment unsettled sites before line lines read comment (later at is h) = later at is (record {
-  front = line ∷ h.front;
+  prefix = line ∷ h.prefix;
   line = h.line;
-  behind = h.behind;
-  parted = ap (λ (ls : List (List ℕ)). line ∷ ls) h.parted;
-  place = omega (arith, h.place);
+  suffix = h.suffix;
+  separated = ap (λ (ls : List (List ℕ)). line ∷ ls) h.separated;
+  numbered = omega (arith, h.numbered);
   given = h.given;
   event = h.event;
-  given_lines = comment_more line h.front h.given comment h.given_lines;
+  given_lines = comment_more line h.prefix h.given comment h.given_lines;
   event_line = h.event_line;
   right = h.right;
   may = h.may;
@@ -141,17 +141,17 @@ found_event unsettled sites before line lines event read here may (lacks at is h
       read = all ∙ ap (sched.with_events (event ∷ [])) h.read;
       may = and_from (may_come unsettled event) (may_all_come (is_open_after unsettled event) h.given) may h.may;
       left_open = h.left_open;
-      place = omega (arith, h.place);
+      numbered = omega (arith, h.numbered);
     })
 found_event unsettled sites before line lines event read here may (later at is h) =
     let all = event_lines_at line lines sites before event here.no_comment here.read in
     let rest = lines_at (sites_after sites event) (before + 1) lines in
     later at (ap (with_events (event ∷ [])) is) (record {
-      front = line ∷ h.front;
+      prefix = line ∷ h.prefix;
       line = h.line;
-      behind = h.behind;
-      parted = ap (λ (ls : List (List ℕ)). line ∷ ls) h.parted;
-      place = omega (arith, h.place);
+      suffix = h.suffix;
+      separated = ap (λ (ls : List (List ℕ)). line ∷ ls) h.separated;
+      numbered = omega (arith, h.numbered);
       given = event ∷ h.given;
       event = h.event;
       given_lines = inr (here.follows.written, h.given_lines);
@@ -162,7 +162,7 @@ found_event unsettled sites before line lines event read here may (later at is h
       not_all = λ given e. not_all_of given (with_ok event rest given (sym all ∙ e)) h.not_all;
     })
   where
-    not_all_of : (given : List Event) → Behind event (lines_at (sites_after sites event) (before + 1) lines) given
+    not_all_of : (given : List Event) → After event (lines_at (sites_after sites event) (before + 1) lines) given
         → ((all : List Event) → lines_at (sites_after sites event) (before + 1) lines ≡ Ok all → may_all_come (is_open_after unsettled event) all ≡ false) → may_all_come unsettled given ≡ false
     not_all_of given b others =
         ap (may_all_come unsettled) b.given_is ∙ ap (λ (t : Bool). may_come unsettled event && t) (others b.others b.read_is) ∙ and_false (may_come unsettled event)
@@ -173,11 +173,11 @@ found_later unsettled sites before line lines event here none may =
     let all = event_lines_at line lines sites before event here.no_comment here.read in
     let rest = lines_at (sites_after sites event) (before + 1) lines in
     later (before + 1) refl (record {
-      front = [];
+      prefix = [];
       line = line;
-      behind = lines;
-      parted = refl;
-      place = omega arith;
+      suffix = lines;
+      separated = refl;
+      numbered = omega arith;
       given = [];
       event = event;
       given_lines = tt;
@@ -188,10 +188,10 @@ found_later unsettled sites before line lines event here none may =
       not_all = λ given e. not_all_of given (with_ok event rest given (sym all ∙ e));
     })
   where
-    not_all_of : (given : List Event) → Behind event (lines_at (sites_after sites event) (before + 1) lines) given → may_all_come unsettled given ≡ false
+    not_all_of : (given : List Event) → After event (lines_at (sites_after sites event) (before + 1) lines) given → may_all_come unsettled given ≡ false
     not_all_of given b = ap (may_all_come unsettled) b.given_is ∙ rw may refl
 
--- behind an event that was read, some number of sites is known, and no more has to come
+-- after an event that was read, some number of sites is known, and no more has to come
 none_follows : (sites : Option ℕ) (line : List ℕ) (event : Event) → Follows sites line event → line_at sites line ≡ Ok event → Completes (sites_after sites event) []
 none_follows (Some sites) line event follows read = tt
 none_follows None line event follows read = let first = first_is line event read in subst (λ (e : Event). Completes (sites_after None e) []) (sym first.is) tt
@@ -221,24 +221,24 @@ found_lines (line ∷ lines) unsettled sites before few feeds = by_comment (is_c
 
 -- ---- a later line is found
 
-later_again : (front : List (List ℕ)) (unsettled : Bool) (sites : Option ℕ) (before : ℕ) (given : List Event) (event : Event) (line : List ℕ) (behind : List (List ℕ)) (at : ℕ) → AreLines front given → without_returns line ≡ line_of event
-    → Completes sites (given ++ event ∷ []) → may_all_come unsettled given ≡ true → may_come (is_open_behind unsettled given) event ≡ false → at ≡ before + length front + 1 → source_at unsettled sites before (front ++ line ∷ behind) ≡ refused at causes.Later
-later_again [] unsettled sites before [] event line behind at written here right may may_not place =
+later_again : (prefix : List (List ℕ)) (unsettled : Bool) (sites : Option ℕ) (before : ℕ) (given : List Event) (event : Event) (line : List ℕ) (suffix : List (List ℕ)) (at : ℕ) → AreLines prefix given → without_returns line ≡ line_of event
+    → Completes sites (given ++ event ∷ []) → may_all_come unsettled given ≡ true → may_come (is_open_after_all unsettled given) event ≡ false → at ≡ before + length prefix + 1 → source_at unsettled sites before (prefix ++ line ∷ suffix) ≡ refused at causes.Later
+later_again [] unsettled sites before [] event line suffix at written here right may may_not numbered =
     let next = next_of sites event [] right in
-    let is : at ≡ before + 1 = omega (arith, place) in
+    let is : at ≡ before + 1 = omega (arith, numbered) in
     rw (here, no_comment_line event, next.read, may_not, is) refl
-later_again [] unsettled sites before (first ∷ given) event line behind at written here right may may_not place = absurd written
-later_again (l ∷ front) unsettled sites before [] event line behind at written here right may may_not place =
-    let is : at ≡ (before + 1) + length front + 1 = omega (arith, place) in
-    rw written.0 (later_again front unsettled sites (before + 1) [] event line behind at written.1 here right may may_not is)
-later_again (l ∷ front) unsettled sites before (first ∷ given) event line behind at (inl comment) here right may may_not place =
-    let is : at ≡ (before + 1) + length front + 1 = omega (arith, place) in
-    rw comment.0 (later_again front unsettled sites (before + 1) (first ∷ given) event line behind at comment.1 here right may may_not is)
-later_again (l ∷ front) unsettled sites before (first ∷ given) event line behind at (inr one) here right may may_not place =
-    let is : at ≡ (before + 1) + length front + 1 = omega (arith, place) in
+later_again [] unsettled sites before (first ∷ given) event line suffix at written here right may may_not numbered = absurd written
+later_again (l ∷ prefix) unsettled sites before [] event line suffix at written here right may may_not numbered =
+    let is : at ≡ (before + 1) + length prefix + 1 = omega (arith, numbered) in
+    rw written.0 (later_again prefix unsettled sites (before + 1) [] event line suffix at written.1 here right may may_not is)
+later_again (l ∷ prefix) unsettled sites before (first ∷ given) event line suffix at (inl comment) here right may may_not numbered =
+    let is : at ≡ (before + 1) + length prefix + 1 = omega (arith, numbered) in
+    rw comment.0 (later_again prefix unsettled sites (before + 1) (first ∷ given) event line suffix at comment.1 here right may may_not is)
+later_again (l ∷ prefix) unsettled sites before (first ∷ given) event line suffix at (inr one) here right may may_not numbered =
+    let is : at ≡ (before + 1) + length prefix + 1 = omega (arith, numbered) in
     let next = next_of sites first (given ++ event ∷ []) right in
     let both = and_parts (may_come unsettled first) (may_all_come (is_open_after unsettled first) given) may in
-    let others = later_again front (is_open_after unsettled first) (sites_after sites first) (before + 1) given event line behind at one.1 here next.completes both.1 may_not is in
+    let others = later_again prefix (is_open_after unsettled first) (sites_after sites first) (before + 1) given event line suffix at one.1 here next.completes both.1 may_not is in
     rw (one.0, no_comment_line first, next.read, both.0, others) refl
 
 -- ---- results that are one
@@ -305,13 +305,13 @@ source_again bytes given source = by_found (found_bytes bytes short)
     by_found (later at is h) = let e = sym (h.not_all given reads) ∙ (accepted_parts given false source.accepted).0 in absurd cc
     by_found (lacks at is h) =
         let also = same_read h.given given (sym h.read ∙ reads) in
-        let e = sym h.left_open ∙ ap (is_open_behind false) also ∙ (accepted_parts given false source.accepted).1 in
+        let e = sym h.left_open ∙ ap (is_open_after_all false) also ∙ (accepted_parts given false source.accepted).1 in
         absurd cc
 
 pub later_line_again : (bytes : List ℕ) (at : ℕ) → IsLaterLine bytes at → source_of bytes ≡ refused at causes.Later
 later_line_again bytes at h =
-    let place : at ≡ 0 + length h.before + 1 = omega (arith, h.place) in
-    source_of-short bytes h.short ∙ ap (source_at false None 0) h.parted ∙ later_again h.before false None 0 h.given h.event h.line h.behind at h.given_lines h.event_line h.right h.all_may h.may_not place
+    let numbered : at ≡ 0 + length h.before + 1 = omega (arith, h.numbered) in
+    source_of-short bytes h.short ∙ ap (source_at false None 0) h.separated ∙ later_again h.before false None 0 h.given h.event h.line h.suffix at h.given_lines h.event_line h.right h.all_may h.may_not numbered
 
 pub lacks_again : (bytes : List ℕ) (at : ℕ) → LacksSettle bytes at → source_of bytes ≡ refused at causes.Later
 lacks_again bytes at h = by_found (found_bytes bytes h.schedule.short)
@@ -322,12 +322,12 @@ lacks_again bytes at h = by_found (found_bytes bytes h.schedule.short)
     by_found : Found false None 0 (lines_of bytes) (source_of bytes) → source_of bytes ≡ refused at causes.Later
     by_found (played others is right accepted) =
         let also = same_read h.given others (sym reads ∙ right) in
-        let e = sym h.unsettled ∙ ap (is_open_behind false) also ∙ (accepted_parts others false accepted).1 in
+        let e = sym h.unsettled ∙ ap (is_open_after_all false) also ∙ (accepted_parts others false accepted).1 in
         absurd cc
     by_found (bad line why is wrong) = let e = sym wrong ∙ reads in absurd cc
     by_found (later line is k) = let e = sym (k.not_all h.given reads) ∙ h.all_may in absurd cc
     by_found (lacks line is k) =
-        let same : line ≡ at = omega (arith, k.place, h.place) in
+        let same : line ≡ at = omega (arith, k.numbered, h.numbered) in
         is ∙ ap (λ (n : ℕ). refused n causes.Later) same
 
 long_read : (bytes : List ℕ) → 16777216 < length bytes → source_of bytes ≡ refused 0 (causes.Bad whys.TooLong)
@@ -339,11 +339,11 @@ long_read bytes long = rw (lt-ltb 16777216 (length bytes) long) refl
 later_is : (bytes : List ℕ) (at : ℕ) → length bytes ≤ 16777216 → LaterAmong false None 0 (lines_of bytes) at → IsLaterLine bytes at
 later_is bytes at short h = record {
   short = short;
-  before = h.front;
+  before = h.prefix;
   line = h.line;
-  behind = h.behind;
-  parted = h.parted;
-  place = omega (arith, h.place);
+  suffix = h.suffix;
+  separated = h.separated;
+  numbered = omega (arith, h.numbered);
   given = h.given;
   event = h.event;
   given_lines = h.given_lines;
@@ -377,7 +377,7 @@ result_of bytes = by_length (ltb 16777216 (length bytes)) refl
       schedule = events_are bytes h.given (reads short (Ok h.given) h.read);
       all_may = h.may;
       unsettled = h.left_open;
-      place = omega (arith, h.place);
+      numbered = omega (arith, h.numbered);
     }))
 
     by_length : (long : Bool) → ltb 16777216 (length bytes) ≡ long → Result_of bytes
@@ -385,4 +385,4 @@ result_of bytes = by_length (ltb 16777216 (length bytes)) refl
     by_length true l =
         let long = ltb-true 16777216 (length bytes) l in
         let is = long_read bytes long in
-        refusal 0 (causes.Bad whys.TooLong) is (inl (record { long = long; place = refl; cause = refl }))
+        refusal 0 (causes.Bad whys.TooLong) is (inl (record { long = long; numbered = refl; cause = refl }))

@@ -5,7 +5,7 @@ use Rattle.std.specs.declared.alloc.Global.{Global}
 use Rattle.std.proofs.lemmas.Slice.Eq.{bytes_eq-Decides}
 use Rattle.rs_run.specs.Run.{IsReplay}
 
--- of one word alone, whether it is `replay`
+-- one word, and whether it is `replay`
 pub is_replay-one : (words : List (String Global)) (word : String Global) (same : Bool) → 0 < length words → length words < 2 → word ≡ get_or words 0 word → same ≡ bytes_eq (string_bytes word) (codes "replay")
     → (IsTrue same → IsReplay words) × (IsReplay words → IsTrue same)
 is_replay-one [] word same long short at is = absurd (omega arith)

@@ -1,10 +1,10 @@
--- What a run finds before it writes, and what it owes.
+-- What a run finds before it writes, and what it has to write.
 use Rattle.std.proofs.Common.{◌≡◌, ℕ, ◌<◌, ◌≤◌, ◌⊎◌, inl, inr, List, [], ◌++◌, length, take, Option, Some, None, refl, sym, ap, subst, ◌∙◌, arith}
 use Rattle.std.specs.Prelude.{String, IfSome}
 use Rattle.std.specs.Io.KnownBytes.{Appends, Consumes, IsAtEnd}
 use Rattle.std.specs.declared.alloc.Global.{Global}
 use Rattle.std.proofs.lemmas.List.{take_all, take_at, append-nil}
-use Rattle.rs_base.specs.Streams.{AppendsFront}
+use Rattle.rs_stream.specs.Streams.{AppendsPrefix}
 use Rattle.rs_sched.specs.declared.event.Event.{Event}
 use Rattle.rs_world.specs.declared.report.Report.{Report}
 use Rattle.rs_world.specs.Answered.{EachAskIsAnswered}
@@ -13,7 +13,7 @@ use Rattle.rs_world.specs.ReportText.{printed_report}
 use Rattle.rs_run.specs.declared.run.Finding.{Finding}
 use Rattle.rs_run.specs.declared.run.Finding.TheVariants as findings
 use Rattle.rs_run.specs.Refusal.{IsSource}
-use Rattle.rs_run.specs.Run.{IsReplay, most_read, IsNoSource, Reports, Refuses, OwesReplay, Owes, WritesFront, ReadsRefused, WritesRefusal, HoldsSource, HoldsNoSource, status_of, FoundIn, Finds}
+use Rattle.rs_run.specs.Run.{IsReplay, most_read, IsNoSource, Reports, Refuses, OwesReplay, Owes, WritesPrefix, ReadsRefused, WritesRefusal, HoldsSource, HoldsNoSource, status_of, FoundIn, Finds}
 use Rattle.rs_run.proofs.ReadingOf.{source_is_played}
 
 -- ---- from bytes to the report
@@ -26,7 +26,7 @@ reports bytes text start given report source explains answers empty printed = re
   report = report;
   explains = explains;
   answers = answers;
-  prints = printed ∙ ap (λ (front : List ℕ). front ++ printed_report report) empty;
+  prints = printed ∙ ap (λ (prefix : List ℕ). prefix ++ printed_report report) empty;
 }
 
 -- refused bytes are no source
@@ -40,8 +40,8 @@ read_whole : (bytes : List ℕ) (given : List Event) → IsSource bytes given �
 read_whole bytes given source = take_all most_read bytes (omega (arith, source.schedule.short))
 
 -- what was read is as much as is read of what was left
-read_front : (bytes rest : List ℕ) → length bytes ≤ most_read → (length bytes < most_read → rest ≡ []) → take most_read (bytes ++ rest) ≡ bytes
-read_front bytes rest within at_end = by_length (below_or_at (length bytes) most_read within)
+read_prefix : (bytes rest : List ℕ) → length bytes ≤ most_read → (length bytes < most_read → rest ≡ []) → take most_read (bytes ++ rest) ≡ bytes
+read_prefix bytes rest within at_end = by_length (below_or_at (length bytes) most_read within)
   where
     below_or_at : (n m : ℕ) → n ≤ m → (n < m) ⊎ (n ≡ m)
     below_or_at n m le = grind arith
@@ -62,10 +62,10 @@ finds_read words left after bytes findings.Usage text replay consumed within at_
 finds_read words None after bytes findings.Refused text replay consumed within at_end found = (replay, tt)
 finds_read words (Some all) None bytes findings.Refused text replay consumed within at_end found = absurd consumed
 finds_read words (Some all) (Some rest) bytes findings.Refused text replay consumed within at_end found =
-    let front : take most_read all ≡ bytes = ap (take most_read) consumed ∙ read_front bytes rest within at_end in
-    (replay, subst (λ (bs : List ℕ). Refuses bs text) (sym front) found)
+    let prefix : take most_read all ≡ bytes = ap (take most_read) consumed ∙ read_prefix bytes rest within at_end in
+    (replay, subst (λ (bs : List ℕ). Refuses bs text) (sym prefix) found)
 
--- ---- what is owed
+---- what has to be written
 
 whole_reported : (left : Option (List ℕ)) (text : List ℕ) → IfSome left (λ bytes. Reports bytes text) → IfSome left (λ bytes. OwesReplay (take most_read bytes) text)
 whole_reported None text h = tt
@@ -80,9 +80,9 @@ owes words left after findings.Reported text found = inl (found.0, whole_reporte
 owes words left after findings.Usage text found = inr found
 owes words left after findings.Refused text found = inl (found.0, none_owed left text found.1)
 
--- a front of what is owed was written
-pub writes_front : (words : List (String Global)) (left after old new : Option (List ℕ)) (finding : Finding) (text : List ℕ) → Finds words left after finding text → AppendsFront old new text → WritesFront words left old new
-writes_front words left after old new finding text found front = inl (text, owes words left after finding text found, front)
+-- a prefix of what has to be written was written
+pub writes_prefix : (words : List (String Global)) (left after old new : Option (List ℕ)) (finding : Finding) (text : List ℕ) → Finds words left after finding text → AppendsPrefix old new text → WritesPrefix words left old new
+writes_prefix words left after old new finding text found prefix = inl (text, owes words left after finding text found, prefix)
 
 -- ---- which status comes
 
@@ -104,7 +104,7 @@ refused_status words left after findings.Reported text found replay holds = absu
 refused_status words left after findings.Usage text found replay holds = absurd (found.0 replay)
 refused_status words left after findings.Refused text found replay holds = inl refl
 
--- ---- what status 2 says
+---- what status 2 means
 
 pub writes_refusal : (words : List (String Global)) (left after old new : Option (List ℕ)) (finding : Finding) (text : List ℕ) → Finds words left after finding text → status_of finding ≡ 2 → Appends old new text → IsReplay words × WritesRefusal left old new
 writes_refusal words left after old new findings.Reported text found is appends = absurd cc

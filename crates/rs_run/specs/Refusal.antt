@@ -3,7 +3,7 @@
 use Rattle.std.specs.Prelude.{◌≡◌, ℕ, ◌+◌, ◌≤◌, Bool, true, false, ◌&&◌, List, [], ◌∷◌, ◌++◌, length, decimal, codes, IsTrue, ◌⊎◌}
 use Rattle.rs_sched.specs.declared.event.Event.{Event}
 use Rattle.rs_sched.specs.Lines.{lines_of, without_returns}
-use Rattle.rs_sched.specs.Spelling.{line_of}
+use Rattle.rs_sched.specs.Encoding.{line_of}
 use Rattle.rs_sched.specs.Schedule.{AreLines, IsValid, IsSchedule}
 use Rattle.rs_sched.specs.Faults.{text_of, IsFault}
 use Rattle.rs_world.specs.Accepted.{may_come, is_open_after, are_accepted}
@@ -22,38 +22,38 @@ abbrev pub may_all_come : Bool → List Event → Bool
 may_all_come unsettled [] = true
 may_all_come unsettled (event ∷ others) = may_come unsettled event && may_all_come (is_open_after unsettled event) others
 
--- whether an ask has no settle behind it, after these events
-abbrev pub is_open_behind : Bool → List Event → Bool
-is_open_behind unsettled [] = unsettled
-is_open_behind unsettled (event ∷ others) = is_open_behind (is_open_after unsettled event) others
+-- whether an ask has no settle after it, after these events
+abbrev pub is_open_after_all : Bool → List Event → Bool
+is_open_after_all unsettled [] = unsettled
+is_open_after_all unsettled (event ∷ others) = is_open_after_all (is_open_after unsettled event) others
 
--- The line gives an event that may not come: the lines before it give events that may, and it is right behind them.
+-- The line gives an event that may not come: the lines before it give events that may, and it is right after them.
 pub record IsLaterLine (bytes : List ℕ) (at : ℕ) : Type 0 where
   pub short : length bytes ≤ 16777216
   pub before : List (List ℕ)
   pub line : List ℕ
-  pub behind : List (List ℕ)
-  pub parted : lines_of bytes ≡ before ++ line ∷ behind
-  pub place : at ≡ length before + 1
+  pub suffix : List (List ℕ)
+  pub separated : lines_of bytes ≡ before ++ line ∷ suffix
+  pub numbered : at ≡ length before + 1
   pub given : List Event
   pub event : Event
   pub given_lines : AreLines before given
   pub event_line : without_returns line ≡ line_of event
   pub right : IsValid (given ++ event ∷ [])
   pub all_may : IsTrue (may_all_come false given)
-  pub may_not : may_come (is_open_behind false given) event ≡ false
+  pub may_not : may_come (is_open_after_all false given) event ≡ false
 
--- All lines give events that may come, and behind the last ask there is no settle: it is wanted behind the last line.
+-- All lines give events that may come, and no settle follows the last ask: the line after the last is refused.
 pub record LacksSettle (bytes : List ℕ) (at : ℕ) : Type 0 where
   pub given : List Event
   pub schedule : IsSchedule bytes given
   pub all_may : IsTrue (may_all_come false given)
-  pub unsettled : IsTrue (is_open_behind false given)
-  pub place : at ≡ length (lines_of bytes) + 1
+  pub unsettled : IsTrue (is_open_after_all false given)
+  pub numbered : at ≡ length (lines_of bytes) + 1
 
 -- ---- refusals
 
--- What a refusal says: the fault of bytes that are no schedule; of a schedule, the first line that isn't played yet.
+-- The cause of a refusal: the fault of bytes that are no schedule; of a schedule, the first line that isn't played yet.
 abbrev pub IsRefusal : List ℕ → ℕ → Cause → Type 0
 IsRefusal bytes line (causes.Bad why) = IsFault bytes line why
 IsRefusal bytes line causes.Later = ((given : List Event) × IsSchedule bytes given) × (IsLaterLine bytes line ⊎ LacksSettle bytes line)

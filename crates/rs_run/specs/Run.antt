@@ -3,7 +3,7 @@ use Rattle.std.specs.Prelude.{◌≡◌, ℕ, List, [], ◌∷◌, map, take, co
 use Rattle.std.specs.Io.KnownBytes.{Appends, IsAtEnd, Keeps}
 use Rattle.std.specs.Prelude.{String}
 use Rattle.std.specs.declared.alloc.Global.{Global}
-use Rattle.rs_base.specs.Streams.{AppendsFront}
+use Rattle.rs_stream.specs.Streams.{AppendsPrefix}
 use Rattle.rs_sched.specs.declared.event.Event.{Event}
 use Rattle.rs_world.specs.declared.report.Report.{Report}
 use Rattle.rs_world.specs.Answered.{EachAskIsAnswered}
@@ -18,7 +18,7 @@ use Rattle.rs_run.specs.Refusal.{IsSource, IsRefusal, refusal_text}
 abbrev pub IsReplay : List (String Global) → Type 0
 IsReplay words = map string_bytes words ≡ codes "replay" ∷ []
 
--- how many bytes a run reads at most: one more than a source has
+-- the largest number of bytes that a run reads: one more than a source has
 abbrev pub most_read : ℕ
 most_read = 16777217
 
@@ -26,8 +26,8 @@ most_read = 16777217
 abbrev pub IsNoSource : List ℕ → Type 0
 IsNoSource bytes = (given : List Event) → IsSource bytes given → ⊥
 
--- The text reports a source of these bytes: they stand for events, and the text is that of a report that explains them, and by
--- which each of their asks is answered.
+-- The text is the report of these bytes: they are a source of events, and the text is that of a report that explains them,
+-- and by which each of their asks is answered.
 pub record Reports (bytes text : List ℕ) : Type 0 where
   pub given : List Event
   pub is_source : IsSource bytes given
@@ -36,30 +36,30 @@ pub record Reports (bytes text : List ℕ) : Type 0 where
   pub answers : EachAskIsAnswered given report
   pub prints : text ≡ printed_report report
 
--- The text says at which line these bytes are refused, and why.
+-- The text names the line at which these bytes are refused, and why.
 pub record Refuses (bytes text : List ℕ) : Type 0 where
   pub line : ℕ
   pub cause : Cause
   pub refused : IsRefusal bytes line cause
   pub says : text ≡ refusal_text line cause
 
--- What is to be written where the words are `replay` and these bytes were read.
+-- What has to be written if the words are `replay` and these bytes were read.
 abbrev pub OwesReplay : List ℕ → List ℕ → Type 0
 OwesReplay bytes text = Reports bytes text ⊎ Refuses bytes text
 
--- What is to be written by these words over a source with these bytes left, where it tells them.
+-- What has to be written by these words over a source with these bytes left, if it reports them.
 abbrev pub Owes : List (String Global) → Option (List ℕ) → List ℕ → Type 0
 Owes words left text = (IsReplay words × IfSome left (λ bytes. OwesReplay (take most_read bytes) text)) ⊎ ((IsReplay words → ⊥) × (text ≡ codes "usage\n"))
 
--- A front of what is to be written was written, or nothing.
-abbrev pub WritesFront : List (String Global) → Option (List ℕ) → Option (List ℕ) → Option (List ℕ) → Type 0
-WritesFront words left old new = ((text : List ℕ) × Owes words left text × AppendsFront old new text) ⊎ Keeps old new
+-- A prefix of what has to be written was written, or nothing.
+abbrev pub WritesPrefix : List (String Global) → Option (List ℕ) → Option (List ℕ) → Option (List ℕ) → Type 0
+WritesPrefix words left old new = ((text : List ℕ) × Owes words left text × AppendsPrefix old new text) ⊎ Keeps old new
 
 -- The report of the bytes that were left was written.
 abbrev pub WritesReport : Option (List ℕ) → Option (List ℕ) → Option (List ℕ) → Type 0
 WritesReport left old new = IfSome left (λ bytes. (text : List ℕ) × Reports bytes text × Appends old new text)
 
--- The text says at which line the bytes are refused as far as they are read, where the source tells them.
+-- The text names the line at which the bytes are refused as far as they are read, if the source reports them.
 abbrev pub ReadsRefused : Option (List ℕ) → List ℕ → Type 0
 ReadsRefused left text = IfSome left (λ bytes. Refuses (take most_read bytes) text)
 
@@ -67,12 +67,12 @@ ReadsRefused left text = IfSome left (λ bytes. Refuses (take most_read bytes) t
 abbrev pub WritesRefusal : Option (List ℕ) → Option (List ℕ) → Option (List ℕ) → Type 0
 WritesRefusal left old new = IfSome left (λ bytes. (text : List ℕ) × Refuses (take most_read bytes) text × Appends old new text)
 
--- The source told its bytes, and they are a source with some events.
+-- The source reports its bytes, and they are a source with some events.
 abbrev pub HoldsSource : Option (List ℕ) → Type 0
 HoldsSource None = ⊥
 HoldsSource (Some bytes) = (given : List Event) × IsSource bytes given
 
--- The source told its bytes, and as far as they are read they are no source.
+-- The source reports its bytes, and as far as they are read they are no source.
 abbrev pub HoldsNoSource : Option (List ℕ) → Type 0
 HoldsNoSource None = ⊥
 HoldsNoSource (Some bytes) = IsNoSource (take most_read bytes)
@@ -84,13 +84,13 @@ status_of findings.Reported = 0
 status_of findings.Usage = 1
 status_of findings.Refused = 2
 
--- what is to be written of these bytes
+-- what has to be written of these bytes
 abbrev pub FoundIn : List ℕ → Finding → List ℕ → Type 0
 FoundIn bytes findings.Reported text = Reports bytes text
 FoundIn bytes findings.Usage text = ⊥
 FoundIn bytes findings.Refused text = Refuses bytes text
 
--- what is to be written by these words, over a source with these bytes left, and after it was read
+-- what has to be written by these words, over a source with these bytes left, and after it was read
 abbrev pub Finds : List (String Global) → Option (List ℕ) → Option (List ℕ) → Finding → List ℕ → Type 0
 Finds words left after findings.Reported text = IsReplay words × IsAtEnd after × IfSome left (λ bytes. Reports bytes text)
 Finds words left after findings.Usage text = (IsReplay words → ⊥) × (text ≡ codes "usage\n")

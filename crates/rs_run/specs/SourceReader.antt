@@ -22,25 +22,25 @@ refused line cause = Err (record { line = line; cause = cause })
 
 -- events before those that are still read
 abbrev pub with_events : List Event → Read → Read
-with_events front (Ok others) = Ok (front ++ others)
-with_events front (Err refusal) = Err refusal
+with_events prefix (Ok others) = Ok (prefix ++ others)
+with_events prefix (Err refusal) = Err refusal
 
--- what the end is, where a sites line was read
+-- the result at the end, after a sites line
 abbrev pub ended : Bool → ℕ → Read
 ended true before = refused (before + 1) causes.Later
 ended false before = Ok []
 
--- what the end is behind so many lines
+-- the result at the end, after this number of lines
 abbrev pub end_by : Bool → Option ℕ → ℕ → Read
 end_by unsettled None before = refused (before + 1) (causes.Bad whys.NoSites)
 end_by unsettled (Some sites) before = ended unsettled before
 
--- the event of this line, and those behind it
+-- the event of this line, and those after it
 abbrev pub further_by : Bool → ℕ → Result Event Why → (Event → Read) → Read
 further_by unsettled line (Err why) others = refused line (causes.Bad why)
 further_by unsettled line (Ok event) others = if may_come unsettled event then with_events (event ∷ []) (others event) else refused line causes.Later
 
--- the events of lines behind so many
+-- the events of lines after this number of lines
 abbrev pub source_at : Bool → Option ℕ → ℕ → List (List ℕ) → Read
 source_at unsettled sites before [] = end_by unsettled sites before
 source_at unsettled sites before (line ∷ lines) =
@@ -59,13 +59,13 @@ judged (Ok given) read = read
 unfoldable pub reading_of : List ℕ → Read
 reading_of bytes = judged (events_of bytes) (source_of bytes)
 
--- ---- what a function gives, against what reading gives
+---- a function's result, against that of reading
 
 abbrev pub of_sched : SchedFault → SourceFault
 of_sched (scheds.BadLine line why) = faults.Refused (record { line = line; cause = causes.Bad why })
 of_sched scheds.NoMemory = faults.NoMemory
 
--- Want of memory says nothing of what was read.
+-- Out of memory says nothing of what was read.
 abbrev pub FailsSource : SourceFault → Read → Type 0
 FailsSource (faults.Refused refusal) read = read ≡ Err refusal
 FailsSource faults.NoMemory read = Unit {0}

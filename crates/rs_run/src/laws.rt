@@ -1,4 +1,4 @@
-//! What holds of refusals. Each function here is a law: its contract says it, and its body does nothing.
+//! Laws of refusals. Each function here is a law: its contract states it, and its body does nothing.
 
 ghost use Rattle.rs_run.specs.Refusal.{PlayedOrRefused, RefusedOnce, SourceIsPlayed};
 

@@ -9,8 +9,8 @@ use rs_base::Bytes;
 use rs_world::{World, print_report};
 use std::alloc::Global;
 
-/// The text of the report of a source, or the line at which the bytes are refused. The bytes and their events are given
-/// back before the report is put together.
+/// Returns the text of the report of a source, or the line at which the bytes are refused. The bytes and their events are
+/// freed before the report is put together.
 #[tactic(auto, using(crate::proofs::FewEvents::few_events))]
 pub fn report_text(alloc: Global, bytes: Bytes) -> Result<Bytes, SourceFault>
     ensures reported { IfOk result (λ text. Reports bytes text) }

@@ -3,31 +3,32 @@
 ghost use Rattle.std.specs.Prelude.{◌≡◌, ◌≢◌, ◌≤◌, ◌⊎◌, codes, IfOk, IfErr, IsErrOf, IsTrue, ◌↔◌};
 ghost use Rattle.std.specs.Io.KnownBytes.{Appends, IsAtEnd, Keeps};
 ghost use Rattle.rs_base.specs.Faults.{Rises, CountsFault};
-ghost use Rattle.rs_base.specs.Streams.{ConsumesAtMost};
+ghost use Rattle.rs_stream.specs.Streams.{ConsumesAtMost};
 ghost use Rattle.rs_run.specs.Refusal.{refusal_text};
 ghost use Rattle.rs_run.specs.Run as spec;
 
 use crate::replay::report_text;
 use crate::source::{Refusal, SourceFault};
-use rs_base::{Bytes, Fault, NoMemory, Sink, Source, print_number, read_to_end, write_whole};
+use rs_base::{Bytes, Fault, NoMemory, print_number};
+use rs_stream::{Sink, Source, read_to_end, write_whole};
 use std::alloc::Global;
 
-/// One byte more than a source has.
+/// The largest number of bytes read: one more than a source has.
 const MOST_READ: usize = 16_777_217;
 
-/// What a run has to say.
-#[derive(Clone, Copy, Debug, PartialEq, Eq)]
+/// The kind of text that a run writes.
+#[derive(Clone, Copy)]
 pub enum Finding {
     /// The report of its source.
     Reported,
-    /// How it is used, since the words are no command.
+    /// The usage, since the words are no command.
     Usage,
-    /// At which line the source is refused, and why.
+    /// The line at which the source is refused, and why.
     Refused,
 }
 
 /// What a run has to write.
-#[derive(Debug, Drop)]
+#[derive(Drop)]
 pub struct Owed {
     pub finding: Finding,
     pub text: Bytes,
@@ -54,7 +55,7 @@ fn is_replay(words: &[String]) -> bool
     }
 }
 
-/// The text that says what is refused.
+/// Returns the text of a refusal.
 fn refusal_text(alloc: Global, refusal: &Refusal) -> Result<Bytes, NoMemory>
     ensures { IfOk result (λ text. text ≡ refusal_text refusal.now.line refusal.now.cause) }
 {
@@ -100,7 +101,7 @@ fn find_owed<S: Source>(alloc: Global, words: &[String], source: &mut S) -> Resu
     find_in(alloc, bytes)
 }
 
-/// Does the work of the program whose words these are, and answers its status:
+/// Runs the program with these words, and returns its status:
 ///
 /// - 0: the source was read to its end, and the report of its events was written;
 /// - 1: the words are not the one word `replay`; `usage` was written, and the source wasn't read;
@@ -108,9 +109,9 @@ fn find_owed<S: Source>(alloc: Global, words: &[String], source: &mut S) -> Resu
 ///   they are refused was written, and the cause;
 /// - 3: the source failed, and nothing was written;
 /// - 4: the sink failed;
-/// - 5: memory was wanting.
+/// - 5: an allocation failed.
 ///
-/// With 4 and 5 a front of the text that was to be written may have been written.
+/// With 4 and 5 a prefix of the text that was to be written may have been written.
 pub fn run<S: Source, K: Sink>(alloc: Global, words: &[String], source: &mut S, sink: &mut K) -> u8
     ensures done { result ≡ 0 → spec.IsReplay words.now × IsAtEnd (S.left source.new)
         × spec.WritesReport (S.left source.old) (K.written sink.old) (K.written sink.new) }
@@ -121,12 +122,12 @@ pub fn run<S: Source, K: Sink>(alloc: Global, words: &[String], source: &mut S, 
     ensures source { result ≡ 3 → Rises (S.faults source.old) (S.faults source.new)
         × Keeps (K.written sink.old) (K.written sink.new) }
     ensures sink { result ≡ 4 → Rises (K.faults sink.old) (K.faults sink.new)
-        × spec.WritesFront words.now (S.left source.old) (K.written sink.old) (K.written sink.new) }
+        × spec.WritesPrefix words.now (S.left source.old) (K.written sink.old) (K.written sink.new) }
     ensures memory { result ≡ 5
-        → spec.WritesFront words.now (S.left source.old) (K.written sink.old) (K.written sink.new) }
+        → spec.WritesPrefix words.now (S.left source.old) (K.written sink.old) (K.written sink.new) }
     ensures others { result ≤ 5 }
 
-    // Which status comes, where no device fails.
+    // Which status comes if no device fails.
     ensures other_words { (spec.IsReplay words.now → ⊥) → (result ≡ 1) ⊎ ((result ≡ 4) ⊎ (result ≡ 5)) }
     ensures complete { spec.IsReplay words.now → spec.HoldsSource (S.left source.old)
         → (Rises (S.faults source.old) (S.faults source.new) → ⊥)

@@ -15,7 +15,7 @@ use thiserror::Error;
 pub enum Cause {
     /// It is wrong by the grammar of schedules.
     Bad(Why),
-    /// It is right, and not played yet; or it would have to be the settle behind the last ask.
+    /// It is right, but not played yet; or it has to be the settle after the last ask.
     Later,
 }
 
@@ -75,7 +75,7 @@ impl From<NoMemory> for SourceFault {
 }
 
 impl Cause {
-    /// The cause in words.
+    /// Returns the cause in words.
     pub fn text(self) -> &'static [u8]
         ensures { result.now ≡ cause_text self }
     {
@@ -86,7 +86,7 @@ impl Cause {
     }
 }
 
-/// The event may come now, where `unsettled` says that an ask has no settle behind it yet.
+/// Returns whether the event may come now, where `unsettled` says that an ask has no settle after it yet.
 fn may_come(unsettled: bool, event: &Event) -> bool
     ensures { result ≡ spec.may_come unsettled event.now }
 {
@@ -105,7 +105,7 @@ fn may_come(unsettled: bool, event: &Event) -> bool
     }
 }
 
-/// Whether an ask has no settle behind it, after this event.
+/// Returns whether an ask has no settle after it, after this event.
 fn is_open_after(unsettled: bool, event: &Event) -> bool
     ensures { result ≡ spec.is_open_after unsettled event.now }
 {
@@ -132,7 +132,7 @@ fn later(line: u64) -> SourceFault
     })
 }
 
-/// What was read, where no line is left.
+/// Returns what was read, once no line is left.
 fn ended(unsettled: bool, lines: u64, events: Events) -> Result<Events, SourceFault>
     requires { lines ≤ 2 ^ 63 }
     ensures { spec.GivesSource result (spec.with_events events (spec.ended unsettled lines)) }
@@ -175,7 +175,7 @@ fn read(alloc: Global, bytes: &[u8]) -> Result<Events, SourceFault>
     read_lines(alloc, bytes)
 }
 
-/// Whether each of the events is played, and the last ask has its settle.
+/// Returns whether each of the events is played, and the last ask has its settle.
 fn are_accepted(events: &[Event]) -> bool
     ensures { result ≡ spec.are_accepted false events.now }
 {
@@ -201,10 +201,10 @@ fn read_source(alloc: Global, bytes: &[u8]) -> Result<Events, SourceFault>
     read(alloc, bytes)
 }
 
-/// The events of a source, all of its bytes.
+/// Reads the events of a source, all of its bytes. Linear in them.
 ///
-/// `Refused` says why the bytes are no schedule, or the first line of a schedule that isn't played yet. `NoMemory` says
-/// nothing of the bytes. The time goes with their number.
+/// `Refused` says why the bytes are no schedule, or names the first line of a schedule that isn't played yet. `NoMemory`
+/// says nothing of the bytes.
 pub fn events_of(alloc: Global, bytes: &[u8]) -> Result<Events, SourceFault>
     ensures found { IfOk result (λ given. IsSource bytes.now given) }
     ensures refused { (refusal : Refusal) → result ≡ Err (SourceFault.Refused refusal) → IsRefusal bytes.now refusal.line refusal.cause }

@@ -1,4 +1,4 @@
--- A line, read whole: what is read is right, what is right is read, and the cause that is found is the first that fits.
+-- A whole line: it is read exactly if it is valid, and the cause that is found is the first that fits.
 use Rattle.std.proofs.Common.{◌≡◌, ℕ, suc, ◌+◌, ◌<◌, ◌≤◌, Bool, true, false, cond, eqb, leb, List, [], ◌∷◌, ◌++◌, length, take, drop, Option, Some, None, Result, Ok, Err, IsTrue, codes, refl, sym, ap, ◌∙◌, subst, inl, inr, arith, append_assoc}
 use Rattle.std.specs.Prelude.{bytes_eq}
 use Rattle.std.specs.List.{list_all}
@@ -13,7 +13,7 @@ use Rattle.rs_sched.specs.declared.fault.Why.{Why}
 use Rattle.rs_sched.specs.declared.fault.Why.TheVariants as whys
 use Rattle.rs_sched.specs.declared.word.Word.{Word}
 use Rattle.rs_sched.specs.declared.word.Word.TheVariants as words
-use Rattle.rs_sched.specs.Spelling.{spelling, number_field, line_of, IsSiteNo, IsLine, HasText}
+use Rattle.rs_sched.specs.Encoding.{encoding, number_field, line_of, IsSiteNo, IsLine, HasText}
 use Rattle.rs_sched.specs.Schedule.{FieldsFit, IsLater}
 use Rattle.rs_sched.specs.Faults.{BeginsWith, IsRightLine, HasRightFields, IsAskOf, Fits, rank, IsCause}
 use Rattle.rs_sched.specs.Reader.{is_field_byte, field_len, word_of, later_word_of, of_fields, of_text, of_sites, event_of, later_line, first_line, sites_at, origin_at, deliver_at, lose_at, tick_at, stop_at, arm_at, restart_at, settle_at, noise_at}
@@ -28,23 +28,23 @@ false_from_not false h = refl
 
 -- ---- words
 
-try_word : (w : List ℕ) (x y : Word) (others : Option Word) → (others ≡ Some y → w ≡ spelling y) → cond (bytes_eq w (spelling x)) (Some x) others ≡ Some y → w ≡ spelling y
-try_word w x y others h = by_test (bytes_eq w (spelling x)) (bytes_eq-Decides w (spelling x)).0
+try_word : (w : List ℕ) (x y : Word) (others : Option Word) → (others ≡ Some y → w ≡ encoding y) → cond (bytes_eq w (encoding x)) (Some x) others ≡ Some y → w ≡ encoding y
+try_word w x y others h = by_test (bytes_eq w (encoding x)) (bytes_eq-Decides w (encoding x)).0
   where
-    by_test : (test : Bool) → (test ≡ true → w ≡ spelling x) → cond test (Some x) others ≡ Some y → w ≡ spelling y
-    by_test true same e = let is : x ≡ y = cc in same refl ∙ ap spelling is
+    by_test : (test : Bool) → (test ≡ true → w ≡ encoding x) → cond test (Some x) others ≡ Some y → w ≡ encoding y
+    by_test true same e = let is : x ≡ y = cc in same refl ∙ ap encoding is
     by_test false same e = h e
 
-no_word : (w : List ℕ) (y : Word) → None ≡ Some y → w ≡ spelling y
+no_word : (w : List ℕ) (y : Word) → None ≡ Some y → w ≡ encoding y
 no_word w y e = absurd cc
 
-later_word_is : (w : List ℕ) (y : Word) → later_word_of w ≡ Some y → w ≡ spelling y
+later_word_is : (w : List ℕ) (y : Word) → later_word_of w ≡ Some y → w ≡ encoding y
 later_word_is w y = try_word w words.Stop y _ (try_word w words.Arm y _ (try_word w words.Restart y _ (try_word w words.Settle y _ (try_word w words.Noise y _ (no_word w y)))))
 
-pub word_is : (w : List ℕ) (y : Word) → word_of w ≡ Some y → w ≡ spelling y
+pub word_is : (w : List ℕ) (y : Word) → word_of w ≡ Some y → w ≡ encoding y
 word_is w y = try_word w words.Sites y _ (try_word w words.Ask y _ (try_word w words.Deliver y _ (try_word w words.Lose y _ (try_word w words.Tick y _ (later_word_is w y)))))
 
-pub word_again : (y : Word) → word_of (spelling y) ≡ Some y
+pub word_again : (y : Word) → word_of (encoding y) ≡ Some y
 word_again words.Sites = refl
 word_again words.Ask = refl
 word_again words.Deliver = refl
@@ -56,7 +56,7 @@ word_again words.Restart = refl
 word_again words.Settle = refl
 word_again words.Noise = refl
 
-word_field : (y : Word) → list_all is_field_byte (spelling y) ≡ true
+word_field : (y : Word) → list_all is_field_byte (encoding y) ≡ true
 word_field words.Sites = refl
 word_field words.Ask = refl
 word_field words.Deliver = refl
@@ -71,43 +71,43 @@ word_field words.Noise = refl
 abbrev pub field : List ℕ → List ℕ
 field line = take (field_len line) line
 
-abbrev pub behind : List ℕ → List ℕ
-behind line = drop (field_len line) line
+abbrev pub suffix : List ℕ → List ℕ
+suffix line = drop (field_len line) line
 
 -- a line that begins with a word has it as its first field
-pub first_field : (y : Word) (line : List ℕ) → BeginsWith y line → field line ≡ spelling y
-first_field y line (inl e) = ap field (e ∙ sym (append-nil (spelling y))) ∙ field_taken (spelling y) [] (word_field y) refl
-first_field y line (inr e) = ap field (e.1 ∙ append_assoc (spelling y) (codes " ") e.0) ∙ field_taken (spelling y) (32 ∷ e.0) (word_field y) refl
+pub first_field : (y : Word) (line : List ℕ) → BeginsWith y line → field line ≡ encoding y
+first_field y line (inl e) = ap field (e ∙ sym (append-nil (encoding y))) ∙ field_taken (encoding y) [] (word_field y) refl
+first_field y line (inr e) = ap field (e.1 ∙ append_assoc (encoding y) (codes " ") e.0) ∙ field_taken (encoding y) (32 ∷ e.0) (word_field y) refl
 
 pub first_word : (y : Word) (line : List ℕ) → BeginsWith y line → word_of (field line) ≡ Some y
 first_word y line h = ap word_of (first_field y line h) ∙ word_again y
 
-begins_at : (y : Word) (line front rest : List ℕ) → front ++ rest ≡ line → front ≡ spelling y → IsTrue (stops rest) → BeginsWith y line
-begins_at y line front [] parts is stop = inl (sym parts ∙ append-nil front ∙ is)
-begins_at y line front (b ∷ rest) parts is stop =
+begins_at : (y : Word) (line prefix rest : List ℕ) → prefix ++ rest ≡ line → prefix ≡ encoding y → IsTrue (stops rest) → BeginsWith y line
+begins_at y line prefix [] parts is stop = inl (sym parts ∙ append-nil prefix ∙ is)
+begins_at y line prefix (b ∷ rest) parts is stop =
     let space : b ≡ 32 = eqb-true b 32 stop in
-    inr (rest, sym parts ∙ ap (λ (f : List ℕ). f ++ (b ∷ rest)) is ∙ ap (λ (c : ℕ). spelling y ++ (c ∷ rest)) space ∙ sym (append_assoc (spelling y) (codes " ") rest))
+    inr (rest, sym parts ∙ ap (λ (f : List ℕ). f ++ (b ∷ rest)) is ∙ ap (λ (c : ℕ). encoding y ++ (c ∷ rest)) space ∙ sym (append_assoc (encoding y) (codes " ") rest))
 
-behind_stops : (line : List ℕ) → IsTrue (stops (behind line))
-behind_stops [] = refl
-behind_stops (b ∷ line) = by_space (eqb b 32) refl (behind_stops line)
+suffix_stops : (line : List ℕ) → IsTrue (stops (suffix line))
+suffix_stops [] = refl
+suffix_stops (b ∷ line) = by_space (eqb b 32) refl (suffix_stops line)
   where
-    by_space : (test : Bool) → eqb b 32 ≡ test → IsTrue (stops (behind line)) → IsTrue (stops (behind (b ∷ line)))
+    by_space : (test : Bool) → eqb b 32 ≡ test → IsTrue (stops (suffix line)) → IsTrue (stops (suffix (b ∷ line)))
     by_space true e others = rw e e
     by_space false e others = let n : 1 + field_len line ≡ suc (field_len line) = omega arith in rw (e, n) others
 
-pub begins_with : (y : Word) (line : List ℕ) → field line ≡ spelling y → BeginsWith y line
-begins_with y line is = begins_at y line (field line) (behind line) (take-append-drop (field_len line) line) is (behind_stops line)
+pub begins_with : (y : Word) (line : List ℕ) → field line ≡ encoding y → BeginsWith y line
+begins_with y line is = begins_at y line (field line) (suffix line) (take-append-drop (field_len line) line) is (suffix_stops line)
 
--- ---- what is read is right
+-- ---- what is read is valid
 
--- an event that was read from a line: right but for the form of an ask's text
+-- an event that was read from a line: valid except for the form of an ask's text
 pub record IsRead (sites : ℕ) (line : List ℕ) (event : Event) : Type 0 where
   pub fits : FieldsFit sites event
   pub written : line ≡ line_of event
   pub text_right : IsLine line → HasText event
 
-read_numbers : (sites : ℕ) (y : Word) (rest : List ℕ) (read : Option Event) (event : Event) → ((e : Event) → read ≡ Some e → IsOf sites (spelling y) rest e) → of_fields read ≡ Ok event → IsRead sites (spelling y ++ rest) event
+read_numbers : (sites : ℕ) (y : Word) (rest : List ℕ) (read : Option Event) (event : Event) → ((e : Event) → read ≡ Some e → IsOf sites (encoding y) rest e) → of_fields read ≡ Ok event → IsRead sites (encoding y ++ rest) event
 read_numbers sites y rest None event is e = absurd cc
 read_numbers sites y rest (Some given) event is e =
     let same : given ≡ event = cc in
@@ -134,7 +134,7 @@ read_text sites rest (Some x) event is e = by_tests (is_utf8 x.1) (leb (length x
         } in
         subst (IsRead sites (codes "ask" ++ rest)) same (record { fits = of.fits; written = of.written; text_right = text })
 
-read_word : (sites : ℕ) (y : Word) (rest : List ℕ) (event : Event) → sites ≤ 16 → event_of sites (Some y) rest ≡ Ok event → IsRead sites (spelling y ++ rest) event
+read_word : (sites : ℕ) (y : Word) (rest : List ℕ) (event : Event) → sites ≤ 16 → event_of sites (Some y) rest ≡ Ok event → IsRead sites (encoding y ++ rest) event
 read_word sites words.Sites rest event le e = absurd cc
 read_word sites words.Ask rest event le e = read_text sites rest (origin_at sites rest) event (λ x. origin_is sites rest x le) e
 read_word sites words.Deliver rest event le e = read_numbers sites words.Deliver rest (deliver_at rest) event (deliver_is sites rest) e
@@ -146,18 +146,18 @@ read_word sites words.Restart rest event le e = read_numbers sites words.Restart
 read_word sites words.Settle rest event le e = read_numbers sites words.Settle rest (settle_at rest) event (settle_is sites rest) e
 read_word sites words.Noise rest event le e = read_numbers sites words.Noise rest (noise_at sites rest) event (λ x. noise_is sites rest x le) e
 
--- what is read of a line behind the sites line
+-- what is read of a line after the sites line
 pub later_is : (sites : ℕ) (line : List ℕ) (event : Event) → sites ≤ 16 → later_line sites line ≡ Ok event → IsRead sites line event
 unfolding later_line
 later_is sites line event le e = by_word (word_of (field line)) refl e
   where
-    by_word : (word : Option Word) → word_of (field line) ≡ word → event_of sites word (behind line) ≡ Ok event → IsRead sites line event
+    by_word : (word : Option Word) → word_of (field line) ≡ word → event_of sites word (suffix line) ≡ Ok event → IsRead sites line event
     by_word None w e = absurd cc
     by_word (Some y) w e =
-        let parts : spelling y ++ behind line ≡ line = ap (λ (f : List ℕ). f ++ behind line) (sym (word_is (field line) y w)) ∙ take-append-drop (field_len line) line in
-        subst (λ (l : List ℕ). IsRead sites l event) parts (read_word sites y (behind line) event le e)
+        let parts : encoding y ++ suffix line ≡ line = ap (λ (f : List ℕ). f ++ suffix line) (sym (word_is (field line) y w)) ∙ take-append-drop (field_len line) line in
+        subst (λ (l : List ℕ). IsRead sites l event) parts (read_word sites y (suffix line) event le e)
 
--- ---- what is right is read
+-- ---- what is valid is read
 
 -- what is read of the line of an event
 abbrev pub read_of : Event → Result Event Why
@@ -203,7 +203,7 @@ later_right sites event h = later_again sites event h.fits ∙ read_right event 
 
 -- ---- which cause it is
 
--- why the fields behind a word are refused
+-- why the fields after a keyword are refused
 data Refused (sites : ℕ) (y : Word) (rest : List ℕ) (why : Why) : Type 0 where
   again : y ≡ words.Sites → why ≡ whys.SitesAgain → Refused sites y rest why
   fields : (y ≡ words.Sites → ⊥) → why ≡ whys.BadFields → Refused sites y rest why
@@ -235,7 +235,7 @@ refused_word sites words.Restart rest why le e = refused_fields sites words.Rest
 refused_word sites words.Settle rest why le e = refused_fields sites words.Settle rest why (settle_at rest) (λ same. absurd cc) e
 refused_word sites words.Noise rest why le e = refused_fields sites words.Noise rest why (noise_at sites rest) (λ same. absurd cc) e
 
--- an event with right fields is not refused for them
+-- an event with valid fields is not refused for them
 text_not_fields : (utf8 short : Bool) (event : Event) → cond utf8 (cond short (Ok event) (Err whys.TooLong)) (Err whys.NotUtf8) ≡ Err whys.BadFields → ⊥
 text_not_fields false short event e = cc
 text_not_fields true false event e = cc
@@ -305,13 +305,13 @@ not_utf8 : (sites : ℕ) (line text : List ℕ) → IsAskOf sites line text → 
 not_utf8 sites line text ask u = ap (later_line sites) ask.written ∙ later_again sites (events.Ask ask.origin text) ask.fits ∙ rw u refl
 
 module _ (sites : ℕ) (line : List ℕ) (y : Word) (w : word_of (field line) ≡ Some y) (why : Why) (e : later_line sites line ≡ Err why) where
-  parts : spelling y ++ behind line ≡ line
-  parts = ap (λ (f : List ℕ). f ++ behind line) (sym (word_is (field line) y w)) ∙ take-append-drop (field_len line) line
+  parts : encoding y ++ suffix line ≡ line
+  parts = ap (λ (f : List ℕ). f ++ suffix line) (sym (word_is (field line) y w)) ∙ take-append-drop (field_len line) line
 
-  abbrev ask_line_is : (x : Origin × List ℕ) → y ≡ words.Ask → IsAsk sites (behind line) x.0 x.1 → IsAskOf sites line x.1
-  ask_line_is x is ask = record { origin = x.0; fits = ask.fits; written = sym parts ∙ ap (λ (z : Word). spelling z ++ behind line) is ∙ ask.written }
+  abbrev ask_line_is : (x : Origin × List ℕ) → y ≡ words.Ask → IsAsk sites (suffix line) x.0 x.1 → IsAskOf sites line x.1
+  ask_line_is x is ask = record { origin = x.0; fits = ask.fits; written = sym parts ∙ ap (λ (z : Word). encoding z ++ suffix line) is ∙ ask.written }
 
-  cause_of : Refused sites y (behind line) why → IsCause (Some sites) line why
+  cause_of : Refused sites y (suffix line) why → IsCause (Some sites) line why
   cause_of (again is cause) =
       let fits : BeginsWith words.Sites line = subst (λ (z : Word). BeginsWith z line) is (begins_with y line (word_is (field line) y w)) in
       let made : IsCause (Some sites) line whys.SitesAgain = record { fits = fits; first = below_again sites line } in
@@ -338,16 +338,16 @@ module _ (sites : ℕ) (line : List ℕ) (y : Word) (w : word_of (field line) �
       } in
       subst (IsCause (Some sites) line) (sym cause) made
 
--- The cause that is found of a line behind the sites line is the first that fits.
+-- The cause that is found of a line after the sites line is the first that fits.
 pub later_cause : (sites : ℕ) (line : List ℕ) (why : Why) → sites ≤ 16 → later_line sites line ≡ Err why → IsCause (Some sites) line why
 unfolding later_line
 later_cause sites line why le e = by_word (word_of (field line)) refl e
   where
-    by_word : (word : Option Word) → word_of (field line) ≡ word → event_of sites word (behind line) ≡ Err why → IsCause (Some sites) line why
+    by_word : (word : Option Word) → word_of (field line) ≡ word → event_of sites word (suffix line) ≡ Err why → IsCause (Some sites) line why
     by_word None w e' = unknown_cause sites line why w cc
-    by_word (Some y) w e' = cause_of sites line y w why e (refused_word sites y (behind line) why le e')
+    by_word (Some y) w e' = cause_of sites line y w why e (refused_word sites y (suffix line) why le e')
 
--- such a line is not right
+-- such a line is not valid
 pub later_wrong : (sites : ℕ) (line : List ℕ) (why : Why) → later_line sites line ≡ Err why → ¬ IsRightLine (Some sites) line
 later_wrong sites line why e = λ h. let right = ap (later_line sites) h.2 ∙ later_right sites h.0 h.1 in absurd cc
 
@@ -367,17 +367,17 @@ pub first_is : (line : List ℕ) (event : Event) → first_line line ≡ Ok even
 unfolding first_line
 first_is line event e = by_word (bytes_eq (field line) (codes "sites")) (bytes_eq-Decides (field line) (codes "sites")).0 e
   where
-    by_read : (read : Option Event) → field line ≡ codes "sites" → sites_at (behind line) ≡ read → of_sites read ≡ Ok event → IsFirst line event
+    by_read : (read : Option Event) → field line ≡ codes "sites" → sites_at (suffix line) ≡ read → of_sites read ≡ Ok event → IsFirst line event
     by_read None w r e = absurd cc
     by_read (Some given) w r e =
         let same : given ≡ event = cc in
-        let is = sites_is (behind line) given r in
-        let parts : line ≡ codes "sites" ++ behind line = sym (take-append-drop (field_len line) line) ∙ ap (λ (f : List ℕ). f ++ behind line) w in
+        let is = sites_is (suffix line) given r in
+        let parts : line ≡ codes "sites" ++ suffix line = sym (take-append-drop (field_len line) line) ∙ ap (λ (f : List ℕ). f ++ suffix line) w in
         record { number = is.0; number_right = is.1; is = sym same ∙ is.2; written = parts ∙ is.3 }
 
-    by_word : (test : Bool) → (test ≡ true → field line ≡ codes "sites") → cond test (of_sites (sites_at (behind line))) (Err whys.NoSites) ≡ Ok event → IsFirst line event
+    by_word : (test : Bool) → (test ≡ true → field line ≡ codes "sites") → cond test (of_sites (sites_at (suffix line))) (Err whys.NoSites) ≡ Ok event → IsFirst line event
     by_word false w e = absurd cc
-    by_word true w e = by_read (sites_at (behind line)) (w refl) refl e
+    by_word true w e = by_read (sites_at (suffix line)) (w refl) refl e
 
 first_err : (read : Option Event) (why : Why) → of_sites read ≡ Err why → why ≡ whys.NoSites
 first_err None why e = cc
@@ -387,9 +387,9 @@ pub first_why : (line : List ℕ) (why : Why) → first_line line ≡ Err why �
 unfolding first_line
 first_why line why e = by_word (bytes_eq (field line) (codes "sites")) e
   where
-    by_word : (test : Bool) → cond test (of_sites (sites_at (behind line))) (Err whys.NoSites) ≡ Err why → why ≡ whys.NoSites
+    by_word : (test : Bool) → cond test (of_sites (sites_at (suffix line))) (Err whys.NoSites) ≡ Err why → why ≡ whys.NoSites
     by_word false e = cc
-    by_word true e = first_err (sites_at (behind line)) why e
+    by_word true e = first_err (sites_at (suffix line)) why e
 
 pub first_wrong : (line : List ℕ) (why : Why) → first_line line ≡ Err why → ¬ IsRightLine None line
 first_wrong line why e = λ h. let right = ap first_line h.2 ∙ first_right h.0 h.1 in absurd cc

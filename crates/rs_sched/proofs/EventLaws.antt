@@ -1,18 +1,18 @@
--- The fields behind a word: what is read is written so, and what is written is read.
+-- The fields after a keyword: reading and printing are inverse.
 use Rattle.std.proofs.Common.{◌≡◌, ℕ, ◌^◌, ◌<◌, ◌≤◌, List, [], ◌∷◌, ◌++◌, Some, None, codes, refl, sym, ap, ◌∙◌, subst, arith, append_assoc}
 use Rattle.std.proofs.lemmas.List.{append-nil}
 use Rattle.rs_base.proofs.Steps.{bind_some}
 use Rattle.rs_base.specs.declared.txn.Origin.{Origin}
 use Rattle.rs_sched.specs.declared.event.Event.{Event}
 use Rattle.rs_sched.specs.declared.event.Event.TheVariants as events
-use Rattle.rs_sched.specs.Spelling.{number_field, line_of, ask_line, hex_of, IsOrigin, IsSiteNo, HasText}
+use Rattle.rs_sched.specs.Encoding.{number_field, line_of, ask_line, hex_of, IsOrigin, IsSiteNo, HasText}
 use Rattle.rs_sched.specs.Schedule.{FieldsFit}
 use Rattle.rs_sched.specs.Reader.{space_at, end_at, number_at, user_at, noise_bytes_at, numbers_at, nth, most, sites_at, deliver_at, lose_at, tick_at, stop_at, arm_at, restart_at, settle_at, noise_at, origin_at}
 use Rattle.rs_sched.proofs.NumberLaws.{some_is}
 use Rattle.rs_sched.proofs.FieldLaws.{space_is, end_is, IsNumber, number_at_is, number_at_again, user_at_is, user_at_again, AreWithin, fields_of, numbers_are, numbers_again}
 use Rattle.rs_sched.proofs.HexLaws.{noise_bytes_is, noise_bytes_again}
 
--- behind the word stands what the event is written as
+-- the keyword and the rest of the line are the event's line
 pub record IsOf (sites : ℕ) (word rest : List ℕ) (event : Event) : Type 0 where
   pub fits : FieldsFit sites event
   pub text : HasText event
@@ -249,8 +249,8 @@ origin_is sites rest x le e =
     } in
     subst (λ (y : Origin × List ℕ). IsAsk sites rest y.0 y.1) {x = found} {y = x} (some_is found x text.2) made
 
-ask_parted : (s u e n t : List ℕ) → (((((s ++ codes " ") ++ u) ++ e) ++ n) ++ codes " ") ++ t ≡ s ++ (32 ∷ (u ++ (e ++ (n ++ (32 ∷ t)))))
-ask_parted s u e n t = simp append_assoc
+ask_separated : (s u e n t : List ℕ) → (((((s ++ codes " ") ++ u) ++ e) ++ n) ++ codes " ") ++ t ≡ s ++ (32 ∷ (u ++ (e ++ (n ++ (32 ∷ t)))))
+ask_separated s u e n t = simp append_assoc
 
 pub origin_again : (sites : ℕ) (origin : Origin) (text : List ℕ) → FieldsFit sites (events.Ask origin text)
     → origin_at sites ((((((number_field origin.site ++ codes " ") ++ origin.user) ++ number_field origin.epoch) ++ number_field origin.number) ++ codes " ") ++ text) ≡ Some (origin, text)
@@ -259,7 +259,7 @@ origin_again sites origin text h =
     let site = number_field origin.site in
     let epoch = number_field origin.epoch in
     let number = number_field origin.number in
-    let group : (((((site ++ codes " ") ++ origin.user) ++ epoch) ++ number) ++ codes " ") ++ text ≡ site ++ (32 ∷ (origin.user ++ (epoch ++ (number ++ (32 ∷ text))))) = ask_parted site origin.user epoch number text in
+    let group : (((((site ++ codes " ") ++ origin.user) ++ epoch) ++ number) ++ codes " ") ++ text ≡ site ++ (32 ∷ (origin.user ++ (epoch ++ (number ++ (32 ∷ text))))) = ask_separated site origin.user epoch number text in
     let small : IsNumber 0 4294967295 origin.epoch = record { above = omega arith; below = omega (arith, h.fields.epoch); small = omega (arith, h.fields.epoch) } in
     ap (origin_at sites) group
     ∙ rw (number_at_again 1 sites origin.site (32 ∷ (origin.user ++ (epoch ++ (number ++ (32 ∷ text))))) (site_number sites origin.site h.fields.site h.site_right) refl, user_at_again origin.user (epoch ++ (number ++ (32 ∷ text))) h.fields.user refl, number_at_again 0 4294967295 origin.epoch (number ++ (32 ∷ text)) small refl, number_at_again 0 most origin.number (32 ∷ text) (any origin.number h.fields.number) refl) refl

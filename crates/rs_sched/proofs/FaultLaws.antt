@@ -1,4 +1,4 @@
--- Bytes have one fault: what a refusal may say of them is what reading them says.
+-- Bytes have at most one fault, which is the one that the reader reports.
 use Rattle.std.proofs.Common.{◌≡◌, ℕ, zero, suc, ◌+◌, ◌<◌, Bool, true, false, List, [], ◌∷◌, ◌++◌, length, Option, Some, None, Result, Ok, Err, IsTrue, ◌⊎◌, refl, sym, ap, ◌∙◌, subst, inl, inr, arith}
 use Rattle.std.proofs.lemmas.Bool.{lt-ltb}
 use Rattle.rs_sched.specs.declared.event.Event.{Event}
@@ -8,7 +8,7 @@ use Rattle.rs_sched.specs.declared.fault.Why.TheVariants as whys
 use Rattle.rs_sched.specs.declared.fault.SchedFault.{SchedFault}
 use Rattle.rs_sched.specs.declared.fault.SchedFault.TheVariants as faults
 use Rattle.rs_sched.specs.Lines.{lines_of, without_returns, is_comment}
-use Rattle.rs_sched.specs.Spelling.{line_of, IsLine}
+use Rattle.rs_sched.specs.Encoding.{line_of, IsLine}
 use Rattle.rs_sched.specs.Schedule.{IsLater, AreLines, IsSchedule}
 use Rattle.rs_sched.specs.Faults.{IsRightLine, rank, IsCause, IsFault}
 use Rattle.rs_sched.specs.Reader.{lines_at, line_at, sites_after, events_of}
@@ -46,7 +46,7 @@ cause_once sites line why other h k =
       | inr (inr same) ↦ sym (why_of-rank why) ∙ ap why_of same ∙ why_of-rank other
     ]
 
--- a line that is read is right
+-- a line that is read is valid
 read_right_line : (sites : Option ℕ) (line : List ℕ) (event : Event) → Few sites → IsLine line → line_at sites line ≡ Ok event → IsRightLine sites line
 read_right_line None line event few right e = let first = first_is line event e in (first.number, first.number_right, first.written)
 read_right_line (Some sites) line event few right e =
@@ -54,7 +54,7 @@ read_right_line (Some sites) line event few right e =
     let later : IsLater sites event = record { fits = read.fits; text = read.text_right right } in
     (event, later, read.written)
 
--- a line that isn't right is refused for its first cause
+-- a line that isn't valid is refused for its first cause
 bad_is_refused : (sites : Option ℕ) (line : List ℕ) (why : Why) → Few sites → IsLine line → ¬ IsRightLine sites line → IsCause sites line why → line_at sites line ≡ Err why
 bad_is_refused sites line why few right wrong cause = by_read (line_at sites line) refl
   where
@@ -70,7 +70,7 @@ bad_is_refused sites line why few right wrong cause = by_read (line_at sites lin
 
 -- ---- one line
 
--- the events of a front of what may come, read on
+-- the first event of a prefix of a valid list is read, and the others are such a prefix after it
 record Goes (sites : Option ℕ) (event : Event) (others : List Event) : Type 0 where
   read : line_at sites (line_of event) ≡ Ok event
   few : Few (sites_after sites event)
@@ -90,38 +90,38 @@ goes_of None (events.Restart site) others few h = absurd h
 goes_of None (events.Settle count) others few h = absurd h
 goes_of None (events.Noise site bytes) others few h = absurd h
 
--- a bad line, behind a front of lines with these events
-record IsBadBehind (sites : Option ℕ) (given : List Event) (line : List ℕ) (why : Why) : Type 0 where
+-- a bad line after lines with these events
+record IsBadAfter (sites : Option ℕ) (given : List Event) (line : List ℕ) (why : Why) : Type 0 where
   no_comment : is_comment (without_returns line) ≡ false
   not_right : ¬ IsRightLine (known sites given) (without_returns line)
   cause : IsCause (known sites given) (without_returns line) why
 
-bad_here : (sites : Option ℕ) (line : List ℕ) (why : Why) → Few sites → IsLine (without_returns line) → IsBadBehind sites [] line why → line_at sites (without_returns line) ≡ Err why
+bad_here : (sites : Option ℕ) (line : List ℕ) (why : Why) → Few sites → IsLine (without_returns line) → IsBadAfter sites [] line why → line_at sites (without_returns line) ≡ Err why
 bad_here None line why few right h = bad_is_refused None (without_returns line) why few right h.not_right h.cause
 bad_here (Some sites) line why few right h = bad_is_refused (Some sites) (without_returns line) why few right h.not_right h.cause
 
-place_next : (before n at : ℕ) → at ≡ before + (1 + n) + 1 → at ≡ (before + 1) + n + 1
-place_next before n at is = omega (arith, is)
+line_number_next : (before n at : ℕ) → at ≡ before + (1 + n) + 1 → at ≡ (before + 1) + n + 1
+line_number_next before n at is = omega (arith, is)
 
-bad_again : (front : List (List ℕ)) (sites : Option ℕ) (before : ℕ) (given : List Event) (line : List ℕ) (behind : List (List ℕ)) (at : ℕ) (why : Why) → Few sites → Feedless (front ++ line ∷ behind)
-    → Continues sites given → AreLines front given → at ≡ before + length front + 1 → IsBadBehind sites given line why → lines_at sites before (front ++ line ∷ behind) ≡ Err (faults.BadLine at why)
-bad_again [] sites before [] line behind at why few feeds goes written place bad =
+bad_again : (prefix : List (List ℕ)) (sites : Option ℕ) (before : ℕ) (given : List Event) (line : List ℕ) (suffix : List (List ℕ)) (at : ℕ) (why : Why) → Few sites → Feedless (prefix ++ line ∷ suffix)
+    → Continues sites given → AreLines prefix given → at ≡ before + length prefix + 1 → IsBadAfter sites given line why → lines_at sites before (prefix ++ line ∷ suffix) ≡ Err (faults.BadLine at why)
+bad_again [] sites before [] line suffix at why few feeds goes written numbered bad =
     let read = bad_here sites line why few (line_of_part line feeds.0) bad in
-    let is : at ≡ before + 1 = omega (arith, place) in
+    let is : at ≡ before + 1 = omega (arith, numbered) in
     rw (bad.no_comment, read, is) refl
-bad_again [] sites before (event ∷ given) line behind at why few feeds goes written place bad = absurd written
-bad_again (first ∷ front) sites before [] line behind at why few feeds goes written place bad =
-    rw written.0 (bad_again front sites (before + 1) [] line behind at why few feeds.1 goes written.1 (place_next before (length front) at (omega (arith, place))) bad)
-bad_again (first ∷ front) sites before (event ∷ given) line behind at why few feeds goes (inl comment) place bad =
-    rw comment.0 (bad_again front sites (before + 1) (event ∷ given) line behind at why few feeds.1 goes comment.1 (place_next before (length front) at (omega (arith, place))) bad)
-bad_again (first ∷ front) sites before (event ∷ given) line behind at why few feeds goes (inr here) place bad =
+bad_again [] sites before (event ∷ given) line suffix at why few feeds goes written numbered bad = absurd written
+bad_again (first ∷ prefix) sites before [] line suffix at why few feeds goes written numbered bad =
+    rw written.0 (bad_again prefix sites (before + 1) [] line suffix at why few feeds.1 goes written.1 (line_number_next before (length prefix) at (omega (arith, numbered))) bad)
+bad_again (first ∷ prefix) sites before (event ∷ given) line suffix at why few feeds goes (inl comment) numbered bad =
+    rw comment.0 (bad_again prefix sites (before + 1) (event ∷ given) line suffix at why few feeds.1 goes comment.1 (line_number_next before (length prefix) at (omega (arith, numbered))) bad)
+bad_again (first ∷ prefix) sites before (event ∷ given) line suffix at why few feeds goes (inr here) numbered bad =
     let next = goes_of sites event given few goes in
-    let behind_it : IsBadBehind (sites_after sites event) given line why = record {
+    let suffix_it : IsBadAfter (sites_after sites event) given line why = record {
       no_comment = bad.no_comment;
       not_right = subst (λ (s : Option ℕ). ¬ IsRightLine s (without_returns line)) next.knows bad.not_right;
       cause = subst (λ (s : Option ℕ). IsCause s (without_returns line) why) next.knows bad.cause;
     } in
-    let others = bad_again front (sites_after sites event) (before + 1) given line behind at why next.few feeds.1 next.goes here.1 (place_next before (length front) at (omega (arith, place))) behind_it in
+    let others = bad_again prefix (sites_after sites event) (before + 1) given line suffix at why next.few feeds.1 next.goes here.1 (line_number_next before (length prefix) at (omega (arith, numbered))) suffix_it in
     rw (here.0, no_comment_line event, next.read, others) refl
 
 none_again : (lines : List (List ℕ)) (before : ℕ) → AreLines lines [] → lines_at None before lines ≡ Err (faults.BadLine (before + length lines + 1) whys.NoSites)
@@ -134,18 +134,18 @@ not_true_false : (b : Bool) → ¬ IsTrue b → b ≡ false
 not_true_false false h = refl
 not_true_false true h = absurd (h refl)
 
--- What a refusal may say is what reading says.
+-- A fault of the bytes is the one that the reader reports.
 pub fault_again : (bytes : List ℕ) (at : ℕ) (why : Why) → IsFault bytes at why → events_of bytes ≡ Err (faults.BadLine at why)
 unfolding events_of
-fault_again bytes at why (inl many) = rw (lt-ltb 16777216 (length bytes) many.long, many.place, many.cause) refl
+fault_again bytes at why (inl many) = rw (lt-ltb 16777216 (length bytes) many.long, many.numbered, many.cause) refl
 fault_again bytes at why (inr (inl bad)) =
-    let feeds : Feedless (bad.before ++ bad.line ∷ bad.behind) = subst Feedless bad.parted (lines_feedless bytes) in
-    let behind : IsBadBehind None bad.given bad.line why = record { no_comment = not_true_false (is_comment (without_returns bad.line)) bad.no_comment; not_right = bad.not_right; cause = bad.cause } in
-    let place : at ≡ 0 + length bad.before + 1 = omega (arith, bad.place) in
-    rw (not_ltb 16777216 (length bytes) bad.short, bad.parted) (bad_again bad.before None 0 bad.given bad.line bad.behind at why tt feeds bad.begun bad.given_right place behind)
+    let feeds : Feedless (bad.before ++ bad.line ∷ bad.suffix) = subst Feedless bad.separated (lines_feedless bytes) in
+    let suffix : IsBadAfter None bad.given bad.line why = record { no_comment = not_true_false (is_comment (without_returns bad.line)) bad.no_comment; not_right = bad.not_right; cause = bad.cause } in
+    let numbered : at ≡ 0 + length bad.before + 1 = omega (arith, bad.numbered) in
+    rw (not_ltb 16777216 (length bytes) bad.short, bad.separated) (bad_again bad.before None 0 bad.given bad.line bad.suffix at why tt feeds bad.begun bad.given_right numbered suffix)
 fault_again bytes at why (inr (inr none)) =
-    let place : 0 + length (lines_of bytes) + 1 ≡ at = omega (arith, none.place) in
-    rw (not_ltb 16777216 (length bytes) none.short, none.cause) (none_again (lines_of bytes) 0 none.comments ∙ ap (λ (n : ℕ). Err (faults.BadLine n whys.NoSites)) place)
+    let numbered : 0 + length (lines_of bytes) + 1 ≡ at = omega (arith, none.numbered) in
+    rw (not_ltb 16777216 (length bytes) none.short, none.cause) (none_again (lines_of bytes) 0 none.comments ∙ ap (λ (n : ℕ). Err (faults.BadLine n whys.NoSites)) numbered)
 
 abbrev Read : Type 0
 Read = Result (List Event) SchedFault
@@ -156,7 +156,7 @@ refused at why = Err (faults.BadLine at why)
 of_same : (at line : ℕ) (why cause : Why) → refused at why ≡ refused line cause → (at ≡ line) × (why ≡ cause)
 of_same at line why cause e = (cc, cc)
 
--- Bytes have one fault.
+-- Bytes have at most one fault.
 pub fault_once : (bytes : List ℕ) (at line : ℕ) (why cause : Why) → IsFault bytes at why → IsFault bytes line cause → (at ≡ line) × (why ≡ cause)
 fault_once bytes at line why cause h k = of_same at line why cause (sym (fault_again bytes at why h) ∙ fault_again bytes line cause k)
 

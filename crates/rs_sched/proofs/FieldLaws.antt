@@ -1,4 +1,4 @@
--- Fields: what is read is written so, and what is written is read where a space or the end stands behind it.
+-- Fields: what is read is what was written, and what is written is read if a space or the end follows it.
 use Rattle.std.proofs.Common.{◌≡◌, ℕ, ◌^◌, ◌<◌, ◌≤◌, Bool, true, false, ◌&&◌, ◌⊎◌, not, eqb, leb, List, [], ◌∷◌, ◌++◌, length, take, drop, Some, IsTrue, decimal, refl, sym, ap, ◌∙◌, subst, inl, inr, arith}
 use Rattle.std.specs.List.{list_all, prefix_len}
 use Rattle.std.proofs.lemmas.Bool.{and_parts, and_from, eqb-true, leb-true, le-leb}
@@ -8,7 +8,7 @@ use Rattle.rs_base.proofs.Steps.{bind_some, held}
 use Rattle.rs_base.specs.Ident.{is_ident, is_name_byte, begins_with_letter, are_name_bytes}
 use Rattle.rs_sched.specs.declared.event.Event.{Event}
 use Rattle.rs_sched.specs.Numbers.{is_digit, number_of}
-use Rattle.rs_sched.specs.Spelling.{number_field}
+use Rattle.rs_sched.specs.Encoding.{number_field}
 use Rattle.rs_sched.specs.Reader.{is_field_byte, field_len, space_at, end_at, number_at, user_at, numbers_at}
 use Rattle.rs_sched.proofs.NumberLaws.{some_is, number_is, decimal_digits, number_again}
 
@@ -38,7 +38,7 @@ field_ends (b ∷ field) rest all end =
     let others : prefix_len is_field_byte (field ++ rest) ≡ length field = field_ends field rest both.1 end in
     rw both.0 (omega (arith, others))
 
--- a field that was split off, and what stands behind it
+-- a field that was split off, and the bytes after it
 pub field_taken : (field rest : List ℕ) → list_all is_field_byte field ≡ true → IsTrue (stops rest) → take (field_len (field ++ rest)) (field ++ rest) ≡ field
 field_taken field rest all end = rw (field_ends field rest all end) (take_at field rest (length field) refl)
 

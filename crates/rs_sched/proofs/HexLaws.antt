@@ -1,4 +1,4 @@
--- Bytes in base 16.
+-- Bytes in hexadecimal: reading and printing are inverse.
 use Rattle.std.proofs.Common.{◌≡◌, ℕ, ◌+◌, ◌-◌, ◌*◌, ◌/◌, ◌%◌, ◌<◌, ◌≤◌, Bool, true, false, cond, ◌&&◌, ◌⊎◌, not, eqb, leb, ltb, IsTrue, codes, List, [], ◌∷◌, ◌++◌, length, get_or, take, drop, Option, Some, None, refl, sym, ap, ◌∙◌, subst, append_assoc, inl, inr, arith}
 use Rattle.std.proofs.lemmas.List.{take_all, take-append-drop}
 use Rattle.rs_base.proofs.Steps.{bind_some}
@@ -9,7 +9,7 @@ use Rattle.std.proofs.lemmas.Bool.{and_parts, and_from, leb-true, le-leb, ltb-tr
 use Rattle.std.proofs.lemmas.Bool.Decides.{eqb_tells}
 use Rattle.std.proofs.lemmas.Slice.Eq.{bytes_eq-Decides}
 use Rattle.rs_sched.specs.Numbers.{hex_value, hex_pair, bytes_of_hex, noise_of, with_bytes}
-use Rattle.rs_sched.specs.Spelling.{hex_digit, hex_byte, hex_of, is_byte}
+use Rattle.rs_sched.specs.Encoding.{hex_digit, hex_byte, hex_of, is_byte}
 use Rattle.rs_sched.specs.Reader.{is_field_byte, field_len, space_at, noise_bytes_at}
 use Rattle.rs_sched.proofs.NumberLaws.{some_is}
 use Rattle.rs_sched.proofs.FieldLaws.{space_is, stops, field_taken, field_left}
@@ -129,7 +129,7 @@ bytes_of_hex_is (a ∷ b ∷ digits) bytes e =
     let one = hex_pair_is a b first.0 first.1 in
     let more = bytes_of_hex_is digits others.0 others.1 in
     let P : List ℕ → Type 0 = λ bs. (list_all is_byte bs ≡ true) × (a ∷ b ∷ digits ≡ flat_map hex_byte bs) in
-    let joined : a ∷ b ∷ digits ≡ hex_byte first.0 ++ flat_map hex_byte others.0 = ap (λ (r : List ℕ). a ∷ b ∷ r) more.1 ∙ ap (λ (front : List ℕ). front ++ flat_map hex_byte others.0) one.1 in
+    let joined : a ∷ b ∷ digits ≡ hex_byte first.0 ++ flat_map hex_byte others.0 = ap (λ (r : List ℕ). a ∷ b ∷ r) more.1 ∙ ap (λ (prefix : List ℕ). prefix ++ flat_map hex_byte others.0) one.1 in
     subst P (some_is (first.0 ∷ others.0) bytes others.2) (and_from _ _ one.0 more.0, joined)
 
 pub bytes_of_hex_again : (bytes : List ℕ) → list_all is_byte bytes ≡ true → bytes_of_hex (flat_map hex_byte bytes) ≡ Some bytes

@@ -4,35 +4,35 @@ use Rattle.std.specs.List.{list_all, prefix_len}
 use Rattle.std.proofs.lemmas.List.{take_more, take_all}
 use Rattle.std.proofs.lemmas.Bool.Decides.{eqb_tells}
 use Rattle.std.proofs.lemmas.Bool.{and_parts, and_from}
-use Rattle.rs_sched.specs.Spelling.{IsLine}
+use Rattle.rs_sched.specs.Encoding.{IsLine}
 use Rattle.rs_sched.specs.Lines.{onto_first, lines_of, is_return, without_returns, is_before_feed}
 
 -- ---- carriage returns
 
-all_with_return : (front : List ℕ) → list_all is_return (front ++ 13 ∷ []) ≡ list_all is_return front
+all_with_return : (prefix : List ℕ) → list_all is_return (prefix ++ 13 ∷ []) ≡ list_all is_return prefix
 all_with_return [] = refl
-all_with_return (b ∷ front) = ap (λ (t : Bool). is_return b && t) (all_with_return front)
+all_with_return (b ∷ prefix) = ap (λ (t : Bool). is_return b && t) (all_with_return prefix)
 
 and_false : (a : Bool) → (a && false) ≡ false
 and_false true = refl
 and_false false = refl
 
-all_without : (front : List ℕ) (x : ℕ) → is_return x ≡ false → list_all is_return (front ++ x ∷ []) ≡ false
+all_without : (prefix : List ℕ) (x : ℕ) → is_return x ≡ false → list_all is_return (prefix ++ x ∷ []) ≡ false
 all_without [] x h = rw h refl
-all_without (b ∷ front) x h = ap (λ (t : Bool). is_return b && t) (all_without front x h) ∙ and_false (is_return b)
+all_without (b ∷ prefix) x h = ap (λ (t : Bool). is_return b && t) (all_without prefix x h) ∙ and_false (is_return b)
 
--- a carriage return at the end goes
-returns_go : (front : List ℕ) → without_returns (front ++ 13 ∷ []) ≡ without_returns front
+-- a carriage return at the end is removed
+returns_go : (prefix : List ℕ) → without_returns (prefix ++ 13 ∷ []) ≡ without_returns prefix
 returns_go [] = refl
-returns_go (b ∷ front) = rw (all_with_return front, returns_go front) refl
+returns_go (b ∷ prefix) = rw (all_with_return prefix, returns_go prefix) refl
 
--- another byte at the end stays, and what stands before it
-returns_stay : (front : List ℕ) (x : ℕ) → is_return x ≡ false → without_returns (front ++ x ∷ []) ≡ front ++ x ∷ []
+-- a last byte other than a carriage return is kept, with the bytes before it
+returns_stay : (prefix : List ℕ) (x : ℕ) → is_return x ≡ false → without_returns (prefix ++ x ∷ []) ≡ prefix ++ x ∷ []
 returns_stay [] x h = rw h refl
-returns_stay (b ∷ front) x h = rw (all_without (b ∷ front) x h, returns_stay front x h) refl
+returns_stay (b ∷ prefix) x h = rw (all_without (b ∷ prefix) x h, returns_stay prefix x h) refl
 
-front_last : (line : List ℕ) → 1 ≤ length line → take (length line - 1) line ++ get_or line (length line - 1) 0 ∷ [] ≡ line
-front_last line h =
+prefix_last : (line : List ℕ) → 1 ≤ length line → take (length line - 1) line ++ get_or line (length line - 1) 0 ∷ [] ≡ line
+prefix_last line h =
     let more = take_more line (length line - 1) 0 (omega arith) in
     let all : (length line - 1) + 1 ≡ length line = omega arith in
     sym more ∙ ap (λ (n : ℕ). take n line) all ∙ take_all (length line) line (omega arith)
@@ -40,7 +40,7 @@ front_last line h =
 -- a line with a carriage return at its end, and one with none
 pub returns-one : (line : List ℕ) → 1 ≤ length line → get_or line (length line - 1) 0 ≡ 13 → without_returns (take (length line - 1) line) ≡ without_returns line
 returns-one line h is =
-    let last = ap (λ (x : ℕ). take (length line - 1) line ++ x ∷ []) (sym is) ∙ front_last line h in
+    let last = ap (λ (x : ℕ). take (length line - 1) line ++ x ∷ []) (sym is) ∙ prefix_last line h in
     sym (returns_go (take (length line - 1) line)) ∙ ap without_returns last
 
 neq_eqb : (a b : ℕ) → a ≢ b → eqb a b ≡ false
@@ -48,7 +48,7 @@ neq_eqb a b h = elim (eqb_tells a b) [ inl same ↦ absurd (h same.1) | inr othe
 
 pub returns-none : (line : List ℕ) → 1 ≤ length line → get_or line (length line - 1) 0 ≢ 13 → without_returns line ≡ line
 returns-none line h is =
-    ap without_returns (sym (front_last line h)) ∙ returns_stay (take (length line - 1) line) (get_or line (length line - 1) 0) (neq_eqb _ _ is) ∙ front_last line h
+    ap without_returns (sym (prefix_last line h)) ∙ returns_stay (take (length line - 1) line) (get_or line (length line - 1) 0) (neq_eqb _ _ is) ∙ prefix_last line h
 
 -- ---- the next line
 
@@ -64,28 +64,28 @@ lines_next_of : (b : ℕ) (bytes : List ℕ) → let n = prefix_len is_before_fe
 lines_next_of b [] = by_feed b [] refl (eqb b 10) refl
 lines_next_of b (c ∷ bytes) = by_feed b (c ∷ bytes) (ap (onto_first b) (lines_next_of c bytes)) (eqb b 10) refl
 
--- the first line, and those behind its line feed
+-- the first line, and the lines after its line feed
 pub lines_next : (bytes : List ℕ) → 1 ≤ length bytes → let n = prefix_len is_before_feed bytes in lines_of bytes ≡ take n bytes ∷ lines_of (drop 1 (drop n bytes))
 lines_next [] h = absurd (omega arith)
 lines_next (b ∷ bytes) h = lines_next_of b bytes
 
 -- ---- parts of a line
 
-all_behind : (p : ℕ → Bool) (front rest : List ℕ) → list_all p (front ++ rest) ≡ true → list_all p rest ≡ true
-all_behind p [] rest all = all
-all_behind p (b ∷ front) rest all = all_behind p front rest (and_parts (p b) (list_all p (front ++ rest)) all).1
+all_after : (p : ℕ → Bool) (prefix rest : List ℕ) → list_all p (prefix ++ rest) ≡ true → list_all p rest ≡ true
+all_after p [] rest all = all
+all_after p (b ∷ prefix) rest all = all_after p prefix rest (and_parts (p b) (list_all p (prefix ++ rest)) all).1
 
-returns_behind : (front rest : List ℕ) → without_returns (front ++ rest) ≡ front ++ rest → without_returns rest ≡ rest
-returns_behind [] rest h = h
-returns_behind (b ∷ front) rest h = by_all (list_all is_return (b ∷ (front ++ rest))) h (returns_behind front rest)
+returns_after : (prefix rest : List ℕ) → without_returns (prefix ++ rest) ≡ prefix ++ rest → without_returns rest ≡ rest
+returns_after [] rest h = h
+returns_after (b ∷ prefix) rest h = by_all (list_all is_return (b ∷ (prefix ++ rest))) h (returns_after prefix rest)
   where
-    by_all : (all : Bool) → cond all [] (b ∷ without_returns (front ++ rest)) ≡ b ∷ (front ++ rest) → (without_returns (front ++ rest) ≡ front ++ rest → without_returns rest ≡ rest) → without_returns rest ≡ rest
+    by_all : (all : Bool) → cond all [] (b ∷ without_returns (prefix ++ rest)) ≡ b ∷ (prefix ++ rest) → (without_returns (prefix ++ rest) ≡ prefix ++ rest → without_returns rest ≡ rest) → without_returns rest ≡ rest
     by_all true e others = absurd cc
     by_all false e others = others cc
 
--- what stands at the end of a line is one
-pub suffix_line : (front rest : List ℕ) → IsLine (front ++ rest) → IsLine rest
-suffix_line front rest h = (all_behind is_before_feed front rest h.0, returns_behind front rest h.1)
+-- a suffix of a line is a line
+pub suffix_line : (prefix rest : List ℕ) → IsLine (prefix ++ rest) → IsLine rest
+suffix_line prefix rest h = (all_after is_before_feed prefix rest h.0, returns_after prefix rest h.1)
 
 none_all : (line : List ℕ) → list_all is_return line ≡ false → list_all is_return (without_returns line) ≡ false
 none_all [] e = e
@@ -95,7 +95,7 @@ none_all (b ∷ line) e = by_first (is_return b) refl (none_all line)
     by_first false f others = rw (e, f) refl
     by_first true f others = let left : list_all is_return line ≡ false = rw f at e in rw (e, f) (others left)
 
--- the carriage returns at the end go at once
+-- the carriage returns at the end are removed at once
 pub returns_once : (line : List ℕ) → without_returns (without_returns line) ≡ without_returns line
 returns_once [] = refl
 returns_once (b ∷ line) = by_all (list_all is_return (b ∷ line)) refl (returns_once line)

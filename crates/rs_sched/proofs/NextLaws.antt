@@ -1,4 +1,4 @@
--- What is left of a schedule, line by line.
+-- The rest of a schedule, line by line.
 use Rattle.std.proofs.Common.{◌≡◌, ℕ, ◌+◌, ◌≤◌, Bool, true, false, eqb, List, [], ◌∷◌, length, take, drop, refl, sym, ap, ◌∙◌, length-drop, arith}
 use Rattle.std.specs.List.{prefix_len}
 use Rattle.std.proofs.lemmas.Bool.{eqb-true}
@@ -13,7 +13,7 @@ not_none n some = by_test (eqb n 0) refl
     by_test false e = e
     by_test true e = absurd (omega (arith, eqb-true n 0 e))
 
--- no line is left where no byte is
+-- no line is left exactly if no byte is
 pub none_left : (bytes : List ℕ) → eqb (length bytes) 0 ≡ is_none (lines_of bytes)
 none_left [] = refl
 none_left (b ∷ bytes) = not_none (length (b ∷ bytes)) (omega arith) ∙ sym (ap is_none (lines_next (b ∷ bytes) (omega arith)))
@@ -28,7 +28,7 @@ first_left bytes some = sym (ap first_of (lines_next bytes some))
 pub rest_left : (bytes : List ℕ) → 1 ≤ length bytes → lines_of (drop 1 (drop (prefix_len is_before_feed bytes) bytes)) ≡ drop 1 (lines_of bytes)
 rest_left bytes some = sym (ap (λ (lines : List (List ℕ)). drop 1 lines) (lines_next bytes some))
 
--- the bytes behind a line are fewer
+-- the bytes after a line are fewer
 pub rest_smaller : (bytes rest : List ℕ) → 1 ≤ length bytes → rest ≡ drop 1 (drop (prefix_len is_before_feed bytes) bytes) → length rest + 1 ≤ length bytes
 rest_smaller bytes rest some is =
     let n = prefix_len is_before_feed bytes in

@@ -1,4 +1,4 @@
--- Numbers: what is read is written so, and what is written is read.
+-- Decimal numbers: reading and printing are inverse.
 use Rattle.std.proofs.Common.{◌≡◌, ℕ, zero, suc, ◌+◌, ◌*◌, ◌^◌, ◌-◌, ◌<◌, true, false, ◌&&◌, not, eqb, leb, ltb, List, [], ◌∷◌, length, get_or, Some, decimal, refl, sym, ap, subst, inl, inr, arith, rules}
 use Rattle.std.specs.List.{fold}
 use Rattle.std.proofs.lemmas.Bool.{and_parts, eq-eqb, le-leb, ltb-true, lt-ltb}
@@ -8,8 +8,8 @@ use Rattle.std.proofs.lemmas.Fmt.{decimal-digits_value, digits_decimal, digits_v
 use Rattle.rs_base.proofs.Steps.{held}
 use Rattle.rs_sched.specs.Numbers.{are_digits, begins_with_no_zero, is_numeral, digits_value, number_of}
 
-tells : IsDigitsTest (λ digits. are_digits digits ≡ true)
-tells = search rules
+reports : IsDigitsTest (λ digits. are_digits digits ≡ true)
+reports = search rules
 
 abbrev folded : ℕ → List ℕ → ℕ
 folded n digits = fold (λ n digit. 10 * n + (digit - 48)) n digits
@@ -18,7 +18,7 @@ folds : FoldsDigits folded
 folds = search rules
 
 own : IsNumeralModel (λ digits. are_digits digits ≡ true) digits_value
-own = numerals_by_fold _ tells folded folds
+own = numerals_by_fold _ reports folded folds
 
 pub some_is : {A : Type 0} (x y : A) → Some x ≡ Some y → x ≡ y
 some_is x y e = cc

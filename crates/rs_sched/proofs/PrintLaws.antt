@@ -1,4 +1,4 @@
--- What is printed of a valid list is a schedule of it.
+-- The printed lines of a valid list are a schedule of it.
 use Rattle.std.proofs.Common.{◌≡◌, ℕ, ◌+◌, ◌^◌, ◌/◌, ◌%◌, ◌<◌, ◌≤◌, Bool, true, false, ◌&&◌, ◌||◌, ◌⊎◌, not, eqb, leb, ltb, List, [], ◌∷◌, ◌++◌, length, Some, None, codes, decimal, refl, ap, ◌∙◌, subst, inl, inr, arith, append_assoc}
 use Rattle.std.specs.Prelude.{flat_map}
 use Rattle.std.specs.List.{list_all}
@@ -10,7 +10,7 @@ use Rattle.rs_sched.specs.declared.event.Event.{Event}
 use Rattle.rs_sched.specs.declared.event.Event.TheVariants as events
 use Rattle.rs_sched.specs.Numbers.{is_digit}
 use Rattle.rs_sched.specs.Lines.{lines_of, is_return, is_before_feed}
-use Rattle.rs_sched.specs.Spelling.{hex_digit, hex_byte, hex_of, number_field, line_of, IsLine, IsSiteNo, HasFields, HasText}
+use Rattle.rs_sched.specs.Encoding.{hex_digit, hex_byte, hex_of, number_field, line_of, IsLine, IsSiteNo, HasFields, HasText}
 use Rattle.rs_sched.specs.Schedule.{AreLater, AreLines, IsValid, IsSchedule, text_of}
 use Rattle.rs_sched.proofs.NumberLaws.{decimal_digits}
 
@@ -77,17 +77,17 @@ seen_hex (b ∷ bytes) = seen_hex_bytes (b ∷ bytes)
 not_this : (b c : ℕ) → 32 ≤ b → c < 32 → eqb b c ≡ false
 not_this b c h k = elim (eqb_tells b c) [ inl same ↦ absurd (omega (arith, same.1)) | inr other ↦ other.0 ]
 
-seen_front : (front text : List ℕ) → Seen front → IsLine text → IsLine (front ++ text)
-seen_front [] text seen h = h
-seen_front (b ∷ front) text seen h =
-    let both = and_parts (is_seen b) (list_all is_seen front) seen in
+seen_prefix : (prefix text : List ℕ) → Seen prefix → IsLine text → IsLine (prefix ++ text)
+seen_prefix [] text seen h = h
+seen_prefix (b ∷ prefix) text seen h =
+    let both = and_parts (is_seen b) (list_all is_seen prefix) seen in
     let above = leb-true 32 b both.0 in
-    let others = seen_front front text both.1 h in
+    let others = seen_prefix prefix text both.1 h in
     let no_return : is_return b ≡ false = not_this b 13 above (omega arith) in
     (and_from _ _ (ap not (not_this b 10 above (omega arith))) others.0, rw (no_return, others.1) refl)
 
 seen_line : (line : List ℕ) → Seen line → IsLine line
-seen_line line seen = subst IsLine (append-nil line) (seen_front line [] seen (refl, refl))
+seen_line line seen = subst IsLine (append-nil line) (seen_prefix line [] seen (refl, refl))
 
 small : (n : ℕ) → n ≤ 1000 → n < 2 ^ 64
 small n h = omega arith
@@ -95,7 +95,7 @@ small n h = omega arith
 site_seen : (n : ℕ) → IsSiteNo n → Seen (number_field n)
 site_seen n h = seen_number n (omega (arith, h.1))
 
--- the same as a record, from which the bytes can be told
+-- the same as a record, so that the bytes can be inferred from its type
 record IsSeen (bytes : List ℕ) : Type 0 where
   all : Seen bytes
 
@@ -115,7 +115,7 @@ line : {bytes : List ℕ} → IsSeen bytes → IsLine bytes
 line {bytes} h = seen_line bytes h.all
 
 line_then : {bytes : List ℕ} (text : List ℕ) → IsSeen bytes → IsLine text → IsLine (bytes ++ text)
-line_then {bytes} text h right = seen_front bytes text h.all right
+line_then {bytes} text h right = seen_prefix bytes text h.all right
 
 epoch_small : (n : ℕ) → n < 2 ^ 32 → n < 2 ^ 64
 epoch_small n h = omega arith
@@ -138,26 +138,26 @@ line_is (events.Noise site bytes) h text =
     let hex : IsSeen (hex_of bytes) = record { all = seen_hex bytes } in
     line (then (then (then (word (codes "noise") refl) (site_field site h.0)) (word (codes " ") refl)) hex)
 
--- a line and its line feed in front
-line_in_front : (line rest : List ℕ) → list_all is_before_feed line ≡ true → lines_of (line ++ 10 ∷ rest) ≡ line ∷ lines_of rest
-line_in_front [] rest all = refl
-line_in_front (b ∷ line) rest all =
+-- a line with its line feed, then other lines
+line_prefix : (line rest : List ℕ) → list_all is_before_feed line ≡ true → lines_of (line ++ 10 ∷ rest) ≡ line ∷ lines_of rest
+line_prefix [] rest all = refl
+line_prefix (b ∷ line) rest all =
     let both = and_parts (is_before_feed b) (list_all is_before_feed line) all in
     let feed : eqb b 10 ≡ false = elim (eqb_tells b 10) [ inl same ↦ absurd (let w : is_before_feed b ≡ false = ap not same.0 in cc) | inr other ↦ other.0 ] in
-    rw (feed, line_in_front line rest both.1) refl
+    rw (feed, line_prefix line rest both.1) refl
 
-front_lines : (event : Event) (given : List Event) → IsLine (line_of event) → AreLines (lines_of (text_of given)) given → AreLines (lines_of (text_of (event ∷ given))) (event ∷ given)
-front_lines event given line others =
-    let parts : lines_of (text_of (event ∷ given)) ≡ line_of event ∷ lines_of (text_of given) = ap lines_of (append_assoc (line_of event) (codes "\n") (text_of given)) ∙ line_in_front (line_of event) (text_of given) line.0 in
+prefix_lines : (event : Event) (given : List Event) → IsLine (line_of event) → AreLines (lines_of (text_of given)) given → AreLines (lines_of (text_of (event ∷ given))) (event ∷ given)
+prefix_lines event given line others =
+    let parts : lines_of (text_of (event ∷ given)) ≡ line_of event ∷ lines_of (text_of given) = ap lines_of (append_assoc (line_of event) (codes "\n") (text_of given)) ∙ line_prefix (line_of event) (text_of given) line.0 in
     rw parts (inr (line.1, others))
 
 later_lines : (sites : ℕ) (given : List Event) → AreLater sites given → AreLines (lines_of (text_of given)) given
 later_lines sites [] h = tt
-later_lines sites (event ∷ given) h = front_lines event given (line_is event h.0.fits.fields h.0.text) (later_lines sites given h.1)
+later_lines sites (event ∷ given) h = prefix_lines event given (line_is event h.0.fits.fields h.0.text) (later_lines sites given h.1)
 
 all_lines : (given : List Event) → IsValid given → AreLines (lines_of (text_of given)) given
 all_lines [] h = tt
-all_lines (events.Sites n ∷ given) h = front_lines (events.Sites n) given (line_is (events.Sites n) h.0 tt) (later_lines n given h.1)
+all_lines (events.Sites n ∷ given) h = prefix_lines (events.Sites n) given (line_is (events.Sites n) h.0 tt) (later_lines n given h.1)
 all_lines (events.Ask origin text ∷ given) h = absurd h
 all_lines (events.Deliver k ∷ given) h = absurd h
 all_lines (events.Lose k ∷ given) h = absurd h

@@ -1,4 +1,4 @@
--- The loop over events: what was found, in front of what is still read.
+-- The loop over events: those found, then those still to be read.
 use Rattle.std.proofs.Common.{◌≡◌, ℕ, ◌+◌, ◌<◌, Bool, true, false, List, [], ◌∷◌, ◌++◌, length, Option, Some, None, Result, Ok, Err, refl, sym, ap, ◌∙◌, append_assoc, arith}
 use Rattle.std.proofs.lemmas.List.{append-nil}
 use Rattle.rs_sched.specs.declared.event.Event.{Event}
@@ -10,7 +10,7 @@ use Rattle.rs_sched.specs.Next.{Left, event_by, none_by, next_in, next_of, Fails
 use Rattle.rs_sched.specs.Reader.{lines_at, line_at, further, sites_after, with_events}
 use Rattle.rs_sched.specs.Reading.{FailsSchedule}
 
--- the events of what is left
+-- the events of the lines still to be read
 abbrev pub events_left : Left → Result (List Event) SchedFault
 events_left left = lines_at left.sites left.before left.lines
 
@@ -31,23 +31,23 @@ no_event (Some n) before event new e =
     let same = (same_ok (None, record { sites = Some n; before = before; lines = [] }) (Some event, new) e).0 in
     cc
 
--- what is left behind a line that gave this event
-abbrev behind : Left → Event → Left
-behind left event = record { sites = sites_after left.sites event; before = left.before; lines = left.lines }
+-- the state after a line with this event
+abbrev suffix : Left → Event → Left
+suffix left event = record { sites = sites_after left.sites event; before = left.before; lines = left.lines }
 
--- a line was read and gave this event
+-- a line was read as this event
 record IsRead (left : Left) (read : Result Event Why) (event : Event) (new : Left) : Type 0 where
   event_is : read ≡ Ok event
-  new_is : new ≡ behind left event
+  new_is : new ≡ suffix left event
 
 event_by_is : (left : Left) (read : Result Event Why) (event : Event) (new : Left) → event_by left read ≡ Ok (Some event, new) → IsRead left read event new
 event_by_is left (Ok found) event new e =
-    let same = same_ok (Some found, behind left found) (Some event, new) e in
+    let same = same_ok (Some found, suffix left found) (Some event, new) e in
     let given : found ≡ event = cc in
-    record { event_is = ap (λ (x : Event). Ok x) given; new_is = sym same.1 ∙ ap (behind left) given }
+    record { event_is = ap (λ (x : Event). Ok x) given; new_is = sym same.1 ∙ ap (suffix left) given }
 event_by_is left (Err why) event new e = absurd cc
 
--- lines give this event, and then those of what is left
+-- the lines have this event, then those of the lines still to be read
 record GoesOn (sites : Option ℕ) (before : ℕ) (lines : List (List ℕ)) (event : Event) (new : Left) : Type 0 where
   pub events : lines_at sites before lines ≡ with_events (event ∷ []) (events_left new)
   pub smaller : length new.lines < length lines
@@ -70,7 +70,7 @@ event_next sites before (line ∷ lines) event new e = by_comment (is_comment (w
 
 -- ---- no event is read
 
--- no line gives an event
+-- no line has an event
 none_next : (sites : Option ℕ) (before : ℕ) (lines : List (List ℕ)) (new : Left) → next_in sites before lines ≡ Ok (None, new) → lines_at sites before lines ≡ Ok []
 none_next None before [] new e = absurd cc
 none_next (Some n) before [] new e = refl
@@ -78,7 +78,7 @@ none_next sites before (line ∷ lines) new e = by_comment (is_comment (without_
   where
     no_none : (left : Left) (read : Result Event Why) → event_by left read ≡ Ok (None, new) → ⊥
     no_none left (Ok found) e =
-        let same = (same_ok (Some found, behind left found) (None, new) e).0 in
+        let same = (same_ok (Some found, suffix left found) (None, new) e).0 in
         cc
     no_none left (Err why) e = cc
 
@@ -112,7 +112,7 @@ bad_next sites before (line ∷ lines) at why e = by_comment (is_comment (withou
         let bad = bad_line left (line_at sites (without_returns line)) (λ event. lines_at (sites_after sites event) (before + 1) lines) (sym next ∙ e) in
         rw c bad
 
--- ---- turns of the loop
+-- ---- iterations of the loop
 
 pub event_smaller : (old new : Left) (event : Event) → next_of old ≡ Ok (Some event, new) → length new.lines < length old.lines
 unfolding next_of

@@ -1,4 +1,4 @@
--- All lines: what is read is a schedule, what is a schedule is read, and a refusal says the first bad line and its cause.
+-- All lines: they are read exactly if they are a schedule, and a fault reports the first bad line and its first cause.
 use Rattle.std.proofs.Common.{◌≡◌, ℕ, ◌+◌, ◌≤◌, Bool, true, false, cond, not, eqb, ltb, List, [], ◌∷◌, ◌++◌, length, Option, Some, None, Result, Ok, Err, IsTrue, refl, sym, ap, subst, inl, inr, arith}
 use Rattle.std.specs.List.{list_all}
 use Rattle.std.proofs.lemmas.Bool.{ltb-true, ltb-false, and_from}
@@ -9,12 +9,12 @@ use Rattle.rs_sched.specs.declared.fault.Why.TheVariants as whys
 use Rattle.rs_sched.specs.declared.fault.SchedFault.{SchedFault}
 use Rattle.rs_sched.specs.declared.fault.SchedFault.TheVariants as faults
 use Rattle.rs_sched.specs.Lines.{onto_first, lines_of, without_returns, is_comment, is_before_feed}
-use Rattle.rs_sched.specs.Spelling.{line_of, IsLine}
+use Rattle.rs_sched.specs.Encoding.{line_of, IsLine}
 use Rattle.rs_sched.specs.Schedule.{IsLater, AreLater, AreLines, IsValid, IsSchedule}
 use Rattle.rs_sched.specs.Faults.{IsRightLine, IsCause, sites_of, IsBegun, IsFault}
 use Rattle.rs_sched.specs.Reader.{lines_at, line_at, at_end, further, sites_after, with_events, events_of}
 use Rattle.std.specs.Prelude.{IfOk, IfErr}
-use Rattle.rs_sched.specs.Reading.{GivesSchedule, FailsSchedule, TellsFault}
+use Rattle.rs_sched.specs.Reading.{GivesSchedule, FailsSchedule, ReportsFault}
 use Rattle.rs_sched.proofs.LineLaws.{line_of_part}
 use Rattle.rs_sched.proofs.CauseLaws.{later_is, later_right, later_cause, later_wrong, first_is, first_right, first_cause, first_wrong}
 
@@ -43,19 +43,19 @@ pub lines_feedless : (bytes : List ℕ) → Feedless (lines_of bytes)
 lines_feedless [] = tt
 lines_feedless (b ∷ bytes) = feedless_by b bytes (eqb b 10) refl (lines_feedless bytes)
 
--- ---- behind a state
+-- ---- after a state
 
 -- the number of sites that are known is at most 16
 abbrev pub Few : Option ℕ → Type 0
 Few None = Unit {0}
 Few (Some sites) = sites ≤ 16
 
--- the events of a front of what may come behind this state
+-- the events are a prefix of those valid after this state
 abbrev pub Continues : Option ℕ → List Event → Type 0
 Continues None given = IsBegun given
 Continues (Some sites) given = AreLater sites given
 
--- all that may come
+-- the events are valid after this state, and complete
 abbrev pub Completes : Option ℕ → List Event → Type 0
 Completes None given = IsValid given
 Completes (Some sites) given = AreLater sites given
@@ -64,7 +64,7 @@ abbrev pub known : Option ℕ → List Event → Option ℕ
 known None given = sites_of given
 known (Some sites) given = Some sites
 
--- an event was read behind this state
+-- an event was read after this state
 pub record Follows (sites : Option ℕ) (line : List ℕ) (event : Event) : Type 0 where
   pub written : line ≡ line_of event
   pub few : Few (sites_after sites event)
@@ -205,31 +205,31 @@ pub events_again : (bytes : List ℕ) (given : List Event) → IsSchedule bytes 
 unfolding events_of
 events_again bytes given h = rw (not_ltb 16777216 (length bytes) h.short) (lines_again (lines_of bytes) None 0 given h.valid h.lines)
 
--- Bytes are a schedule in one way.
+-- Bytes are a schedule of at most one list.
 pub schedule_once : (bytes : List ℕ) (given others : List Event) → IsSchedule bytes given → IsSchedule bytes others → given ≡ others
 schedule_once bytes given others h k = let e = events_again bytes given h in let f = events_again bytes others k in cc
 
--- ---- what a refusal says
+-- ---- what a fault reports
 
 -- one of the lines is bad
 record BadAmong (sites : Option ℕ) (before : ℕ) (lines : List (List ℕ)) (at : ℕ) (why : Why) : Type 0 where
-  front : List (List ℕ)
+  prefix : List (List ℕ)
   line : List ℕ
-  behind : List (List ℕ)
-  parted : lines ≡ front ++ line ∷ behind
-  place : at ≡ before + length front + 1
+  suffix : List (List ℕ)
+  separated : lines ≡ prefix ++ line ∷ suffix
+  numbered : at ≡ before + length prefix + 1
   given : List Event
   begun : Continues sites given
-  written : AreLines front given
+  written : AreLines prefix given
   no_comment : is_comment (without_returns line) ≡ false
   not_right : ¬ IsRightLine (known sites given) (without_returns line)
   cause : IsCause (known sites given) (without_returns line) why
 
--- no event stands in them, and one was to come
+-- all lines are comments, and an event was required
 record NoneAmong (sites : Option ℕ) (before : ℕ) (lines : List (List ℕ)) (at : ℕ) (why : Why) : Type 0 where
   unknown : sites ≡ None
   comments : AreLines lines []
-  place : at ≡ before + length lines + 1
+  numbered : at ≡ before + length lines + 1
   cause : why ≡ whys.NoSites
 
 data Failed (sites : Option ℕ) (before : ℕ) (lines : List (List ℕ)) (fault : SchedFault) : Type 0 where
@@ -239,21 +239,21 @@ data Failed (sites : Option ℕ) (before : ℕ) (lines : List (List ℕ)) (fault
 end_failed : (sites : Option ℕ) (before : ℕ) (fault : SchedFault) → at_end sites before ≡ Err fault → Failed sites before [] fault
 end_failed (Some sites) before fault e = absurd cc
 end_failed None before fault e =
-    let made : NoneAmong None before [] (before + 1) whys.NoSites = record { unknown = refl; comments = tt; place = omega arith; cause = refl } in
+    let made : NoneAmong None before [] (before + 1) whys.NoSites = record { unknown = refl; comments = tt; numbered = omega arith; cause = refl } in
     let is : fault ≡ faults.BadLine (before + 1) whys.NoSites = cc in
     none (before + 1) whys.NoSites is made
 
--- a comment stands in front
+-- a comment, then lines that fail
 comment_failed : (sites : Option ℕ) (before : ℕ) (line : List ℕ) (lines : List (List ℕ)) (fault : SchedFault) → IsTrue (is_comment (without_returns line)) → Failed sites (before + 1) lines fault → Failed sites before (line ∷ lines) fault
 comment_failed sites before line lines fault comment (bad at why is h) = bad at why is (record {
-  front = line ∷ h.front;
+  prefix = line ∷ h.prefix;
   line = h.line;
-  behind = h.behind;
-  parted = ap (λ (ls : List (List ℕ)). line ∷ ls) h.parted;
-  place = omega (arith, h.place);
+  suffix = h.suffix;
+  separated = ap (λ (ls : List (List ℕ)). line ∷ ls) h.separated;
+  numbered = omega (arith, h.numbered);
   given = h.given;
   begun = h.begun;
-  written = comment_more line h.front h.given comment h.written;
+  written = comment_more line h.prefix h.given comment h.written;
   no_comment = h.no_comment;
   not_right = h.not_right;
   cause = h.cause;
@@ -261,7 +261,7 @@ comment_failed sites before line lines fault comment (bad at why is h) = bad at 
 comment_failed sites before line lines fault comment (none at why is h) = none at why is (record {
   unknown = h.unknown;
   comments = (comment, h.comments);
-  place = omega (arith, h.place);
+  numbered = omega (arith, h.numbered);
   cause = h.cause;
 })
 
@@ -269,15 +269,15 @@ known_none : (sites : Option ℕ) (line : List ℕ) (event : Event) → Few site
 known_none None line event few right e unknown = let first = first_is line event e in let same = ap (sites_after None) first.is in cc
 known_none (Some sites) line event few right e unknown = cc
 
--- an event stands in front
+-- an event, then lines that fail
 event_failed : (sites : Option ℕ) (before : ℕ) (line : List ℕ) (lines : List (List ℕ)) (event : Event) (fault : SchedFault) → (sites_after sites event ≡ None → ⊥) → Follows sites (without_returns line) event
     → Failed (sites_after sites event) (before + 1) lines fault → Failed sites before (line ∷ lines) fault
 event_failed sites before line lines event fault some follows (bad at why is h) = bad at why is (record {
-  front = line ∷ h.front;
+  prefix = line ∷ h.prefix;
   line = h.line;
-  behind = h.behind;
-  parted = ap (λ (ls : List (List ℕ)). line ∷ ls) h.parted;
-  place = omega (arith, h.place);
+  suffix = h.suffix;
+  separated = ap (λ (ls : List (List ℕ)). line ∷ ls) h.separated;
+  numbered = omega (arith, h.numbered);
   given = event ∷ h.given;
   begun = follows.begins h.given h.begun;
   written = inr (follows.written, h.written);
@@ -313,11 +313,11 @@ lines_failed (line ∷ lines) sites before fault few feeds e = by_comment (is_co
     by_line (Err why) r c e others =
         let is : fault ≡ faults.BadLine (before + 1) why = cc in
         let made : BadAmong sites before (line ∷ lines) (before + 1) why = record {
-          front = [];
+          prefix = [];
           line = line;
-          behind = lines;
-          parted = refl;
-          place = omega arith;
+          suffix = lines;
+          separated = refl;
+          numbered = omega arith;
           given = [];
           begun = none_begun sites;
           written = tt;
@@ -348,11 +348,11 @@ fault_of bytes at why short (bad k w is h) =
     let also : w ≡ why = cc in
     let made : IsFault bytes k w = inr (inl (record {
       short = short;
-      before = h.front;
+      before = h.prefix;
       line = h.line;
-      behind = h.behind;
-      parted = h.parted;
-      place = omega (arith, h.place);
+      suffix = h.suffix;
+      separated = h.separated;
+      numbered = omega (arith, h.numbered);
       given = h.given;
       begun = h.begun;
       given_right = h.written;
@@ -364,10 +364,10 @@ fault_of bytes at why short (bad k w is h) =
 fault_of bytes at why short (none k w is h) =
     let same : k ≡ at = cc in
     let also : w ≡ why = cc in
-    let made : IsFault bytes k w = inr (inr (record { short = short; comments = h.comments; place = omega (arith, h.place); cause = h.cause })) in
+    let made : IsFault bytes k w = inr (inr (record { short = short; comments = h.comments; numbered = omega (arith, h.numbered); cause = h.cause })) in
     subst (λ (n : ℕ). IsFault bytes n why) same (subst (IsFault bytes k) also made)
 
--- A refusal says the first bad line, and the first cause that fits it.
+-- A fault reports the first bad line, and the first cause that fits it.
 pub fault_is : (bytes : List ℕ) (at : ℕ) (why : Why) → events_of bytes ≡ Err (faults.BadLine at why) → IsFault bytes at why
 unfolding events_of
 fault_is bytes at why e = by_length (ltb 16777216 (length bytes)) refl e
@@ -376,10 +376,10 @@ fault_is bytes at why e = by_length (ltb 16777216 (length bytes)) refl e
     by_length true l e =
         let same : 0 ≡ at = cc in
         let also : whys.TooLong ≡ why = cc in
-        inl (record { long = ltb-true _ _ l; place = sym same; cause = sym also })
+        inl (record { long = ltb-true _ _ l; numbered = sym same; cause = sym also })
     by_length false l e = fault_of bytes at why (ltb-false 16777216 (length bytes) l) (lines_failed (lines_of bytes) None 0 (faults.BadLine at why) tt (lines_feedless bytes) e)
 
--- ---- the clauses of the call
+-- ---- the clauses of `parse_schedule`
 
 pub parse_found : (bytes : List ℕ) (result : Result (List Event) SchedFault) → GivesSchedule result (events_of bytes) → IfOk result (λ given. IsSchedule bytes given)
 parse_found bytes (Ok given) e = events_are bytes given e
@@ -388,10 +388,10 @@ parse_found bytes (Err fault) e = tt
 pub parse_only : (bytes : List ℕ) (result : Result (List Event) SchedFault) → GivesSchedule result (events_of bytes) → (given : List Event) → IsSchedule bytes given → GivesSchedule result (Ok given)
 parse_only bytes result e given h = subst (GivesSchedule result) (events_again bytes given h) e
 
-tells : (bytes : List ℕ) (fault : SchedFault) → FailsSchedule fault (events_of bytes) → TellsFault bytes fault
-tells bytes (faults.BadLine at why) e = fault_is bytes at why e
-tells bytes faults.NoMemory e = tt
+reports : (bytes : List ℕ) (fault : SchedFault) → FailsSchedule fault (events_of bytes) → ReportsFault bytes fault
+reports bytes (faults.BadLine at why) e = fault_is bytes at why e
+reports bytes faults.NoMemory e = tt
 
-pub parse_fault : (bytes : List ℕ) (result : Result (List Event) SchedFault) → GivesSchedule result (events_of bytes) → IfErr result (λ fault. TellsFault bytes fault)
+pub parse_fault : (bytes : List ℕ) (result : Result (List Event) SchedFault) → GivesSchedule result (events_of bytes) → IfErr result (λ fault. ReportsFault bytes fault)
 parse_fault bytes (Ok given) e = tt
-parse_fault bytes (Err fault) e = tells bytes fault e
+parse_fault bytes (Err fault) e = reports bytes fault e

@@ -1,4 +1,4 @@
--- Which line is the first bad one, and why.
+-- The fault of bytes that aren't a schedule: the first bad line, and the first cause that fits it.
 use Rattle.std.specs.Prelude.{◌≡◌, ℕ, ◌+◌, ◌<◌, ◌≤◌, List, [], ◌∷◌, ◌++◌, length, Option, Some, None, IsTrue, codes, ◌⊎◌}
 use Rattle.rs_base.specs.Txt.{is_utf8}
 use Rattle.rs_base.specs.declared.txn.Origin.{Origin}
@@ -9,7 +9,7 @@ use Rattle.rs_sched.specs.declared.fault.Why.TheVariants as whys
 use Rattle.rs_sched.specs.declared.word.Word.{Word}
 use Rattle.rs_sched.specs.declared.word.Word.TheVariants as words
 use Rattle.rs_sched.specs.Lines.{lines_of, without_returns, is_comment}
-use Rattle.rs_sched.specs.Spelling.{spelling, line_of, IsSiteNo}
+use Rattle.rs_sched.specs.Encoding.{encoding, line_of, IsSiteNo}
 use Rattle.rs_sched.specs.Schedule.{FieldsFit, IsLater, AreLines, IsValid}
 
 abbrev pub text_of : Why → List ℕ
@@ -22,24 +22,24 @@ text_of whys.TooLong = codes "too long"
 
 -- ---- a line
 
--- the line's first field, up to the first space, is this word
+-- the line's first field, up to the first space, is this keyword
 abbrev pub BeginsWith : Word → List ℕ → Type 0
-BeginsWith word line = (line ≡ spelling word) ⊎ ((rest : List ℕ) × (line ≡ spelling word ++ codes " " ++ rest))
+BeginsWith word line = (line ≡ encoding word) ⊎ ((rest : List ℕ) × (line ≡ encoding word ++ codes " " ++ rest))
 
--- the right sites line of so many sites
+-- a valid sites line
 abbrev pub IsSitesLine : List ℕ → Type 0
 IsSitesLine line = (n : ℕ) × IsSiteNo n × (line ≡ line_of (events.Sites n))
 
--- the line is right where there are so many sites, or where none are known yet
+-- the line is valid after a sites line of this number of sites, or as the first event's line
 abbrev pub IsRightLine : Option ℕ → List ℕ → Type 0
 IsRightLine None line = IsSitesLine line
 IsRightLine (Some sites) line = (event : Event) × IsLater sites event × (line ≡ line_of event)
 
--- the line has the right fields of its word, whatever the text of an ask
+-- the line has valid fields for its keyword, except the text of an ask, which may be any
 abbrev pub HasRightFields : ℕ → List ℕ → Type 0
 HasRightFields sites line = (event : Event) × FieldsFit sites event × (line ≡ line_of event)
 
--- an ask whose other fields are right
+-- the line is an ask with this text, whose other fields are valid
 pub record IsAskOf (sites : ℕ) (line text : List ℕ) : Type 0 where
   pub origin : Origin
   pub fits : FieldsFit sites (events.Ask origin text)
@@ -76,24 +76,24 @@ pub record IsCause (sites : Option ℕ) (line : List ℕ) (why : Why) : Type 0 w
 
 -- ---- the bytes
 
--- how many sites these events have, where they have any
+-- the number of sites, if the events begin with a sites event
 abbrev pub sites_of : List Event → Option ℕ
 sites_of (events.Sites n ∷ others) = Some n
 sites_of _ = None
 
--- the events of a front of a schedule
+-- the events are a prefix of a valid list
 abbrev pub IsBegun : List Event → Type 0
 IsBegun [] = Unit {0}
 IsBegun (event ∷ others) = IsValid (event ∷ others)
 
--- The first bad line: those before give events, and this one is no comment and isn't right behind them.
+-- The first bad line: the lines before it are those of some events, and it is no comment and isn't valid after them.
 pub record IsBadLine (bytes : List ℕ) (at : ℕ) (why : Why) : Type 0 where
   pub short : length bytes ≤ 16777216
   pub before : List (List ℕ)
   pub line : List ℕ
-  pub behind : List (List ℕ)
-  pub parted : lines_of bytes ≡ before ++ line ∷ behind
-  pub place : at ≡ length before + 1
+  pub suffix : List (List ℕ)
+  pub separated : lines_of bytes ≡ before ++ line ∷ suffix
+  pub numbered : at ≡ length before + 1
   pub given : List Event
   pub begun : IsBegun given
   pub given_right : AreLines before given
@@ -101,19 +101,19 @@ pub record IsBadLine (bytes : List ℕ) (at : ℕ) (why : Why) : Type 0 where
   pub not_right : ¬ IsRightLine (sites_of given) (without_returns line)
   pub cause : IsCause (sites_of given) (without_returns line) why
 
--- No line gives an event.
+-- All lines are comments.
 pub record HasNoLine (bytes : List ℕ) (at : ℕ) (why : Why) : Type 0 where
   pub short : length bytes ≤ 16777216
   pub comments : AreLines (lines_of bytes) []
-  pub place : at ≡ length (lines_of bytes) + 1
+  pub numbered : at ≡ length (lines_of bytes) + 1
   pub cause : why ≡ whys.NoSites
 
 -- There are too many bytes.
 pub record HasTooMany (bytes : List ℕ) (at : ℕ) (why : Why) : Type 0 where
   pub long : 16777216 < length bytes
-  pub place : at ≡ 0
+  pub numbered : at ≡ 0
   pub cause : why ≡ whys.TooLong
 
--- what a refusal says of the bytes
+-- the fault of the bytes is at this line, for this cause
 abbrev pub IsFault : List ℕ → ℕ → Why → Type 0
 IsFault bytes at why = HasTooMany bytes at why ⊎ IsBadLine bytes at why ⊎ HasNoLine bytes at why

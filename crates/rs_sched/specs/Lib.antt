@@ -6,4 +6,4 @@ pub mod Numbers
 pub mod Reader
 pub mod Reading
 pub mod Schedule
-pub mod Spelling
+pub mod Encoding

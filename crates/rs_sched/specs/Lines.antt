@@ -1,8 +1,8 @@
--- The lines of a text. Each ends with a line feed, which the last may lack.
+-- The lines of a text. Each ends with a line feed, which may be missing after the last.
 use Rattle.std.specs.Prelude.{ℕ, Bool, List, [], ◌∷◌, not, ◌==◌, if◌then◌else◌}
 use Rattle.std.specs.List.{list_all}
 
--- the byte in front of the first line
+-- the byte prepended to the first line
 abbrev pub onto_first : ℕ → List (List ℕ) → List (List ℕ)
 onto_first b [] = (b ∷ []) ∷ []
 onto_first b (line ∷ lines) = (b ∷ line) ∷ lines
@@ -19,7 +19,7 @@ abbrev pub without_returns : List ℕ → List ℕ
 without_returns [] = []
 without_returns (b ∷ line) = if list_all is_return (b ∷ line) then [] else b ∷ without_returns line
 
--- an empty line, or one that begins with `#`: it is counted, and is no event
+-- a comment is an empty line, or one that begins with `#`: it has a line number, and is no event
 abbrev pub is_comment : List ℕ → Bool
 is_comment [] = Bool.true
 is_comment (b ∷ line) = b == 35

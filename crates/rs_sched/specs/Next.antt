@@ -1,4 +1,4 @@
--- Reading the next event of a schedule from what is left of it.
+-- Reading the next event of a schedule.
 use Rattle.std.specs.Prelude.{◌≡◌, ℕ, ◌+◌, Bool, true, false, List, [], ◌∷◌, drop, Option, Some, None, Result, Ok, Err, if◌then◌else◌}
 use Rattle.rs_sched.specs.declared.event.Event.{Event}
 use Rattle.rs_sched.specs.declared.fault.Why.{Why}
@@ -8,7 +8,7 @@ use Rattle.rs_sched.specs.declared.fault.SchedFault.TheVariants as faults
 use Rattle.rs_sched.specs.Lines.{lines_of, without_returns, is_comment}
 use Rattle.rs_sched.specs.Reader.{line_at, sites_after}
 
--- how many sites there are, where that is known, how many lines were read, and the lines that weren't
+-- the state of a reader: the number of sites once it is known, the number of lines read, and the lines still to be read
 pub record Left : Type 0 where
   pub sites : Option ℕ
   pub before : ℕ
@@ -21,14 +21,14 @@ abbrev pub is_none : List (List ℕ) → Bool
 is_none [] = true
 is_none (line ∷ lines) = false
 
--- the first line, where there is one
+-- the first line, or an empty one if there is none
 abbrev pub first_of : List (List ℕ) → List ℕ
 first_of [] = []
 first_of (line ∷ lines) = line
 
--- the first line was read
-abbrev pub behind_first : Left → Left
-behind_first left = record { sites = left.sites; before = left.before + 1; lines = drop 1 left.lines }
+-- the state after the first line
+abbrev pub after_first : Left → Left
+after_first left = record { sites = left.sites; before = left.before + 1; lines = drop 1 left.lines }
 
 -- the event of the line that was just read
 abbrev pub event_by : Left → Result Event Why → Result (Option Event × Left) SchedFault
@@ -46,18 +46,18 @@ next_in sites before (line ∷ lines) =
     if is_comment (without_returns line) then next_in sites (before + 1) lines
     else event_by (record { sites = sites; before = before + 1; lines = lines }) (line_at sites (without_returns line))
 
--- The next event and what is left behind it, or that there is none, or which line is bad.
+-- The next event and the state after it, or the end, or the bad line.
 unfoldable pub next_of : Left → Result (Option Event × Left) SchedFault
 next_of left = next_in left.sites left.before left.lines
 
--- what is left behind the first line that is no comment
+-- the state after the first line that is no comment
 abbrev pub passed_in : Option ℕ → ℕ → List (List ℕ) → Left
 passed_in sites before [] = record { sites = sites; before = before; lines = [] }
 passed_in sites before (line ∷ lines) =
     if is_comment (without_returns line) then passed_in sites (before + 1) lines
     else record { sites = sites; before = before + 1; lines = lines }
 
--- What is left where the next line gave no event: it was passed over.
+-- The state after the next line that is no comment, which is skipped if it is bad.
 unfoldable pub passed_of : Left → Left
 passed_of left = passed_in left.sites left.before left.lines
 
@@ -65,7 +65,7 @@ abbrev pub FailsNext : SchedFault → Result (Option Event × Left) SchedFault �
 FailsNext (faults.BadLine line why) read = read ≡ Err (faults.BadLine line why)
 FailsNext faults.NoMemory read = Unit {0}
 
--- A function gives what reading gives. Want of memory says nothing of what was read.
+-- A function's result and the state after it are those of the reader. On out of memory nothing is claimed of the result.
 abbrev pub GivesNext : Result (Option Event) SchedFault → Result (Option Event × Left) SchedFault → Left → Type 0
 GivesNext (Ok found) read new = read ≡ Ok (found, new)
 GivesNext (Err fault) read new = FailsNext fault read

@@ -1,4 +1,4 @@
--- Reading numbers: decimal ones, and bytes in base 16.
+-- Reading decimal numbers, and bytes in hexadecimal.
 use Rattle.std.specs.Prelude.{ℕ, ◌+◌, ◌-◌, ◌*◌, ◌^◌, Bool, true, false, ◌&&◌, not, ◌==◌, nat_le, nat_lt, List, [], ◌∷◌, ◌++◌, length, Option, Some, None, codes, bytes_eq, if◌then◌else◌}
 use Rattle.std.specs.List.{list_all, fold}
 use Rattle.rs_base.specs.Reading.{◌>>=◌}
@@ -27,7 +27,7 @@ number_of digits = if is_numeral digits && nat_lt (digits_value digits) (2 ^ 64)
 abbrev pub hex_value : ℕ → Option ℕ
 hex_value b = if nat_le 48 b && nat_le b 57 then Some (b - 48) else (if nat_le 97 b && nat_le b 102 then Some (b - 87) else None)
 
--- the byte of two digits
+-- the byte of two hexadecimal digits
 abbrev pub hex_pair : ℕ → ℕ → Option ℕ
 hex_pair a b = hex_value a >>= λ high. hex_value b >>= λ low. Some (16 * high + low)
 
@@ -41,6 +41,6 @@ unfoldable pub noise_of : List ℕ → Option (List ℕ)
 noise_of [] = None
 noise_of (b ∷ digits) = if bytes_eq (b ∷ digits) (codes "-") then Some [] else bytes_of_hex (b ∷ digits)
 
--- bytes before those that are still read
+-- bytes prepended to those still to be read
 abbrev pub with_bytes : List ℕ → Option (List ℕ) → Option (List ℕ)
-with_bytes front read = read >>= λ bytes. Some (front ++ bytes)
+with_bytes prefix read = read >>= λ bytes. Some (prefix ++ bytes)

@@ -1,4 +1,4 @@
--- Reading a line from the left, and the lines one after the other.
+-- The reader of schedules: of a line, field by field, and of all lines.
 use Rattle.std.specs.Prelude.{ℕ, zero, suc, ◌+◌, Bool, true, false, ◌&&◌, not, ◌==◌, nat_le, nat_lt, List, [], ◌∷◌, ◌++◌, length, take, drop, Option, Some, None, Result, Ok, Err, codes, bytes_eq, if◌then◌else◌}
 use Rattle.std.specs.List.{prefix_len}
 pub use Rattle.std.specs.Str.{is_utf8}
@@ -45,7 +45,7 @@ is_field_byte b = not (b == 32)
 abbrev pub field_len : List ℕ → ℕ
 field_len bytes = prefix_len is_field_byte bytes
 
--- what stands behind a space
+-- the bytes after a space
 abbrev pub space_at : List ℕ → Option (List ℕ)
 space_at [] = None
 space_at (b ∷ bytes) = if b == 32 then Some bytes else None
@@ -54,12 +54,12 @@ abbrev pub is_end : List ℕ → Bool
 is_end [] = true
 is_end (b ∷ bytes) = false
 
--- nothing stands there
+-- the end of the line
 abbrev pub end_at : List ℕ → Option (List ℕ)
 end_at [] = Some []
 end_at (b ∷ bytes) = None
 
--- a space and a number within these limits
+-- a space and a number from `low` to `high`
 unfoldable pub number_at : ℕ → ℕ → List ℕ → Option (ℕ × List ℕ)
 number_at low high bytes = do
   field ← space_at bytes
@@ -82,13 +82,14 @@ nth n [] = 0
 nth zero (x ∷ xs) = x
 nth (suc n) (x ∷ xs) = nth n xs
 
--- numbers within these limits, and nothing behind them
+-- numbers within these limits, and then the end
 abbrev pub numbers_at : List (ℕ × ℕ) → (List ℕ → Event) → List ℕ → Option Event
 numbers_at [] make bytes = end_at bytes >>= λ end. Some (make [])
 numbers_at (limit ∷ limits) make bytes = number_at limit.0 limit.1 bytes >>= λ x. numbers_at limits (λ others. make (x.0 ∷ others)) x.1
 
--- ---- events, behind their words
+-- ---- events, after their keywords
 
+-- 2 ^ 64 - 1
 abbrev pub most : ℕ
 most = 18446744073709551615
 
@@ -156,7 +157,7 @@ event_of sites (Some words.Restart) rest = of_fields (restart_at sites rest)
 event_of sites (Some words.Settle) rest = of_fields (settle_at rest)
 event_of sites (Some words.Noise) rest = of_fields (noise_at sites rest)
 
--- a line behind the sites line
+-- a line after the sites line
 unfoldable pub later_line : ℕ → List ℕ → Result Event Why
 later_line sites line = event_of sites (word_of (take (field_len line) line)) (drop (field_len line) line)
 
@@ -174,7 +175,7 @@ line_at (Some sites) line = later_line sites line
 
 -- ---- the lines
 
--- how many sites there are behind this event
+-- the number of sites after this event
 abbrev pub sites_after : Option ℕ → Event → Option ℕ
 sites_after (Some sites) event = Some sites
 sites_after None (events.Sites n) = Some n
@@ -188,22 +189,22 @@ sites_after None (events.Restart site) = None
 sites_after None (events.Settle count) = None
 sites_after None (events.Noise site bytes) = None
 
--- events before those that are still read
+-- events prepended to those still to be read
 abbrev pub with_events : List Event → Result (List Event) SchedFault → Result (List Event) SchedFault
-with_events front (Ok others) = Ok (front ++ others)
-with_events front (Err fault) = Err fault
+with_events prefix (Ok others) = Ok (prefix ++ others)
+with_events prefix (Err fault) = Err fault
 
--- the event of line `at`, and those behind it
+-- the event of line `at`, and those of the lines after it
 abbrev pub further : ℕ → Result Event Why → (Event → Result (List Event) SchedFault) → Result (List Event) SchedFault
 further at (Ok event) others = with_events (event ∷ []) (others event)
 further at (Err why) others = Err (faults.BadLine at why)
 
--- what the end is behind so many lines
+-- the end, after this number of lines
 abbrev pub at_end : Option ℕ → ℕ → Result (List Event) SchedFault
 at_end None before = Err (faults.BadLine (before + 1) whys.NoSites)
 at_end (Some sites) before = Ok []
 
--- the events of lines behind so many
+-- the events of lines, after this number of lines
 abbrev pub lines_at : Option ℕ → ℕ → List (List ℕ) → Result (List Event) SchedFault
 lines_at sites before [] = at_end sites before
 lines_at sites before (line ∷ lines) =

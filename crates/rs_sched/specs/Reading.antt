@@ -1,4 +1,4 @@
--- What a function of this crate gives, against what reading gives. Want of memory says nothing of what was read.
+-- A function's result agrees with the reader's. On out of memory nothing is claimed of the result.
 use Rattle.std.specs.Prelude.{◌≡◌, ℕ, List, Result, Ok, Err}
 use Rattle.rs_base.specs.declared.fault.ReadFault.{ReadFault}
 use Rattle.rs_base.specs.declared.fault.ReadFault.TheVariants as reads
@@ -11,7 +11,7 @@ use Rattle.rs_sched.specs.declared.fault.LineFault.{LineFault}
 use Rattle.rs_sched.specs.declared.fault.LineFault.TheVariants as lines
 use Rattle.rs_sched.specs.Faults.{IsFault}
 
--- fields that are not those of the word
+-- a malformed field makes the fields bad
 abbrev pub of_read : ReadFault → LineFault
 of_read reads.Malformed = lines.Bad whys.BadFields
 of_read reads.NoMemory = lines.NoMemory
@@ -32,6 +32,6 @@ abbrev pub GivesSchedule : Result (List Event) SchedFault → Result (List Event
 GivesSchedule (Ok events) read = read ≡ Ok events
 GivesSchedule (Err fault) read = FailsSchedule fault read
 
-abbrev pub TellsFault : List ℕ → SchedFault → Type 0
-TellsFault bytes (faults.BadLine line why) = IsFault bytes line why
-TellsFault bytes faults.NoMemory = Unit {0}
+abbrev pub ReportsFault : List ℕ → SchedFault → Type 0
+ReportsFault bytes (faults.BadLine line why) = IsFault bytes line why
+ReportsFault bytes faults.NoMemory = Unit {0}

@@ -1,9 +1,9 @@
--- Which bytes are a schedule, and of which events.
+-- The bytes that are a schedule, and its events.
 use Rattle.std.specs.Prelude.{◌≡◌, ℕ, ◌≤◌, List, [], ◌∷◌, ◌++◌, length, flat_map, codes, Option, Some, None, IsTrue, ◌⊎◌}
 use Rattle.rs_sched.specs.declared.event.Event.{Event}
 use Rattle.rs_sched.specs.declared.event.Event.TheVariants as events
 use Rattle.rs_sched.specs.Lines.{lines_of, without_returns, is_comment}
-use Rattle.rs_sched.specs.Spelling.{line_of, IsSiteNo, HasFields, HasText}
+use Rattle.rs_sched.specs.Encoding.{line_of, IsSiteNo, HasFields, HasText}
 
 -- the site that an event names
 abbrev pub site_of : Event → Option ℕ
@@ -18,7 +18,7 @@ site_of (events.Restart site) = Some site
 site_of (events.Settle count) = None
 site_of (events.Noise site bytes) = Some site
 
--- the event names no site above this one
+-- the event names no site above `sites`
 abbrev pub IsWithin : ℕ → Option ℕ → Type 0
 IsWithin sites None = Unit {0}
 IsWithin sites (Some site) = site ≤ sites
@@ -35,13 +35,13 @@ IsSites (events.Restart site) = ⊥
 IsSites (events.Settle count) = ⊥
 IsSites (events.Noise site bytes) = ⊥
 
--- an event behind the sites event; of the text of an ask nothing is said
+-- an event after the sites event, except that the text of an ask may be any
 pub record FieldsFit (sites : ℕ) (event : Event) : Type 0 where
   pub fields : HasFields event
   pub sites_once : IsSites event → ⊥
   pub site_right : IsWithin sites (site_of event)
 
--- an event behind the sites event
+-- an event after the sites event
 pub record IsLater (sites : ℕ) (event : Event) : Type 0 where
   pub fits : FieldsFit sites event
   pub text : HasText event
@@ -56,7 +56,7 @@ IsValid [] = ⊥
 IsValid (events.Sites n ∷ others) = IsSiteNo n × AreLater n others
 IsValid (_ ∷ others) = ⊥
 
--- lines with these events in order; comments and empty lines between them, and carriage returns at their ends, don't count
+-- the lines of these events in order; comments between them and carriage returns at line ends are ignored
 abbrev pub AreLines : List (List ℕ) → List Event → Type 0
 AreLines [] [] = Unit {0}
 AreLines [] (event ∷ others) = ⊥
@@ -64,7 +64,7 @@ AreLines (line ∷ lines) [] = IsTrue (is_comment (without_returns line)) × Are
 AreLines (line ∷ lines) (event ∷ others) =
     (IsTrue (is_comment (without_returns line)) × AreLines lines (event ∷ others)) ⊎ ((without_returns line ≡ line_of event) × AreLines lines others)
 
--- The bytes are a schedule of these events.
+-- The bytes are a schedule of these events: at most 2 ^ 24 bytes, with the lines of a valid list.
 pub record IsSchedule (bytes : List ℕ) (given : List Event) : Type 0 where
   pub short : length bytes ≤ 16777216
   pub lines : AreLines (lines_of bytes) given

@@ -1,31 +1,34 @@
-//! What may happen.
+//! The events of a schedule.
 
 use rs_base::{Bytes, Origin, SiteNo};
 use sqlite_items::Items;
 
 /// One event of a schedule.
-#[derive(Debug, Drop)]
+#[derive(Drop)]
 pub enum Event {
-    /// Sites 1 to this one are opened on empty disks.
+    /// Opens sites 1 to this one on empty disks.
     Sites(SiteNo),
-    /// A client asks a site.
+    /// Sends a client's request to a site. In a schedule its text is one line of UTF-8 of at most 8,192 bytes.
     Ask { origin: Origin, text: Bytes },
-    /// The datagram of this number is given to its site, also again.
+    /// Delivers the datagram of this number to its site, also repeatedly.
     Deliver(u64),
-    /// A settle passes over the datagram of this number.
+    /// Loses the datagram of this number: a settle skips it.
     Lose(u64),
-    /// So many ticks of a site, from 1 to 1,000, one after the other.
+    /// Ticks a site this number of times, from 1 to 1,000.
     Tick(SiteNo, u32),
-    /// A site stops. Of its disk's writes since the last sync so many are kept, and so many bytes of the next.
+    /// Stops a site. The second field is the number of its disk's writes since the last sync that are kept, and the third
+    /// the number of bytes that are kept of the next write.
     Stop(SiteNo, u64, u64),
-    /// The disk of a site fails at a call from now, counted from 1, and the site stops there as at a stop.
+    /// Makes a site's disk fail at a later call. The second field is the number of that call, from 1, and the site stops
+    /// there as by `Stop` with the last two fields.
     Arm(SiteNo, u64, u64, u64),
-    /// A stopped site is opened.
+    /// Opens a stopped site.
     Restart(SiteNo),
-    /// Datagrams are delivered, the lowest first: all that come, or so many.
+    /// Delivers datagrams, the lowest number first: until there are none, or at most this number.
     Settle(Option<u64>),
-    /// A site is given bytes.
+    /// Delivers any bytes to a site as a datagram.
     Noise(SiteNo, Bytes),
 }
 
+/// The events of a schedule, in order.
 pub type Events = Items<Event>;

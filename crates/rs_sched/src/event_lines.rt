@@ -1,4 +1,4 @@
-//! The events of a schedule, read one after the other.
+//! Reading of a schedule event by event.
 
 ghost use Rattle.std.specs.Prelude.{◌≡◌, ◌≤◌, ◌^◌, false, OnErr};
 ghost use Rattle.rs_sched.specs.Lines.{without_returns};
@@ -13,7 +13,7 @@ use rs_base::SiteNo;
 use std::alloc::Global;
 use std::marker::Model;
 
-/// A schedule that is read event by event.
+/// A reader of a schedule's events.
 #[derive(Drop)]
 pub struct EventLines<'a> {
     sites: Option<SiteNo>,
@@ -33,7 +33,7 @@ impl<'a> Model for EventLines<'a> {
     ghost invariant = { λ it. it.line + length it.left ≤ 2 ^ 63 };
 }
 
-/// How many sites there are behind this event.
+/// Returns the number of sites after an event.
 fn sites_after(sites: Option<SiteNo>, event: &Event) -> Option<SiteNo>
     ensures { result ≡ sites_after sites event.now }
 {
@@ -55,7 +55,7 @@ fn sites_after(sites: Option<SiteNo>, event: &Event) -> Option<SiteNo>
 }
 
 impl<'a> EventLines<'a> {
-    /// All lines of these bytes, however many there are.
+    /// Returns a reader at the first line of the bytes, of any length.
     pub fn new(bytes: &'a [u8]) -> EventLines<'a>
         ensures { result ≡ spec.all_of bytes.now }
     {
@@ -66,7 +66,7 @@ impl<'a> EventLines<'a> {
         }
     }
 
-    /// How many lines were read: the number of the last event's line, or of the last line where no event came.
+    /// Returns the number of lines read: the line number of the last event, or of the last line once the end was reached.
     pub fn line(&self) -> u64
         ensures value { result ≡ self.now.before }
         ensures within { result ≤ 2 ^ 63 }
@@ -80,11 +80,11 @@ impl<'a> EventLines<'a> {
         self.left.len() == 0
     }
 
-    /// Takes the next line, where there is one, and gives it without the carriage returns at its end.
+    /// Takes the next line, and returns it without the carriage returns at its end.
     fn take_line(&mut self) -> &'a [u8]
         requires { spec.is_none self.now.lines ≡ false }
         ensures line { result.now ≡ without_returns (spec.first_of self.old.lines) }
-        ensures rest { self.new ≡ spec.behind_first self.old }
+        ensures rest { self.new ≡ spec.after_first self.old }
     {
         let line = without_returns(self.left.next());
         self.line += 1;
@@ -108,11 +108,11 @@ impl<'a> EventLines<'a> {
         }
     }
 
-    /// The next event, or `None` at the end of the lines.
+    /// Returns the next event, or `None` at the end of the lines.
     ///
-    /// `BadLine` says the line, from 1, that should give the next event and doesn't, and the first cause that fits it.
-    /// `NoMemory` says nothing of the lines. After an error that line is passed over. The time goes with the bytes of the
-    /// lines that are read.
+    /// Empty lines and comments are skipped. `BadLine` reports the next line that is neither, from 1, if it is no event
+    /// there, and the first cause that fits it. After an error the reader is after that line. On out of memory nothing is
+    /// reported of the line. Linear in the length of the lines that are read.
     #[tactic(auto, unfolding(crate::specs::Next::next_of, crate::specs::Next::passed_of))]
     pub fn next(&mut self, alloc: Global) -> Result<Option<Event>, SchedFault>
         ensures event { spec.GivesNext result (spec.next_of self.old) self.new }

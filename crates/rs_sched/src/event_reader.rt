@@ -1,4 +1,4 @@
-//! The events of lines, read behind their words.
+//! Reading of an event's fields, after its keyword.
 
 ghost use Rattle.rs_base.specs.Reading.{Gives};
 ghost use Rattle.rs_sched.specs.Reader as spec;

@@ -1,4 +1,4 @@
-//! Why bytes are no schedule.
+//! The faults of schedules.
 
 ghost use Rattle.std.specs.Prelude.{◌≡◌};
 ghost use Rattle.rs_sched.specs.Faults.{text_of};
@@ -7,16 +7,16 @@ use rs_base::{NoMemory, ReadFault};
 use std::alloc::AllocError;
 use thiserror::Error;
 
-/// What is wrong with a line.
+/// The cause that makes a line bad.
 #[derive(Clone, Copy, Debug, PartialEq, Eq)]
 pub enum Why {
-    /// The first event line is no right `sites` line, or there is none.
+    /// The first event's line isn't a valid `sites` line, or there is none.
     NoSites,
-    /// A further `sites` line.
+    /// Another `sites` line.
     SitesAgain,
-    /// The line begins with no word of an event.
+    /// The line begins with no event's keyword.
     UnknownWord,
-    /// The fields are not those of the word.
+    /// The fields are not those of the keyword.
     BadFields,
     /// The text of an ask isn't UTF-8.
     NotUtf8,
@@ -24,10 +24,10 @@ pub enum Why {
     TooLong,
 }
 
-/// Why there is no schedule.
+/// The fault of bytes that aren't read as a schedule.
 #[derive(Clone, Copy, Debug, PartialEq, Eq, Error)]
 pub enum SchedFault {
-    /// The first bad line, from 1, and the first cause that fits it; line 0 for too many bytes.
+    /// The first bad line, from 1, and the first cause that fits it; line 0 if there are too many bytes.
     #[error("a line is no event")]
     BadLine { line: u64, why: Why },
     #[error("out of memory")]
@@ -46,7 +46,7 @@ impl From<AllocError> for SchedFault {
 }
 
 impl Why {
-    /// The cause in words.
+    /// Returns the cause in words.
     pub fn text(self) -> &'static [u8]
         ensures { result.now ≡ text_of self }
     {
@@ -61,7 +61,7 @@ impl Why {
     }
 }
 
-/// Why a line gives no event.
+/// The fault of a line that isn't read as an event.
 #[derive(Clone, Copy, Debug, PartialEq, Eq, Error)]
 pub enum LineFault {
     #[error("the line is no event")]

@@ -1,4 +1,4 @@
-//! The fields of a line, read from the left. Each stands behind one space.
+//! A cursor over the fields of a line, each after one space.
 
 ghost use Rattle.std.specs.Prelude.{◌≡◌, ◌≤◌, [], length, IfOk};
 ghost use Rattle.std.specs.List.{prefix_len};
@@ -25,7 +25,7 @@ impl<'a> Model for Fields<'a> {
     ghost view = { λ fields. fields.left.now };
 }
 
-/// How many bytes stand before the first space.
+/// Returns the number of bytes before the first space.
 pub fn field_len(bytes: &[u8]) -> usize
     ensures value { result ≡ spec.field_len bytes.now }
     ensures within { result ≤ length bytes.now }
@@ -40,7 +40,7 @@ impl<'a> Fields<'a> {
         Fields { left: bytes }
     }
 
-    /// Nothing is left.
+    /// Returns whether no byte is left.
     pub fn is_empty(&self) -> bool
         ensures { result ≡ spec.is_end self.now }
     {
@@ -50,7 +50,7 @@ impl<'a> Fields<'a> {
         }
     }
 
-    /// Passes over the space before a field.
+    /// Skips the space before a field.
     pub fn space(&mut self) -> Result<(), ReadFault>
         ensures { Passes (spec.space_at self.old) result self.new }
     {
@@ -64,7 +64,7 @@ impl<'a> Fields<'a> {
         Ok(())
     }
 
-    /// Reads nothing more: the line ends here.
+    /// Checks that the line ends here.
     pub fn end(&mut self) -> Result<(), ReadFault>
         ensures { Passes (spec.end_at self.old) result self.new }
     {
@@ -74,7 +74,7 @@ impl<'a> Fields<'a> {
         }
     }
 
-    /// Reads a number that is within these limits.
+    /// Reads a decimal number from `low` to `high`.
     #[tactic(auto, unfolding(crate::specs::Reader::number_at))]
     pub fn number(&mut self, low: u64, high: u64) -> Result<u64, ReadFault>
         ensures number { Reads (spec.number_at low high self.old) result self.new }
@@ -93,7 +93,7 @@ impl<'a> Fields<'a> {
         }
     }
 
-    /// Reads the number of one of so many sites.
+    /// Reads a site number, from 1 to `sites`.
     pub fn site(&mut self, sites: SiteNo) -> Result<SiteNo, ReadFault>
         ensures { Reads (spec.number_at 1 sites self.old) result self.new }
     {
@@ -117,7 +117,7 @@ impl<'a> Fields<'a> {
         Ok(user)
     }
 
-    /// Reads bytes in base 16.
+    /// Reads bytes in hexadecimal.
     #[tactic(auto, unfolding(crate::specs::Reader::noise_bytes_at))]
     pub fn noise(&mut self, alloc: Global) -> Result<Bytes, ReadFault>
         ensures { Reads (spec.noise_bytes_at self.old) result self.new }
@@ -129,7 +129,7 @@ impl<'a> Fields<'a> {
         Ok(noise)
     }
 
-    /// Reads what names an ask, and the space before its text.
+    /// Reads the origin of an ask, and the space before its text.
     #[tactic(auto, unfolding(crate::specs::Reader::origin_at))]
     pub fn origin(&mut self, sites: SiteNo) -> Result<Origin, ReadFault>
         ensures { Reads (spec.origin_at sites self.old) result self.new }
@@ -147,7 +147,7 @@ impl<'a> Fields<'a> {
         })
     }
 
-    /// What is left of the line.
+    /// Returns the rest of the line.
     pub fn rest(&self) -> &'a [u8]
         ensures { result.now ≡ self.now }
     {

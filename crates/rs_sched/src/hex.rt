@@ -1,4 +1,4 @@
-//! Bytes in base 16.
+//! Bytes in hexadecimal.
 
 ghost use Rattle.std.specs.Prelude.{◌≡◌, ◌<◌, IfSome};
 ghost use Rattle.rs_base.specs.Reading.{Gives};
@@ -47,7 +47,7 @@ fn bytes_of_hex(alloc: Global, digits: &[u8]) -> Result<Bytes, ReadFault>
     }
 }
 
-/// The bytes that these digits stand for, or `-` for none.
+/// Parses bytes in lower-case hexadecimal, or `-` for no bytes. Linear in the field's length.
 #[tactic(auto, unfolding(crate::specs::Numbers::noise_of))]
 pub fn noise_of(alloc: Global, field: &[u8]) -> Result<Bytes, ReadFault>
     ensures { Gives (λ bytes. bytes) result (spec.noise_of field.now) }

@@ -1,19 +1,19 @@
-//! What holds of every schedule. Each function here is a law: its contract says it, and its body does nothing.
+//! Laws of schedules. A law's claim is its contract, and its body is empty.
 
 ghost use Rattle.rs_sched.specs.Laws.{FaultOnce, PrintedIsSchedule, ScheduleHasNoFault, ScheduleOnce};
 
-/// What `print_event` appends for the events of a valid list, one after the other, is a schedule of that list, where it
-/// isn't too long.
+/// Proves that the lines `print_event` appends for the events of a valid list are a schedule of that list, if they are
+/// at most 16,777,216 bytes.
 pub fn printed_is_schedule()
     ensures { PrintedIsSchedule }
 {}
 
-/// Bytes are a schedule of one list of events.
+/// Proves that bytes are a schedule of at most one list of events.
 pub fn schedule_once()
     ensures { ScheduleOnce }
 {}
 
-/// What a refusal says of bytes is one line and one cause, and nothing of a schedule.
+/// Proves that bytes have at most one fault, a line and its cause, and that a schedule has none.
 pub fn fault_once()
     ensures once { FaultOnce }
     ensures none { ScheduleHasNoFault }

@@ -1,4 +1,4 @@
-//! Schedules: what happens to a world of sites, as lines of text.
+//! Schedules: the events of a simulated network of sites, as lines of text.
 #![tactic(auto)]
 
 mod event;

@@ -1,4 +1,4 @@
-//! A line, read whole.
+//! Reading of a whole line.
 
 ghost use Rattle.rs_sched.specs.Reader as spec;
 ghost use Rattle.rs_sched.specs.Reading.{GivesLine};
@@ -11,7 +11,7 @@ use crate::word::{Word, word_of};
 use rs_base::{Bytes, ReadFault, SiteNo, is_utf8};
 use std::alloc::Global;
 
-/// How many bytes the text of an ask has at most.
+/// The most bytes of an ask's text.
 const MOST_TEXT: usize = 8192;
 
 fn ask(alloc: Global, sites: SiteNo, fields: &mut Fields<'_>) -> Result<Event, LineFault>
@@ -75,7 +75,8 @@ fn first_line(line: &[u8]) -> Result<Event, LineFault>
     }
 }
 
-/// The event of a line behind a `sites` line of so many sites, or of the first line.
+/// Reads the event of a line: the first event's if `sites` is `None`, and otherwise a later one's, among that number of
+/// sites.
 pub fn event_of_line(alloc: Global, sites: Option<SiteNo>, line: &[u8]) -> Result<Event, LineFault>
     ensures { GivesLine result (spec.line_at sites line.now) }
 {

@@ -1,4 +1,4 @@
-//! The lines of a text.
+//! Splitting of a text into lines.
 
 ghost use Rattle.std.specs.Prelude.{◌≡◌, ◌≤◌, length, take, drop};
 ghost use Rattle.std.specs.List.{prefix_len};
@@ -6,7 +6,7 @@ ghost use Rattle.rs_sched.specs.Lines as spec;
 
 use std::marker::Model;
 
-/// The bytes that are still to be parted into lines.
+/// A cursor over the lines of a text: the bytes that are still to be split.
 #[derive(Drop)]
 pub struct Lines<'a> {
     left: &'a [u8],
@@ -27,12 +27,12 @@ fn line_len(bytes: &[u8]) -> usize
     bytes.iter().take_while(|byte| **byte != b'\n').count()
 }
 
-fn behind_feed(rest: &[u8]) -> &[u8]
+fn after_feed(rest: &[u8]) -> &[u8]
     ensures { result.now ≡ drop 1 rest.now }
 {
     match rest {
         [] => rest,
-        [_, behind @ ..] => behind,
+        [_, suffix @ ..] => suffix,
     }
 }
 
@@ -49,32 +49,32 @@ impl<'a> Lines<'a> {
         self.left.len()
     }
 
-    /// The next line, where there is one, with the carriage returns at its end.
+    /// Returns the next line, with the carriage returns at its end, or an empty line at the end of the text.
     pub fn next(&mut self) -> &'a [u8]
         ensures line { result.now ≡ take (prefix_len spec.is_before_feed self.old) self.old }
         ensures rest { self.new ≡ drop 1 (drop (prefix_len spec.is_before_feed self.old) self.old) }
     {
         let (line, rest) = self.left.split_at(line_len(self.left));
-        self.left = behind_feed(rest);
+        self.left = after_feed(rest);
         line
     }
 }
 
-/// The line without the carriage returns at its end.
+/// Returns the line without the carriage returns at its end.
 pub fn without_returns(line: &[u8]) -> &[u8]
     ensures { result.now ≡ spec.without_returns line.now }
 {
     let mut left = line;
-    while let [front @ .., last] = left {
+    while let [prefix @ .., last] = left {
         if *last != b'\r' {
             return left;
         }
-        left = front;
+        left = prefix;
     }
     left
 }
 
-/// The line gives no event: it is empty, or begins with `#`.
+/// Returns whether the line is no event's: it is empty, or begins with `#`.
 pub fn is_comment(line: &[u8]) -> bool
     ensures { result ≡ spec.is_comment line.now }
 {

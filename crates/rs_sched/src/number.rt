@@ -1,4 +1,4 @@
-//! Numbers in decimal.
+//! Parsing of decimal numbers.
 
 ghost use Rattle.std.specs.Prelude.{◌≡◌, ◌≤◌, length};
 ghost use Rattle.rs_sched.specs.Numbers as spec;
@@ -42,7 +42,7 @@ fn digits_value(digits: &[u8]) -> u128
     value
 }
 
-/// The number below 2^64 that these bytes are, without a sign and without a leading zero.
+/// Parses a decimal number below `2 ^ 64`, without a sign or a leading zero.
 #[tactic(auto, unfolding(crate::specs::Numbers::number_of))]
 pub fn number_of(digits: &[u8]) -> Option<u64>
     ensures { result ≡ spec.number_of digits.now }

@@ -1,7 +1,7 @@
-//! Events printed as lines.
+//! Printing of events as lines.
 
 ghost use Rattle.std.specs.Prelude.{◌≡◌, ◌<◌, [], ◌∷◌, ◌++◌, flat_map, codes, OnOk, OnErr};
-ghost use Rattle.rs_sched.specs.Spelling as spec;
+ghost use Rattle.rs_sched.specs.Encoding as spec;
 
 use crate::event::Event;
 use itoa::Buffer;
@@ -144,7 +144,7 @@ fn put_event(out: &mut Bytes, event: &Event) -> Result<(), NoMemory>
     }
 }
 
-/// Prints an event as a line. Where memory is wanting, the bytes stay as they were.
+/// Appends an event as a line, with its line feed. On out of memory nothing changes. Linear in the line's length.
 pub fn print_event(alloc: Global, event: &Event, out: &mut Bytes) -> Result<(), NoMemory>
     ensures ok { OnOk result (out.new ≡ out.old ++ (spec.line_of event.now ++ codes "\n")) }
     ensures err { OnErr result (out.new ≡ out.old) }

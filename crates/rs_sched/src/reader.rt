@@ -1,10 +1,10 @@
-//! A schedule, read whole.
+//! Reading of a whole schedule.
 
 ghost use Rattle.std.specs.Prelude.{◌≡◌, List, None, Ok, IfOk, IfErr};
 ghost use Rattle.rs_sched.specs.declared.event.Event.{Event};
 ghost use Rattle.rs_sched.specs.Schedule.{IsSchedule};
 ghost use Rattle.rs_sched.specs.Reader as spec;
-ghost use Rattle.rs_sched.specs.Reading.{GivesSchedule, TellsFault};
+ghost use Rattle.rs_sched.specs.Reading.{GivesSchedule, ReportsFault};
 
 use crate::event::Events;
 use crate::event_lines::EventLines;
@@ -12,7 +12,7 @@ use crate::fault::{SchedFault, Why};
 use sqlite_items::Items;
 use std::alloc::Global;
 
-/// How many bytes a schedule has at most.
+/// The most bytes of a schedule.
 pub const MOST_BYTES: usize = 16_777_216;
 
 fn events_of(alloc: Global, bytes: &[u8]) -> Result<Events, SchedFault>
@@ -39,19 +39,19 @@ fn read(alloc: Global, bytes: &[u8]) -> Result<Events, SchedFault>
     events_of(alloc, bytes)
 }
 
-/// The events of a schedule of at most 16,777,216 bytes: one on each line, in order, but for empty lines and those that
-/// begin with `#`.
+/// Parses a schedule of at most 16,777,216 bytes: one event on each line, except on empty lines and those that begin
+/// with `#`.
 ///
-/// `BadLine` says the first line that is wrong, from 1, and the first cause that fits it; line 0 says that the bytes are
-/// too many. `NoMemory` says nothing of the bytes. The time goes with their number.
+/// `BadLine` reports the first bad line, from 1, and the first cause that fits it, or line 0 if there are too many bytes.
+/// On out of memory nothing is reported of the bytes. Linear in their number.
 pub fn parse_schedule(alloc: Global, bytes: &[u8]) -> Result<Events, SchedFault>
-    // What is read is a schedule of the events that are given.
+    // The bytes are a schedule of the events that are returned.
     ensures found { IfOk result (λ given. IsSchedule bytes.now given) }
-    // What is a schedule is read, unless memory is wanting.
+    // A schedule is read, unless an allocation fails.
     ensures only { (given : List Event) → IsSchedule bytes.now given → GivesSchedule result (Ok given) }
-    // A refusal says the first bad line, and the first cause that fits it.
-    ensures fault { IfErr result (λ fault. TellsFault bytes.now fault) }
-    // Which events or which fault it is.
+    // A fault reports the first bad line, and the first cause that fits it.
+    ensures fault { IfErr result (λ fault. ReportsFault bytes.now fault) }
+    // The events or the fault are those of the reader in specs/.
     ensures exact { GivesSchedule result (spec.events_of bytes.now) }
 {
     read(alloc, bytes)

@@ -1,10 +1,10 @@
-//! The words that lines begin with.
+//! The keywords of events.
 
 ghost use Rattle.std.specs.Prelude.{◌≡◌};
 ghost use Rattle.rs_sched.specs.Reader as spec;
 
-/// The word of a line.
-#[derive(Clone, Copy, PartialEq, Eq)]
+/// The keyword of an event, which its line begins with.
+#[derive(Clone, Copy)]
 pub enum Word {
     Sites,
     Ask,
@@ -36,7 +36,7 @@ fn later_word_of(word: &[u8]) -> Option<Word>
     }
 }
 
-/// The word with these bytes.
+/// Returns the keyword with these bytes.
 pub fn word_of(word: &[u8]) -> Option<Word>
     ensures { result ≡ spec.word_of word.now }
 {

@@ -1,4 +1,4 @@
--- A session that is put into a book, and taken back.
+-- A session stored in a book, and restored.
 use Rattle.std.proofs.Common.{◌≡◌, ℕ, Bool, true, false, cond, List, [], ◌∷◌, Some, None, Ordering, Less, Equal, Greater, refl, sym, ap, ◌∙◌, is_eq}
 use Rattle.std.specs.BTreeMap.{insert_entry, is_at}
 use Rattle.std.specs.Cmp.{IsTotalOrder}
@@ -11,7 +11,7 @@ use Rattle.rs_mean.proofs.Entries.{set_value_is_insert_entry}
 use Rattle.rs_site.specs.declared.session.Session.{Session}
 use Rattle.rs_site.specs.Sessions.{Book, IsInOrder, kept_of, with_session}
 
--- the last of two values written in one place stays
+-- the last of two values written under one key stays
 written_twice : {K X : Type 0} (test : K → Bool) (v w : X) (es : List (K × X)) → set_value test (set_value test es v) w ≡ set_value test es w
 written_twice test v w [] = refl
 written_twice {K} {X} test v w (e ∷ es) =
@@ -21,7 +21,7 @@ written_twice {K} {X} test v w (e ∷ es) =
     ] refl
 
 module _ {K X : Type 0} {R : K → K → Ordering} (o : IsTotalOrder R) (k : K) (v : X) where
-  -- what was put in where nothing was is taken out
+  -- what was inserted under a new key is removed
   removed : (es : List (K × X)) → lookup (is_at (R k)) es ≡ None → remove_entry (is_at (R k)) (insert_entry R es k v) ≡ es
   removed [] none = ap (λ r. cond (is_eq r) [] ((k, v) ∷ [])) (tied_itself o k)
   removed (e ∷ es) none =

@@ -1,4 +1,4 @@
--- The parts of a text, and the messages that tell them.
+-- The parts of a text, and their messages.
 use Rattle.std.proofs.Common.{◌≡◌, ℕ, zero, suc, ◌+◌, ◌*◌, ◌<◌, ◌≤◌, true, ◌&&◌, nat_lt, List, ◌++◌, length, take, drop, sym, ap, subst, ◌∙◌, arith, ◌↔◌}
 use Rattle.std.proofs.lemmas.Bool.{ltb-true, ltb_from_iff, lt-ltb, and_parts}
 use Rattle.std.proofs.lemmas.Grind.{div_ceil_times}
@@ -9,14 +9,14 @@ use Rattle.std.specs.Prelude.{flat_map}
 use Rattle.std.specs.List.{range_with_len}
 use Rattle.rs_base.specs.declared.txn.Origin.{Origin}
 use Rattle.rs_base.specs.declared.reply.Reply.{Reply}
-use Rattle.rs_base.specs.Printing.{printed_reply}
+use Rattle.rs_print.specs.Replies.{printed_reply}
 use Rattle.rs_msg.proofs.Sizes.{reply_fits}
 use Rattle.rs_msg.specs.declared.message.Message.{Message}
 use Rattle.rs_msg.specs.Limits.{IsOriginWithin, IsWithin}
 use Rattle.rs_msg.specs.Written.{message_bytes}
 use Rattle.rs_site.specs.Asking.{has_part, part_size}
 use Rattle.rs_site.specs.PartLaws.{HasEachPart, PartFits, PartIsWithin, PartsAreText}
-use Rattle.rs_site.specs.Parts.{parts_of, parts_limit, part_bytes, part_message, told_text}
+use Rattle.rs_site.specs.Parts.{parts_of, parts_limit, part_bytes, part_message, reply_text}
 
 -- ---- the parts, one after the other
 
@@ -27,19 +27,19 @@ module _ (size : ℕ) (text : List ℕ) where
   count : (n : ℕ) → size + n * size ≡ suc n * size
   count n = omega arith
 
-  behind : (at : ℕ) → drop ((at + 1) * size) text ≡ drop size (drop (at * size) text)
-  behind at =
+  suffix : (at : ℕ) → drop ((at + 1) * size) text ≡ drop size (drop (at * size) text)
+  suffix at =
       let more : (at + 1) * size ≡ at * size + size = omega arith in
       ap (λ (n : ℕ). drop n text) more ∙ sym (drop-drop size (at * size) text)
 
   none : 0 ≡ 0 * size
   none = omega arith
 
-  -- pieces in a row are a front of what stands behind the pieces before
+  -- consecutive pieces are a prefix of what follows the pieces before
   in_row : (at n : ℕ) → flat_map piece (range_with_len at n) ≡ take (n * size) (drop (at * size) text)
   in_row at zero = ap (λ (m : ℕ). take m (drop (at * size) text)) none
   in_row at (suc n) =
-      ap (λ (bytes : List ℕ). piece at ++ bytes) (in_row (at + 1) n ∙ ap (take (n * size)) (behind at))
+      ap (λ (bytes : List ℕ). piece at ++ bytes) (in_row (at + 1) n ∙ ap (take (n * size)) (suffix at))
       ∙ sym (take-add size (n * size) (drop (at * size) text))
       ∙ ap (λ (m : ℕ). take m (drop (at * size) text)) (count n)
 
@@ -78,12 +78,12 @@ is_within origin reply part within test =
     part_within origin part (printed_reply origin reply) within (ltb-true part parts (sym (has_each_part origin reply part) ∙ both.0)) (ltb-true parts parts_limit both.1)
 
 pub part_is_within : PartIsWithin
-part_is_within told message within is =
-    let some = cond_some (has_part told.origin told.reply told.part && nat_lt (parts_of (told_text told)) parts_limit) (part_message told.origin told.part (told_text told)) message is in
-    subst IsWithin some.1 (is_within told.origin told.reply told.part within some.0)
+part_is_within reported message within is =
+    let some = cond_some (has_part reported.origin reported.reply reported.part && nat_lt (parts_of (reply_text reported)) parts_limit) (part_message reported.origin reported.part (reply_text reported)) message is in
+    subst IsWithin some.1 (is_within reported.origin reported.reply reported.part within some.0)
 
 pub part_fits : PartFits
-part_fits told message within is =
-    let some = cond_some (has_part told.origin told.reply told.part && nat_lt (parts_of (told_text told)) parts_limit) (part_message told.origin told.part (told_text told)) message is in
-    let short : length (part_bytes (told_text told) told.part) ≤ 30000 = omega (arith, length-take part_size (drop (told.part * part_size) (told_text told))) in
-    subst (λ (m : Message). length (message_bytes m) ≤ 32768) some.1 (reply_fits _ (is_within told.origin told.reply told.part within some.0) short)
+part_fits reported message within is =
+    let some = cond_some (has_part reported.origin reported.reply reported.part && nat_lt (parts_of (reply_text reported)) parts_limit) (part_message reported.origin reported.part (reply_text reported)) message is in
+    let short : length (part_bytes (reply_text reported) reported.part) ≤ 30000 = omega (arith, length-take part_size (drop (reported.part * part_size) (reply_text reported))) in
+    subst (λ (m : Message). length (message_bytes m) ≤ 32768) some.1 (reply_fits _ (is_within reported.origin reported.reply reported.part within some.0) short)

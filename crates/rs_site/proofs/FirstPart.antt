@@ -1,4 +1,4 @@
--- A site is given an ask of a first part.
+-- A site receives an ask of a first part.
 use Rattle.std.proofs.Common.{◌≡◌, ◌≤◌, ℕ, true, false, cond, List, length, sym, ap, ◌∙◌, subst, arith, nat_lt}
 use Rattle.std.specs.Prelude.{◌==◌}
 use Rattle.std.proofs.lemmas.Bool.Decides.{nat_tests}
@@ -11,7 +11,7 @@ use Rattle.rs_msg.specs.Written.{message_bytes}
 use Rattle.rs_msg.proofs.Sizes.{ask_fits}
 use Rattle.rs_msg.proofs.Whole.{message_read, once_message, written_message}
 use Rattle.rs_site.specs.declared.input.Input.TheVariants as inputs
-use Rattle.rs_site.specs.Asking.{quiet, origin_of, on_first, on_further}
+use Rattle.rs_site.specs.Asking.{no_output, origin_of, on_first, on_further}
 use Rattle.rs_site.specs.State.{SiteState}
 use Rattle.rs_site.specs.Step.{most_bytes, on_read, site_step}
 use Rattle.rs_site.proofs.Sorts.{Step}
@@ -29,6 +29,6 @@ step_of_first site from bytes ask is part =
     let le = short bytes ask is in
     let fits : nat_lt most_bytes (length bytes) ≡ false = grind (arith, nat_tests, le) in
     let is_first : (ask.part == 0) ≡ true = grind (arith, nat_tests, part) in
-    ap (λ b. cond {A = Step} b (quiet site) (on_read site from (message_of bytes))) fits
+    ap (λ b. cond {A = Step} b (no_output site) (on_read site from (message_of bytes))) fits
     ∙ ap (λ r. on_read site from r) ((message_read bytes (messages.Ask ask)).0 is)
     ∙ ap (λ b. cond {A = Step} b (on_first site from (origin_of site ask) ask.text) (on_further site from (origin_of site ask) ask.part)) is_first

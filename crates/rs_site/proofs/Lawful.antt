@@ -11,18 +11,18 @@ use Rattle.rs_msg.specs.Reader.{message_of}
 use Rattle.rs_site.specs.declared.input.Input.TheVariants as inputs
 use Rattle.rs_site.specs.declared.outs.Decided.{Decided}
 use Rattle.rs_site.specs.declared.session.Session.{Session}
-use Rattle.rs_site.specs.Asking.{quiet, again, remembering, taken, refused, by_number, origin_of, on_first, on_further, on_ask}
+use Rattle.rs_site.specs.Asking.{no_output, repeated, remembering, accepted, refused, by_number, origin_of, on_first, on_further, on_ask}
 use Rattle.rs_site.specs.Laws.{last_of, IsNextCommit, NumbersRise, CommitsAreMeaning}
-use Rattle.rs_site.specs.Sessions.{session_of, may_go_on}
+use Rattle.rs_site.specs.Sessions.{session_of, last_is_answered}
 use Rattle.rs_site.specs.State.{SiteState, next_txn}
 use Rattle.rs_site.specs.Step.{most_bytes, on_read, site_step}
-use Rattle.rs_site.proofs.PutSessions.{session_put, session_beside, user_tells}
+use Rattle.rs_site.proofs.PutSessions.{session_put, session_beside, user_is}
 use Rattle.rs_site.proofs.Sorts.{Step, Stays, IsNext, Kind, step_kind, by_test, again_stays, further_stays}
 
 last_rises : (site : SiteState) (origin : Origin) (reply : Reply) (user : List ℕ) → IsNext site origin → last_of user site ≤ last_of user (remembering site origin reply)
 last_rises site origin reply user next =
     let session : Session = record { last = origin.number; reply = Some reply } in
-    elim (user_tells user origin.user) [
+    elim (user_is user origin.user) [
       | inl here ↦
           let there : last_of origin.user (remembering site origin reply) ≡ origin.number = ap (λ s. s.last) (session_put origin.user session site.sessions) in
           let now : last_of user (remembering site origin reply) ≡ last_of origin.user (remembering site origin reply) = ap (λ u. last_of u (remembering site origin reply)) here in
@@ -46,9 +46,9 @@ numbers site step (inl stays) =
     let e : step.0.begun ≡ site.begun = ap (λ t. t.begun) stays.0 in
     (last, omega (arith, e))
 numbers site step (inr (inl r)) =
-    let e : step.0 ≡ remembering site r.origin (replies.Syntax r.place) = ap (λ s. s.0) r.is in
+    let e : step.0 ≡ remembering site r.origin (replies.Syntax r.offset) = ap (λ s. s.0) r.is in
     let begun : step.0.begun ≡ site.begun = ap (λ t. t.begun) e in
-    (λ user. subst (λ t. last_of user site ≤ last_of user t) (sym e) (last_rises site r.origin (replies.Syntax r.place) user r.next), omega (arith, begun))
+    (λ user. subst (λ t. last_of user site ≤ last_of user t) (sym e) (last_rises site r.origin (replies.Syntax r.offset) user r.next), omega (arith, begun))
 numbers site step (inr (inr x)) =
     let last : (user : List ℕ) → last_of user site ≤ last_of user step.0 = λ user.
     let e : last_of user step.0 ≡ _ = ap (λ s. last_of user s.0) x.is in
@@ -89,16 +89,16 @@ repeat_stays site from ask low =
     let origin : Origin = origin_of site ask in
     let session : Session = session_of ask.user site.sessions in
     let gap : Step = refused site from origin (replies.Gap session.last) in
-    let third : Step = cond {A = Step} (ask.number == session.last + 1 && may_go_on session) (taken site from origin ask.text) gap in
-    let second : Step = cond {A = Step} (ask.number == session.last) (again site from origin 0 session.reply) third in
+    let third : Step = cond {A = Step} (ask.number == session.last + 1 && last_is_answered session) (accepted site from origin ask.text) gap in
+    let second : Step = cond {A = Step} (ask.number == session.last) (repeated site from origin 0 session.reply) third in
     let numbered : Step = by_number site from origin ask.text session in
     let first : Step = on_first site from origin ask.text in
     by_test (Stays site) (ask.part == 0) first (on_further site from origin ask.part)
     (λ _. by_test (Stays site) (ask.epoch == site.epoch) numbered (refused site from origin (replies.OldEpoch site.epoch))
     (λ _. by_test (Stays site) (nat_lt ask.number session.last) (refused site from origin (replies.OldRequest session.last)) second (λ _. (refl, refl))
-    (λ _. by_test (Stays site) (ask.number == session.last) (again site from origin 0 session.reply) third (λ _. again_stays site from origin 0 session.reply)
-    (λ _. by_test (Stays site) (ask.number == session.last + 1 && may_go_on session) (taken site from origin ask.text) gap
-    (λ h. absurd (not_next ask.number session.last (may_go_on session) low h)) (λ _. (refl, refl)))))
+    (λ _. by_test (Stays site) (ask.number == session.last) (repeated site from origin 0 session.reply) third (λ _. again_stays site from origin 0 session.reply)
+    (λ _. by_test (Stays site) (ask.number == session.last + 1 && last_is_answered session) (accepted site from origin ask.text) gap
+    (λ h. absurd (not_next ask.number session.last (last_is_answered session) low h)) (λ _. (refl, refl)))))
     (λ _. (refl, refl)))
     (λ _. further_stays site from origin ask.part)
 
@@ -106,5 +106,5 @@ pub repeats_run_nothing : (site : SiteState) (from : Peer) (bytes : List ℕ) (a
     → Stays site (site_step site (inputs.Datagram from bytes))
 unfolding site_step
 repeats_run_nothing site from bytes ask read low =
-    by_test (Stays site) (nat_lt most_bytes (length bytes)) (quiet site) (on_read site from (message_of bytes)) (λ _. (refl, refl))
+    by_test (Stays site) (nat_lt most_bytes (length bytes)) (no_output site) (on_read site from (message_of bytes)) (λ _. (refl, refl))
     (λ _. subst (λ r. Stays site (on_read site from r)) (sym read) (repeat_stays site from ask low))

@@ -5,6 +5,6 @@ pub mod Divided
 pub mod FirstPart
 pub mod Lawful
 pub mod PutSessions
-pub mod Quiet
+pub mod NoOutput
 pub mod Sorts
-pub mod Taken
+pub mod Acceptance

@@ -1,4 +1,4 @@
--- Whose session is another once a session is put into a book.
+-- Whose session changes once a session is stored in a book.
 use Rattle.std.proofs.Common.{◌≡◌, ◌≢◌, ◌⊎◌, inl, inr, ℕ, Bool, true, false, List, refl}
 use Rattle.std.specs.Prelude.{bytes_eq}
 use Rattle.std.proofs.lemmas.Cmp.{nat_list_cmp_total}
@@ -8,7 +8,7 @@ use Rattle.rs_mean.proofs.Entries.{apart, lookup_put, lookup_beside}
 use Rattle.rs_site.specs.declared.session.Session.{Session}
 use Rattle.rs_site.specs.Sessions.{Book, session_of, with_session}
 
--- the user has the session that was put in
+-- the user has the stored session
 pub session_put : (user : List ℕ) (session : Session) (book : Book) → session_of user (with_session user session book) ≡ session
 session_put user session book = rw (lookup_put nat_list_cmp_total user session book) refl
 
@@ -17,8 +17,8 @@ pub session_beside : (user : List ℕ) (session : Session) (book : Book) (other 
 session_beside user session book other differ = rw (lookup_beside nat_list_cmp_total user session other (apart exact_bytes other user differ) book) refl
 
 -- users are the same or not
-pub user_tells : (a b : List ℕ) → (a ≡ b) ⊎ (a ≢ b)
-user_tells a b = by_test (bytes_eq a b) refl
+pub user_is : (a b : List ℕ) → (a ≡ b) ⊎ (a ≢ b)
+user_is a b = by_test (bytes_eq a b) refl
   where
     by_test : (t : Bool) → bytes_eq a b ≡ t → (a ≡ b) ⊎ (a ≢ b)
     by_test true e = inl ((bytes_eq-Decides a b).0 e)

@@ -1,35 +1,35 @@
--- What a site does with an ask.
+-- A site's handling of an ask.
 use Rattle.std.specs.Prelude.{ℕ, ◌+◌, ◌*◌, Bool, ◌&&◌, ◌==◌, nat_lt, List, [], ◌∷◌, length, Option, Some, None, Ok, Err, if◌then◌else◌}
 use Rattle.rs_base.specs.declared.peer.Peer.{Peer}
 use Rattle.rs_base.specs.declared.txn.Txn.{Txn}
 use Rattle.rs_base.specs.declared.txn.Origin.{Origin}
 use Rattle.rs_base.specs.declared.reply.Reply.{Reply}
 use Rattle.rs_base.specs.declared.reply.Reply.TheVariants as replies
-use Rattle.rs_base.specs.Printing.{printed_reply}
+use Rattle.rs_print.specs.Replies.{printed_reply}
 use Rattle.rs_mean.specs.declared.built.Stmt.{Stmt}
-use Rattle.rs_site.specs.Statement.{statement_of, place_told}
+use Rattle.rs_site.specs.Statement.{statement_of, offset_replied}
 use Rattle.rs_mean.specs.declared.execution.Execution.{Execution}
 use Rattle.rs_mean.specs.Meaning.{Outcome, meaning}
 use Rattle.rs_msg.specs.declared.message.Ask.{Ask}
 use Rattle.rs_site.specs.declared.session.Session.{Session}
 use Rattle.rs_site.specs.declared.outs.Outs.{Outs}
-use Rattle.rs_site.specs.Sessions.{session_of, with_session, may_go_on}
+use Rattle.rs_site.specs.Sessions.{session_of, with_session, last_is_answered}
 use Rattle.rs_site.specs.State.{SiteState, next_txn}
 
--- ---- what comes out of a step
+---- output of a step
 
-abbrev pub nothing : Outs
-nothing = record { sends = []; replies = []; decided = [] }
+abbrev pub no_outs : Outs
+no_outs = record { sends = []; replies = []; decided = [] }
 
 -- changes nothing and sends nothing
-abbrev pub quiet : SiteState → SiteState × Outs
-quiet site = (site, nothing)
+abbrev pub no_output : SiteState → SiteState × Outs
+no_output site = (site, no_outs)
 
--- a part of a reply is told to a peer
-abbrev pub tells : Peer → Origin → ℕ → Reply → Outs
-tells to origin part reply = record { sends = []; replies = (record { to = to; origin = origin; part = part; reply = reply }) ∷ []; decided = [] }
+-- one part of a reply is sent to a peer
+abbrev pub reply_with : Peer → Origin → ℕ → Reply → Outs
+reply_with to origin part reply = record { sends = []; replies = (record { to = to; origin = origin; part = part; reply = reply }) ∷ []; decided = [] }
 
--- how many bytes a part of a reply has, but for the last
+-- the size of each part of a reply but the last, in bytes
 abbrev pub part_size : ℕ
 part_size = 30000
 
@@ -37,12 +37,12 @@ part_size = 30000
 abbrev pub has_part : Origin → Reply → ℕ → Bool
 has_part origin reply part = nat_lt (part * part_size) (length (printed_reply origin reply))
 
--- the kept reply is told again, if there is one, and it has this part
-abbrev pub again : SiteState → Peer → Origin → ℕ → Option Reply → SiteState × Outs
-again site from origin part None = quiet site
-again site from origin part (Some reply) = if has_part origin reply part then (site, tells from origin part reply) else quiet site
+-- the stored reply is sent again, if there is one, and it has this part
+abbrev pub repeated : SiteState → Peer → Origin → ℕ → Option Reply → SiteState × Outs
+repeated site from origin part None = no_output site
+repeated site from origin part (Some reply) = if has_part origin reply part then (site, reply_with from origin part reply) else no_output site
 
--- ---- an ask that is taken
+---- an accepted ask
 
 -- the execution of a statement by this transaction for the user of this request
 abbrev pub execution_of : Txn → Origin → Stmt → Execution
@@ -53,46 +53,46 @@ abbrev pub reply_of : Outcome → Reply
 reply_of (Ok answered) = replies.Done answered
 reply_of (Err cause) = replies.Denied cause
 
--- the site remembers that it took this request of its user, and what it answered
+-- the site stores that it accepted this request of its user, and the reply
 abbrev pub remembering : SiteState → Origin → Reply → SiteState
 remembering site origin reply = record site { sessions = with_session origin.user (record { last = origin.number; reply = Some reply }) site.sessions }
 
--- The statement is executed by the next transaction, and its outcome told.
+-- The statement is executed by the next transaction, and its outcome is the reply.
 abbrev pub executed : SiteState → Peer → Origin → List ℕ → Stmt → SiteState × Outs
 executed site from origin text stmt =
     let m = meaning site.database (execution_of (next_txn site) origin stmt) in (
       record (remembering site origin (reply_of m.1)) { begun = site.begun + 1; database = m.0 },
-      record (tells from origin 0 (reply_of m.1)) { decided = (record { txn = next_txn site; origin = origin; text = text }) ∷ [] },
+      record (reply_with from origin 0 (reply_of m.1)) { decided = (record { txn = next_txn site; origin = origin; text = text }) ∷ [] },
     )
 
 -- the number of the last transaction of an epoch
 abbrev pub last_number : ℕ
 last_number = 18446744073709551615
 
--- the text says no statement that is executed, and this place is told
+-- the text has no supported statement, and the reply carries this byte offset
 abbrev pub no_request : SiteState → Peer → Origin → ℕ → SiteState × Outs
-no_request site from origin place = (remembering site origin (replies.Syntax place), tells from origin 0 (replies.Syntax place))
+no_request site from origin offset = (remembering site origin (replies.Syntax offset), reply_with from origin 0 (replies.Syntax offset))
 
--- A text that is no request is told so. A statement for which the epoch has no transaction left is dropped.
-abbrev pub taken_as : SiteState → Peer → Origin → List ℕ → Option Stmt → SiteState × Outs
-taken_as site from origin text None = no_request site from origin (place_told text)
-taken_as site from origin text (Some stmt) = if site.begun == last_number then quiet site else executed site from origin text stmt
+-- A text without a supported statement is answered by its offset. A statement for which the epoch has no transaction left is dropped.
+abbrev pub accepted_as : SiteState → Peer → Origin → List ℕ → Option Stmt → SiteState × Outs
+accepted_as site from origin text None = no_request site from origin (offset_replied text)
+accepted_as site from origin text (Some stmt) = if site.begun == last_number then no_output site else executed site from origin text stmt
 
-abbrev pub taken : SiteState → Peer → Origin → List ℕ → SiteState × Outs
-taken site from origin text = taken_as site from origin text (statement_of text)
+abbrev pub accepted : SiteState → Peer → Origin → List ℕ → SiteState × Outs
+accepted site from origin text = accepted_as site from origin text (statement_of text)
 
 -- ---- by the session of the user
 
 abbrev pub refused : SiteState → Peer → Origin → Reply → SiteState × Outs
-refused site from origin reply = (site, tells from origin 0 reply)
+refused site from origin reply = (site, reply_with from origin 0 reply)
 
--- In the site's epoch: a number below the last is old. The last is given its reply again, whatever its text. The next
--- one is taken, once the last is answered. All else is a gap.
+-- In the site's epoch: a number below the last is old. The last gets its reply again, whatever its text. The next one is
+-- accepted, once the last is answered. All else is a gap.
 abbrev pub by_number : SiteState → Peer → Origin → List ℕ → Session → SiteState × Outs
 by_number site from origin text session =
     if nat_lt origin.number session.last then refused site from origin (replies.OldRequest session.last)
-    else (if origin.number == session.last then again site from origin 0 session.reply
-    else (if origin.number == session.last + 1 && may_go_on session then taken site from origin text
+    else (if origin.number == session.last then repeated site from origin 0 session.reply
+    else (if origin.number == session.last + 1 && last_is_answered session then accepted site from origin text
     else refused site from origin (replies.Gap session.last)))
 
 -- the first part of a reply is asked for
@@ -105,8 +105,8 @@ on_first site from origin text =
 abbrev pub on_further : SiteState → Peer → Origin → ℕ → SiteState × Outs
 on_further site from origin part =
     if origin.epoch == site.epoch && origin.number == (session_of origin.user site.sessions).last
-    then again site from origin part (session_of origin.user site.sessions).reply
-    else quiet site
+    then repeated site from origin part (session_of origin.user site.sessions).reply
+    else no_output site
 
 abbrev pub origin_of : SiteState → Ask → Origin
 origin_of site ask = record { site = site.me; user = ask.user; epoch = ask.epoch; number = ask.number }

@@ -10,7 +10,7 @@ use Rattle.rs_site.specs.Sessions.{session_of}
 use Rattle.rs_site.specs.State.{SiteState}
 use Rattle.rs_site.specs.Step.{most_bytes}
 
--- a further part that the site has: of the reply that it keeps for the user's last request in its epoch
+-- a further part that the site has: of the stored reply to the user's last request in its epoch
 pub record HasFurther (site : SiteState) (ask : Ask) : Type 0 where
   pub epoch : ask.epoch ≡ site.epoch
   pub number : ask.number ≡ (session_of ask.user site.sessions).last

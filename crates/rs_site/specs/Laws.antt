@@ -1,4 +1,4 @@
--- What holds of every step of a site, whatever its state.
+-- Laws of every step of a site, whatever its state.
 use Rattle.std.specs.Prelude.{◌≡◌, ℕ, ◌+◌, ◌<◌, ◌≤◌, List, [], ◌∷◌, Option, Some, None, IsTrue, ◌⊎◌}
 use Rattle.rs_mean.specs.declared.built.Stmt.{Stmt}
 use Rattle.rs_base.specs.declared.peer.Peer.{Peer}
@@ -8,24 +8,24 @@ use Rattle.rs_mean.specs.Meaning.{meaning}
 use Rattle.rs_msg.specs.declared.message.Ask.{Ask}
 use Rattle.rs_msg.specs.declared.message.Message.TheVariants as messages
 use Rattle.rs_msg.specs.Message.{IsMessage}
-use Rattle.rs_site.specs.Statement.{statement_of, place_told}
+use Rattle.rs_site.specs.Statement.{statement_of, offset_replied}
 use Rattle.rs_site.specs.declared.input.Input.{Input}
 use Rattle.rs_site.specs.declared.input.Input.TheVariants as inputs
 use Rattle.rs_site.specs.declared.outs.Decided.{Decided}
 use Rattle.rs_site.specs.declared.outs.Outs.{Outs}
-use Rattle.rs_site.specs.Asking.{execution_of, last_number, origin_of, reply_of, tells}
-use Rattle.rs_site.specs.Sessions.{session_of, may_go_on}
+use Rattle.rs_site.specs.Asking.{execution_of, last_number, origin_of, reply_of, reply_with}
+use Rattle.rs_site.specs.Sessions.{session_of, last_is_answered}
 use Rattle.rs_site.specs.State.{SiteState, next_txn}
 use Rattle.rs_site.specs.Step.{site_step}
 
--- the site after a step, and what comes out of it
+-- the site after a step, and the step's output
 abbrev pub after : SiteState → Input → SiteState
 after site input = (site_step site input).0
 
 abbrev pub outs_of : SiteState → Input → Outs
 outs_of site input = (site_step site input).1
 
--- the number of the user's last request that was taken
+-- the number of the user's last accepted request
 abbrev pub last_of : List ℕ → SiteState → ℕ
 last_of user site = (session_of user site.sessions).last
 
@@ -38,11 +38,11 @@ abbrev pub RepeatsRunNothing : Type 0
 RepeatsRunNothing = (site : SiteState) (from : Peer) (bytes : List ℕ) (ask : Ask) → IsMessage bytes (messages.Ask ask) → ask.number ≤ last_of ask.user site
     → (after site (inputs.Datagram from bytes) ≡ site) × ((outs_of site (inputs.Datagram from bytes)).decided ≡ [])
 
--- an ask of the user's last request, in the site's epoch, is told the reply that is kept, and changes nothing
-abbrev pub KeptIsToldAgain : Type 0
-KeptIsToldAgain = (site : SiteState) (from : Peer) (bytes : List ℕ) (ask : Ask) (reply : Reply) → IsMessage bytes (messages.Ask ask)
+-- an ask of the user's last request, in the site's epoch, gets the stored reply, and changes nothing
+abbrev pub KeptReplyIsRepeated : Type 0
+KeptReplyIsRepeated = (site : SiteState) (from : Peer) (bytes : List ℕ) (ask : Ask) (reply : Reply) → IsMessage bytes (messages.Ask ask)
     → ask.part ≡ 0 → ask.epoch ≡ site.epoch → ask.number ≡ last_of ask.user site → (session_of ask.user site.sessions).reply ≡ Some reply
-    → site_step site (inputs.Datagram from bytes) ≡ (site, tells from (origin_of site ask) 0 reply)
+    → site_step site (inputs.Datagram from bytes) ≡ (site, reply_with from (origin_of site ask) 0 reply)
 
 -- The entry is of the site's next transaction, and the site's database is the meaning of its statement.
 pub record IsNextCommit (site : SiteState) (entry : Decided) (new : SiteState) : Type 0 where
@@ -63,21 +63,21 @@ pub record IsNextAsk (site : SiteState) (ask : Ask) : Type 0 where
   pub part : ask.part ≡ 0
   pub epoch : ask.epoch ≡ site.epoch
   pub number : ask.number ≡ last_of ask.user site + 1
-  pub may : IsTrue (may_go_on (session_of ask.user site.sessions))
+  pub may : IsTrue (last_is_answered (session_of ask.user site.sessions))
 
--- The ask was told this one reply, which its user's session keeps.
+-- The ask got this one reply, which its user's session stores.
 pub record IsAnswered (site : SiteState) (from : Peer) (ask : Ask) (reply : Reply) (new : SiteState) (outs : Outs) : Type 0 where
-  pub told : outs.replies ≡ (tells from (origin_of site ask) 0 reply).replies
+  pub reported : outs.replies ≡ (reply_with from (origin_of site ask) 0 reply).replies
   pub kept : session_of ask.user new.sessions ≡ record { last = ask.number; reply = Some reply }
 
--- A text that is no request is told so, and nothing is committed. A statement is committed, and its reply is its outcome.
-abbrev pub IsTakenAs : SiteState → Peer → Ask → Option Stmt → SiteState → Outs → Type 0
-IsTakenAs site from ask None new outs = IsAnswered site from ask (replies.Syntax (place_told ask.text)) new outs × (outs.decided ≡ [])
-IsTakenAs site from ask (Some stmt) new outs =
+-- A text without a supported statement is answered so, and nothing is committed. A statement is committed, and its reply is its outcome.
+abbrev pub IsAcceptedAs : SiteState → Peer → Ask → Option Stmt → SiteState → Outs → Type 0
+IsAcceptedAs site from ask None new outs = IsAnswered site from ask (replies.Syntax (offset_replied ask.text)) new outs × (outs.decided ≡ [])
+IsAcceptedAs site from ask (Some stmt) new outs =
     IsAnswered site from ask (reply_of (meaning site.database (execution_of (next_txn site) (origin_of site ask) stmt)).1) new outs
     × (outs.decided ≡ (record { txn = next_txn site; origin = origin_of site ask; text = ask.text }) ∷ [])
 
--- the next ask of a user is taken, while the epoch has a transaction left
-abbrev pub NextIsTaken : Type 0
-NextIsTaken = (site : SiteState) (from : Peer) (bytes : List ℕ) (ask : Ask) → IsMessage bytes (messages.Ask ask) → IsNextAsk site ask → site.begun < last_number
-    → IsTakenAs site from ask (statement_of ask.text) (after site (inputs.Datagram from bytes)) (outs_of site (inputs.Datagram from bytes))
+-- the next ask of a user is accepted, while the epoch has a transaction left
+abbrev pub NextIsAccepted : Type 0
+NextIsAccepted = (site : SiteState) (from : Peer) (bytes : List ℕ) (ask : Ask) → IsMessage bytes (messages.Ask ask) → IsNextAsk site ask → site.begun < last_number
+    → IsAcceptedAs site from ask (statement_of ask.text) (after site (inputs.Datagram from bytes)) (outs_of site (inputs.Datagram from bytes))

@@ -1,22 +1,22 @@
--- The parts of a text, and the message that takes one part of a printed reply to a peer.
+-- The parts of a text, and the message that carries one part of a printed reply to a peer.
 use Rattle.std.specs.Prelude.{ℕ, ◌*◌, ◌&&◌, nat_lt, List, length, take, drop, Option, Some, None, if◌then◌else◌}
 use Rattle.std.specs.Int.{div_ceil}
 use Rattle.rs_base.specs.declared.txn.Origin.{Origin}
-use Rattle.rs_base.specs.Printing.{printed_reply}
+use Rattle.rs_print.specs.Replies.{printed_reply}
 use Rattle.rs_msg.specs.declared.message.Message.{Message}
 use Rattle.rs_msg.specs.declared.message.Message.TheVariants as messages
 use Rattle.rs_site.specs.declared.outs.Told.{Told}
 use Rattle.rs_site.specs.Asking.{has_part, part_size}
 
--- how many parts a text has: one for each 30,000 bytes, the last may be short
+-- the number of parts of a text: one for each 30,000 bytes, the last may be short
 abbrev pub parts_of : List ℕ → ℕ
 parts_of text = div_ceil (length text) part_size
 
--- what a part of a text says, counted from 0
+-- the bytes of a part of a text, counted from 0
 abbrev pub part_bytes : List ℕ → ℕ → List ℕ
 part_bytes text part = take part_size (drop (part * part_size) text)
 
--- four bytes count fewer parts than these
+-- the number of parts is below this, so that four bytes hold it
 abbrev pub parts_limit : ℕ
 parts_limit = 4294967296
 
@@ -24,13 +24,13 @@ parts_limit = 4294967296
 abbrev pub part_message : Origin → ℕ → List ℕ → Message
 part_message origin part text = messages.Reply (record { origin = origin; part = part; parts = parts_of text; bytes = part_bytes text part })
 
--- the whole text of which a part is told
-abbrev pub told_text : Told → List ℕ
-told_text told = printed_reply told.origin told.reply
+-- the whole text that the part belongs to
+abbrev pub reply_text : Told → List ℕ
+reply_text reported = printed_reply reported.origin reported.reply
 
--- The message that tells the part. There is none where the printed reply doesn't have this part, or has too many parts.
-abbrev pub message_of_told : Told → Option Message
-message_of_told told =
-    if has_part told.origin told.reply told.part && nat_lt (parts_of (told_text told)) parts_limit
-    then Some (part_message told.origin told.part (told_text told))
+-- The message of the part. There is none if the printed reply doesn't have this part, or has too many parts.
+abbrev pub message_of_part : Told → Option Message
+message_of_part reported =
+    if has_part reported.origin reported.reply reported.part && nat_lt (parts_of (reply_text reported)) parts_limit
+    then Some (part_message reported.origin reported.part (reply_text reported))
     else None

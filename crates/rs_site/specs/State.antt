@@ -4,7 +4,7 @@ use Rattle.rs_base.specs.declared.txn.Txn.{Txn}
 use Rattle.rs_mean.specs.Database.{Database, empty}
 use Rattle.rs_site.specs.Sessions.{Book, all_fresh}
 
--- its number, how many sites there are, its epoch, how many transactions it began in this epoch, its users' sessions,
+-- its number, the number of sites, its epoch, the number of transactions begun in this epoch, its users' sessions,
 -- and its database
 pub record SiteState : Type 0 where
   pub me : ℕ

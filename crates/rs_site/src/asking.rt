@@ -1,26 +1,26 @@
-//! What a site does with an ask.
+//! A site's handling of an ask.
 
 ghost use Rattle.std.specs.Prelude.{◌≡◌, ◌+◌, ◌<◌, ◌&&◌, ◌==◌, IfOk, OnErr};
 ghost use Rattle.rs_site.specs.Asking as spec;
-ghost use Rattle.rs_site.specs.Sessions.{session_of, may_go_on};
+ghost use Rattle.rs_site.specs.Sessions.{session_of, last_is_answered};
 
-use crate::outs::{Outs, nothing, tells};
+use crate::outs::{Outs, no_outs, reply_with};
 use crate::site::Site;
 use rs_base::{Bytes, NoMemory, Origin, Peer, Reply};
 use rs_msg::Ask;
 use std::alloc::Global;
 
 impl Site {
-    /// Whether the request is the user's next, and the last is answered.
+    /// Returns whether the request is the user's next, and the last is answered.
     fn is_next(&self, origin: &Origin) -> bool
         requires { (session_of origin.now.user self.now.sessions).last < origin.now.number }
-        ensures { result ≡ (origin.now.number == (session_of origin.now.user self.now.sessions).last + 1 && may_go_on (session_of origin.now.user self.now.sessions)) }
+        ensures { result ≡ (origin.now.number == (session_of origin.now.user self.now.sessions).last + 1 && last_is_answered (session_of origin.now.user self.now.sessions)) }
     {
         origin.number == self.sessions.last(&origin.user) + 1
-            && self.sessions.may_go_on(&origin.user)
+            && self.sessions.last_is_answered(&origin.user)
     }
 
-    /// The first part is asked for of a request in the site's epoch.
+    /// Handles the first part of a request in the site's epoch.
     fn by_number(
         &mut self,
         alloc: Global,
@@ -33,18 +33,18 @@ impl Site {
     {
         let last = self.sessions.last(&origin.user);
         if origin.number < last {
-            return tells(alloc, from, origin, 0, Reply::OldRequest(last));
+            return reply_with(alloc, from, origin, 0, Reply::OldRequest(last));
         }
         if origin.number == last {
-            return self.again(alloc, from, origin, 0);
+            return self.repeated(alloc, from, origin, 0);
         }
         if self.is_next(origin) {
             return self.take(alloc, from, origin, text);
         }
-        tells(alloc, from, origin, 0, Reply::Gap(last))
+        reply_with(alloc, from, origin, 0, Reply::Gap(last))
     }
 
-    /// The first part is asked for.
+    /// Handles an ask of a first part.
     fn on_first(
         &mut self,
         alloc: Global,
@@ -58,11 +58,11 @@ impl Site {
         if origin.epoch == self.epoch {
             self.by_number(alloc, from, origin, text)
         } else {
-            tells(alloc, from, origin, 0, Reply::OldEpoch(self.epoch))
+            reply_with(alloc, from, origin, 0, Reply::OldEpoch(self.epoch))
         }
     }
 
-    /// A further part is asked for.
+    /// Handles an ask of a further part.
     fn on_further(
         &self,
         alloc: Global,
@@ -73,13 +73,13 @@ impl Site {
         ensures { IfOk result (λ outs. spec.on_further self.now from.now origin.now part ≡ (self.now, outs)) }
     {
         if origin.epoch == self.epoch && origin.number == self.sessions.last(&origin.user) {
-            self.again(alloc, from, origin, part)
+            self.repeated(alloc, from, origin, part)
         } else {
-            Ok(nothing(alloc))
+            Ok(no_outs(alloc))
         }
     }
 
-    /// An ask comes from a peer.
+    /// Handles an ask from a peer.
     pub(crate) fn on_ask(&mut self, alloc: Global, from: &Peer, ask: Ask) -> Result<Outs, NoMemory>
         ensures ok { IfOk result (λ outs. spec.on_ask self.old from.now ask ≡ (self.new, outs)) }
         ensures err { OnErr result (self.new ≡ self.old) }

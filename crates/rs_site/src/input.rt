@@ -1,9 +1,9 @@
-//! What comes to a site.
+//! The inputs of a site.
 
 use rs_base::{Bytes, Peer};
 
 /// One input of a site.
-#[derive(Debug, Drop)]
+#[derive(Drop)]
 pub enum Input {
     /// A datagram, and the peer that sent it.
     Datagram(Peer, Bytes),

@@ -1,7 +1,7 @@
-//! What holds of every step of a site, whatever its state. Each function here is a law: its contract says it, and its
-//! body does nothing.
+//! Laws of every step of a site, whatever its state. Each function here is a law: its contract states it, and its body
+//! does nothing.
 
-ghost use Rattle.rs_site.specs.Laws.{CommitsAreMeaning, KeptIsToldAgain, NextIsTaken, NumbersRise, RepeatsRunNothing};
+ghost use Rattle.rs_site.specs.Laws.{CommitsAreMeaning, KeptReplyIsRepeated, NextIsAccepted, NumbersRise, RepeatsRunNothing};
 
 /// Each user's last number, and the count of transactions, never fall.
 pub fn numbers_rise()
@@ -13,9 +13,9 @@ pub fn repeats_run_nothing()
     ensures { RepeatsRunNothing }
 {}
 
-/// An ask of the user's last request, in the site's epoch, is told the reply that is kept, and changes nothing.
-pub fn kept_is_told_again()
-    ensures { KeptIsToldAgain }
+/// An ask of the user's last request, in the site's epoch, gets the stored reply, and changes nothing.
+pub fn kept_reply_is_repeated()
+    ensures { KeptReplyIsRepeated }
 {}
 
 /// A step commits nothing, and leaves the database as it was, or it commits one entry: of the site's next transaction,
@@ -24,8 +24,8 @@ pub fn commits_are_meaning()
     ensures { CommitsAreMeaning }
 {}
 
-/// The next ask of a user, whose last one is answered, is told one reply, which is kept: that its text is no request, or
-/// the outcome of its statement, which is committed with its text. So it is while the epoch has a transaction left.
-pub fn next_is_taken()
-    ensures { NextIsTaken }
+/// The next ask of a user, whose last one is answered, gets one reply, which is stored: that its text has no supported
+/// statement, or the outcome of its statement, which is committed with its text. This holds while the epoch has a transaction left.
+pub fn next_is_accepted()
+    ensures { NextIsAccepted }
 {}

@@ -1,4 +1,4 @@
-//! What comes out of a step of a site.
+//! The output of a step of a site.
 
 ghost use Rattle.std.specs.Prelude.{◌≡◌, [], ◌∷◌, IfOk};
 ghost use Rattle.rs_site.specs.Asking as spec;
@@ -7,9 +7,8 @@ use rs_base::{Bytes, Datagrams, NoMemory, Origin, Peer, Reply, Txn, one_item};
 use sqlite_items::Items;
 use std::alloc::Global;
 
-/// A part of a printed reply that goes to a peer: which request is answered, which part goes, counted from 0, and the
-/// reply.
-#[derive(Debug, Drop)]
+/// One part of a printed reply to a peer: the request, the part's number, counted from 0, and the reply.
+#[derive(Drop)]
 pub struct Told {
     pub to: Peer,
     pub origin: Origin,
@@ -20,7 +19,7 @@ pub struct Told {
 pub type Tolds = Items<Told>;
 
 /// A committed execution: its transaction, its request, and the request's text.
-#[derive(Debug, Drop)]
+#[derive(Drop)]
 pub struct Decided {
     pub txn: Txn,
     pub origin: Origin,
@@ -29,17 +28,17 @@ pub struct Decided {
 
 pub type Decideds = Items<Decided>;
 
-/// What a step gives out: datagrams to sites, replies, and the executions that it committed.
-#[derive(Debug, Drop)]
+/// The output of a step: datagrams to sites, replies, and committed executions.
+#[derive(Drop)]
 pub struct Outs {
     pub sends: Datagrams,
     pub replies: Tolds,
     pub decided: Decideds,
 }
 
-/// Nothing comes out.
-pub(crate) fn nothing(alloc: Global) -> Outs
-    ensures { result ≡ spec.nothing }
+/// Returns the empty output.
+pub(crate) fn no_outs(alloc: Global) -> Outs
+    ensures { result ≡ spec.no_outs }
 {
     Outs {
         sends: Items::new(alloc),
@@ -48,28 +47,28 @@ pub(crate) fn nothing(alloc: Global) -> Outs
     }
 }
 
-/// A part of a reply goes to a peer.
-pub(crate) fn tells(
+/// Returns the output of one part of a reply.
+pub(crate) fn reply_with(
     alloc: Global,
     to: &Peer,
     origin: &Origin,
     part: u32,
     reply: Reply,
 ) -> Result<Outs, NoMemory>
-    ensures { IfOk result (λ outs. outs ≡ spec.tells to.now origin.now part reply) }
+    ensures { IfOk result (λ outs. outs ≡ spec.reply_with to.now origin.now part reply) }
 {
-    let told = Told {
+    let reported = Told {
         to: *to,
         origin: *origin,
         part,
         reply,
     };
-    let mut outs = nothing(alloc);
-    outs.replies = one_item(alloc, told)?;
+    let mut outs = no_outs(alloc);
+    outs.replies = one_item(alloc, reported)?;
     Ok(outs)
 }
 
-/// The first part of a reply goes to a peer, and an execution is committed.
+/// Returns the output of a committed execution: the first part of its reply, and its entry.
 pub(crate) fn commits(
     alloc: Global,
     to: &Peer,
@@ -77,9 +76,9 @@ pub(crate) fn commits(
     reply: Reply,
     decided: Decided,
 ) -> Result<Outs, NoMemory>
-    ensures { IfOk result (λ outs. outs ≡ record (spec.tells to.now origin.now 0 reply) { decided = decided ∷ [] }) }
+    ensures { IfOk result (λ outs. outs ≡ record (spec.reply_with to.now origin.now 0 reply) { decided = decided ∷ [] }) }
 {
-    let mut outs = tells(alloc, to, origin, 0, reply)?;
+    let mut outs = reply_with(alloc, to, origin, 0, reply)?;
     outs.decided = one_item(alloc, decided)?;
     Ok(outs)
 }

@@ -1,5 +1,5 @@
-//! What holds of the parts of texts, and of the messages that tell them. Each function here is a law: its contract says
-//! it, and its body does nothing.
+//! Laws of the parts of texts, and of their messages. Each function here is a law: its contract states it, and its body
+//! does nothing.
 
 ghost use Rattle.rs_site.specs.PartLaws.{HasEachPart, PartFits, PartIsWithin, PartsAreText};
 
@@ -13,12 +13,12 @@ pub fn has_each_part()
     ensures { HasEachPart }
 {}
 
-/// A message that tells a part of a reply to a request within its limits is within its limits too.
+/// The message of a part of a reply to a request within its limits is within its limits too.
 pub fn part_is_within()
     ensures { PartIsWithin }
 {}
 
-/// A message that tells a part of a reply to a request within its limits fits a datagram.
+/// The message of a part of a reply to a request within its limits fits a datagram.
 pub fn part_fits()
     ensures { PartFits }
 {}

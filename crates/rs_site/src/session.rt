@@ -1,4 +1,4 @@
-//! What a site keeps of its users.
+//! The sessions of a site's users.
 
 ghost use Rattle.std.specs.Prelude.{◌≡◌, Some, OnOk, OnErr, IfOk};
 ghost use Rattle.std.specs.BTreeMap.{is_at};
@@ -14,14 +14,14 @@ use std::alloc::Global;
 use std::collections::BTreeMap;
 use std::marker::Model;
 
-/// What a site keeps of a user: the number of the last request that it took, 0 at opening, and the reply that it gave.
-#[derive(Debug, Drop)]
+/// A user's session: the number of the last accepted request, 0 at opening, and its reply.
+#[derive(Drop)]
 pub struct Session {
     pub last: u64,
     pub reply: Option<Reply>,
 }
 
-/// The sessions of the users whose requests a site took. Contracts see them as a list, in order of users.
+/// The sessions of the users whose requests were accepted. Contracts see them as a list, sorted by user.
 #[derive(Drop)]
 pub struct Sessions {
     by_user: BTreeMap<Ident, Session>,
@@ -42,7 +42,7 @@ fn write(kept: &mut Session, session: Session)
 }
 
 impl Sessions {
-    /// No user was ever taken.
+    /// Makes an empty book of sessions.
     pub fn new(alloc: Global) -> Sessions
         ensures { result ≡ spec.all_fresh }
     {
@@ -51,7 +51,7 @@ impl Sessions {
         }
     }
 
-    /// The number of the user's last request that was taken, 0 where there was none.
+    /// Returns the number of the user's last accepted request, 0 if there was none.
     pub fn last(&self, user: &Ident) -> u64
         ensures { result ≡ (spec.session_of user.now self.now).last }
     {
@@ -61,7 +61,7 @@ impl Sessions {
         }
     }
 
-    /// The reply that is kept for the user's last request, if there is one.
+    /// Returns the stored reply to the user's last request, if there is one.
     pub fn reply(&self, user: &Ident) -> Option<&Reply>
         ensures { option_copied result ≡ (spec.session_of user.now self.now).reply }
     {
@@ -71,14 +71,14 @@ impl Sessions {
         }
     }
 
-    /// Whether the user's next request may come: the last one is answered, or there was none.
-    pub fn may_go_on(&self, user: &Ident) -> bool
-        ensures { result ≡ spec.may_go_on (spec.session_of user.now self.now) }
+    /// Returns whether the user's last request is answered, or there was none.
+    pub fn last_is_answered(&self, user: &Ident) -> bool
+        ensures { result ≡ spec.last_is_answered (spec.session_of user.now self.now) }
     {
         self.last(user) == 0 || self.reply(user).is_some()
     }
 
-    /// Keeps this session of the user, and gives the one that was kept before. Where memory is wanting, nothing changes.
+    /// Stores this session of the user, and returns the one before. On out of memory nothing changes.
     pub fn put(&mut self, user: &Ident, session: Session) -> Result<Option<Session>, NoMemory>
         ensures ok { OnOk result (self.new ≡ spec.with_session user.now session self.old) }
         ensures before { IfOk result (λ before. before ≡ spec.kept_of user.now self.old) }
@@ -88,7 +88,7 @@ impl Sessions {
         Ok(self.by_user.insert(*user, session)?)
     }
 
-    /// Takes back what was put last, where this was kept before. It takes no memory.
+    /// Restores the session that was stored before the last `put`. It takes no memory.
     pub(crate) fn put_back(&mut self, user: &Ident, before: Option<Session>)
         ensures { (book : spec.Book) (session : Session) → spec.IsInOrder book → self.old ≡ spec.with_session user.now session book → before ≡ spec.kept_of user.now book → self.new ≡ book }
     {
@@ -98,7 +98,7 @@ impl Sessions {
         }
     }
 
-    /// Puts this session in place of the user's that is kept.
+    /// Replaces the user's stored session.
     fn put_in_place(&mut self, user: &Ident, session: Session)
         ensures { (kept : Session) → spec.kept_of user.now self.old ≡ Some kept → self.new ≡ set_value (is_at (slice_cmp nat_cmp user.now)) self.old session }
     {
@@ -108,7 +108,7 @@ impl Sessions {
         write(kept, session);
     }
 
-    /// Keeps no session of the user.
+    /// Removes the user's session.
     fn forget(&mut self, user: &Ident)
         ensures { self.new ≡ remove_entry (is_at (slice_cmp nat_cmp user.now)) self.old }
     {

@@ -15,7 +15,7 @@ pub struct Site {
     pub(crate) me: SiteNo,
     pub(crate) sites: SiteNo,
     pub(crate) epoch: u32,
-    /// How many transactions the site began in this epoch.
+    /// The number of transactions begun in this epoch.
     pub(crate) begun: u64,
     pub(crate) sessions: Sessions,
     pub(crate) database: Database,
@@ -30,7 +30,7 @@ impl Model for Site {
 }
 
 impl Site {
-    /// Opens a site among so many, in epoch 1, without users and tables.
+    /// Opens a site among `sites`, in epoch 1, without users and tables.
     pub fn open(alloc: Global, me: SiteNo, sites: SiteNo) -> Result<Site, NoMemory>
         ensures { IfOk result (λ site. site ≡ opened me sites) }
     {
@@ -44,28 +44,28 @@ impl Site {
         })
     }
 
-    /// The number of the site.
+    /// Returns the number of the site.
     pub fn me(&self) -> SiteNo
         ensures { result ≡ self.now.me }
     {
         self.me
     }
 
-    /// The epoch that requests are asked of.
+    /// Returns the epoch that requests have to name.
     pub fn epoch(&self) -> u32
         ensures { result ≡ self.now.epoch }
     {
         self.epoch
     }
 
-    /// The database of the site.
+    /// Returns the database of the site.
     pub fn database(&self) -> &Database
         ensures { result.now ≡ self.now.database }
     {
         &self.database
     }
 
-    /// The database of a site that is used no more.
+    /// Returns the database of a site that is no longer used.
     pub fn into_database(self) -> Database
         ensures { result ≡ self.database }
     {

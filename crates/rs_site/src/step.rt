@@ -8,43 +8,43 @@ ghost use Rattle.rs_site.specs.Step as spec;
 ghost use Rattle.rs_site.specs.declared.input.Input.TheVariants as inputs;
 
 use crate::input::Input;
-use crate::outs::{Outs, nothing};
+use crate::outs::{Outs, no_outs};
 use crate::site::Site;
 use rs_base::{NoMemory, Peer, ReadFault};
 use rs_msg::{Message, decode};
 use std::alloc::Global;
 
-/// How many bytes a datagram has at most.
+/// The largest datagram, in bytes.
 const MOST_BYTES: usize = 32_768;
 
 impl Site {
-    /// A message comes from a peer.
+    /// Handles a message from a peer.
     fn on_message(&mut self, alloc: Global, from: &Peer, message: Message) -> Result<Outs, NoMemory>
         ensures ok { IfOk result (λ outs. spec.on_message self.old from.now message ≡ (self.new, outs)) }
         ensures err { OnErr result (self.new ≡ self.old) }
     {
         match message {
             Message::Ask(ask) => self.on_ask(alloc, from, ask),
-            Message::Reply(_) => Ok(nothing(alloc)),
+            Message::Reply(_) => Ok(no_outs(alloc)),
         }
     }
 
-    /// A datagram comes from a peer.
+    /// Handles a datagram from a peer.
     fn on_datagram(&mut self, alloc: Global, from: &Peer, bytes: &[u8]) -> Result<Outs, NoMemory>
         ensures ok { IfOk result (λ outs. spec.on_datagram self.old from.now bytes.now ≡ (self.new, outs)) }
         ensures err { OnErr result (self.new ≡ self.old) }
     {
         if MOST_BYTES < bytes.len() {
-            return Ok(nothing(alloc));
+            return Ok(no_outs(alloc));
         }
         match decode(alloc, bytes) {
             Ok(message) => self.on_message(alloc, from, message),
-            Err(ReadFault::Malformed) => Ok(nothing(alloc)),
+            Err(ReadFault::Malformed) => Ok(no_outs(alloc)),
             Err(ReadFault::NoMemory) => Err(NoMemory),
         }
     }
 
-    /// The step by its definition.
+    /// Makes the step of its definition.
     #[tactic(auto, unfolding(crate::specs::Step::site_step))]
     fn on_input(&mut self, alloc: Global, input: &Input) -> Result<Outs, NoMemory>
         ensures ok { IfOk result (λ outs. spec.site_step self.old input.now ≡ (self.new, outs)) }
@@ -52,16 +52,16 @@ impl Site {
     {
         match input {
             Input::Datagram(from, bytes) => self.on_datagram(alloc, from, bytes.as_slice()),
-            Input::Tick => Ok(nothing(alloc)),
+            Input::Tick => Ok(no_outs(alloc)),
         }
     }
 
-    /// Takes one input. It gives what is sent, what is replied, and what was committed. A datagram of more than 32,768
-    /// bytes, one that is no message, and one that no rule is for change nothing, and nothing is sent. Where memory is
-    /// wanting, the site stays as it was.
+    /// Handles one input, and returns what is sent, replied and committed. A datagram of more than 32,768 bytes, one that is
+    /// no message, and one that no rule handles change nothing, and nothing is sent. On out of memory the site stays as it
+    /// was.
     pub fn step(&mut self, alloc: Global, input: &Input) -> Result<Outs, NoMemory>
         ensures ok { IfOk result (λ outs. spec.site_step self.old input.now ≡ (self.new, outs)) }
-        ensures dropped { (from : Peer) (bytes : List ℕ) → input.now ≡ inputs.Datagram from bytes → IsDropped self.old bytes → IfOk result (λ outs. (self.new ≡ self.old) × (outs ≡ asking.nothing)) }
+        ensures dropped { (from : Peer) (bytes : List ℕ) → input.now ≡ inputs.Datagram from bytes → IsDropped self.old bytes → IfOk result (λ outs. (self.new ≡ self.old) × (outs ≡ asking.no_outs)) }
         ensures err { OnErr result (self.new ≡ self.old) }
     {
         self.on_input(alloc, input)

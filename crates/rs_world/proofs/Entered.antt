@@ -1,5 +1,5 @@
--- What holds of the history so far: its entries were taken, one after the other, the site's database is what it builds, and
--- the replies that tell of its entries are their meanings.
+-- Facts of the history so far: its entries were accepted, one after the other, the site's database is what it builds, and
+-- the replies that report its entries are their meanings.
 use Rattle.std.proofs.Common.{◌≡◌, ◌≢◌, ℕ, ◌+◌, ◌<◌, ◌≤◌, inl, inr, List, [], ◌∷◌, ◌++◌, length, take, Option, Some, None, refl, sym, ap, subst, ◌∙◌, length-append, arith}
 use Rattle.std.specs.List.{slice_get}
 use Rattle.std.proofs.lemmas.List.{append-nil, take-append-le, take_all}
@@ -17,14 +17,14 @@ use Rattle.rs_site.specs.declared.outs.Decided.{Decided}
 use Rattle.rs_site.specs.Asking.{execution_of, reply_of, remembering}
 use Rattle.rs_site.specs.Sessions.{Book, session_of, with_session}
 use Rattle.rs_site.specs.State.{SiteState, opened, next_txn}
-use Rattle.rs_site.proofs.PutSessions.{session_put, session_beside, user_tells}
+use Rattle.rs_site.proofs.PutSessions.{session_put, session_beside, user_is}
 use Rattle.rs_world.specs.declared.report.Given.{Given}
 use Rattle.rs_world.specs.Explains.{IsCommitted, IsMeaningAt}
-use Rattle.rs_world.specs.History.{effect_of, effect, database_of, outcome_behind}
-use Rattle.rs_world.specs.Moments.{Takes}
-use Rattle.rs_world.proofs.Kept.{last_origin, get_front}
+use Rattle.rs_world.specs.History.{effect_of, effect, database_of, outcome_after}
+use Rattle.rs_world.specs.States.{Accepts}
+use Rattle.rs_world.proofs.Kept.{last_origin, get_prefix}
 use Rattle.rs_world.proofs.Gets.{get_push, get_below}
-use Rattle.rs_world.proofs.Told.{get_last}
+use Rattle.rs_world.proofs.Reports.{get_last}
 use Rattle.rs_mean.proofs.Lawful.{names_stay_in_order}
 
 -- ---- histories that grow
@@ -32,24 +32,24 @@ use Rattle.rs_mean.proofs.Lawful.{names_stay_in_order}
 pub database_of-push : (history : List Decided) (entry : Decided) → database_of (history ++ entry ∷ []) ≡ (effect (database_of history) entry).0
 database_of-push history entry = fold_push (λ db e. (effect db e).0) (empty 1) history entry
 
-pub take_front : {X : Type 0} (xs ys : List X) → take (length xs) (xs ++ ys) ≡ xs
-take_front xs ys = take-append-le (length xs) xs ys (omega arith) ∙ take_all (length xs) xs (omega arith)
+pub take_prefix : {X : Type 0} (xs ys : List X) → take (length xs) (xs ++ ys) ≡ xs
+take_prefix xs ys = take-append-le (length xs) xs ys (omega arith) ∙ take_all (length xs) xs (omega arith)
 
-pub meaning_more : (history more : List Decided) (i : ℕ) (told : Given) → IsMeaningAt history i told → IsMeaningAt (history ++ more) i told
-meaning_more history more i told is =
+pub meaning_more : (history more : List Decided) (i : ℕ) (reported : Given) → IsMeaningAt history i reported → IsMeaningAt (history ++ more) i reported
+meaning_more history more i reported is =
     let below = get_below history is.entry i is.there in
     record {
       entry = is.entry;
-      there = get_front history more is.entry i is.there;
+      there = get_prefix history more is.entry i is.there;
       origin = is.origin;
       outcome = is.outcome;
-      meaning = ap (λ (h : List Decided). outcome_behind h is.entry) (take-append-le i history more (omega (arith, below))) ∙ is.meaning;
+      meaning = ap (λ (h : List Decided). outcome_after h is.entry) (take-append-le i history more (omega (arith, below))) ∙ is.meaning;
       reply = is.reply;
     }
 
--- ---- what holds
+---- the facts
 
--- the transaction of the entry at this place
+-- the transaction of the entry at this position
 abbrev pub txn_at : ℕ → Txn
 txn_at i = record { site = 1; epoch = 1; number = i + 1 }
 
@@ -57,7 +57,7 @@ pub record IsEntry (given : List Event) (state : SiteState) (entry : Decided) : 
   pub home : entry.origin.site ≡ 1
   pub epoch : entry.origin.epoch ≡ 1
   pub low : entry.origin.number ≤ (session_of entry.origin.user state.sessions).last
-  pub takes : Takes given entry.origin entry.text
+  pub accepts : Accepts given entry.origin entry.text
 
 pub record Entered (given : List Event) (state : SiteState) (givens : List Given) (history : List Decided) : Type 0 where
   pub begun : state.begun ≡ length history
@@ -66,7 +66,7 @@ pub record Entered (given : List Event) (state : SiteState) (givens : List Given
   pub txns : (i : ℕ) (entry : Decided) → slice_get history i ≡ Some entry → entry.txn ≡ txn_at i
   pub entries : (i : ℕ) (entry : Decided) → slice_get history i ≡ Some entry → IsEntry given state entry
   pub distinct : (i j : ℕ) (a b : Decided) → i < j → slice_get history i ≡ Some a → slice_get history j ≡ Some b → a.origin ≢ b.origin
-  pub answers : (k : ℕ) (told : Given) → slice_get givens k ≡ Some told → IsCommitted told.reply → (i : ℕ) × IsMeaningAt history i told
+  pub answers : (k : ℕ) (reported : Given) → slice_get givens k ≡ Some reported → IsCommitted reported.reply → (i : ℕ) × IsMeaningAt history i reported
   pub known : (user : List ℕ) (reply : Reply) → (session_of user state.sessions).reply ≡ Some reply → IsCommitted reply → (i : ℕ) × IsMeaningAt history i (record { origin = last_origin state user; reply = reply })
 
 nothing_at : {X : Type 0} (i : ℕ) (x : X) → slice_get [] i ≡ Some x → ⊥
@@ -83,15 +83,15 @@ entered_first given = record {
   txns = λ i entry at. absurd (nothing_at i entry at);
   entries = λ i entry at. absurd (nothing_at i entry at);
   distinct = λ i j a b lt at_a at_b. absurd (nothing_at i a at_a);
-  answers = λ k told at committed. absurd (nothing_at k told at);
+  answers = λ k reported at committed. absurd (nothing_at k reported at);
   known = λ user reply kept committed. absurd (none_is_none reply kept);
 }
 
 -- ---- a reply is given
 
-pub entered_said : (given : List Event) (state : SiteState) (givens : List Given) (history : List Decided) (told : Given)
-    → (IsCommitted told.reply → (i : ℕ) × IsMeaningAt history i told) → Entered given state givens history → Entered given state (givens ++ told ∷ []) history
-entered_said given state givens history told meant holds = record {
+pub entered_said : (given : List Event) (state : SiteState) (givens : List Given) (history : List Decided) (reported : Given)
+    → (IsCommitted reported.reply → (i : ℕ) × IsMeaningAt history i reported) → Entered given state givens history → Entered given state (givens ++ reported ∷ []) history
+entered_said given state givens history reported meant holds = record {
   begun = holds.begun;
   database = holds.database;
   in_order = holds.in_order;
@@ -102,14 +102,14 @@ entered_said given state givens history told meant holds = record {
   known = holds.known;
 }
   where
-    answers_next : (k : ℕ) (g : Given) → slice_get (givens ++ told ∷ []) k ≡ Some g → IsCommitted g.reply → (i : ℕ) × IsMeaningAt history i g
+    answers_next : (k : ℕ) (g : Given) → slice_get (givens ++ reported ∷ []) k ≡ Some g → IsCommitted g.reply → (i : ℕ) × IsMeaningAt history i g
     answers_next k g at =
-        elim (get_push givens told g k at) [
+        elim (get_push givens reported g k at) [
           | inl p ↦ holds.answers k g p.1
           | inr p ↦ subst (λ (x : Given). IsCommitted x.reply → (i : ℕ) × IsMeaningAt history i x) p.1 meant
         ]
 
--- ---- a request is taken
+---- a request is accepted
 
 module _ (given : List Event) (state : SiteState) (origin : Origin) (reply : Reply) (number : origin.number ≡ (session_of origin.user state.sessions).last + 1) where
   abbrev session : Session
@@ -123,7 +123,7 @@ module _ (given : List Event) (state : SiteState) (origin : Origin) (reply : Rep
 
   last_grows : (user : List ℕ) → (session_of user state.sessions).last ≤ (session_of user book).last
   last_grows user =
-      elim (user_tells user origin.user) [
+      elim (user_is user origin.user) [
         | inl e ↦ omega (arith, number, ap (λ (u : List ℕ). (session_of u state.sessions).last) e, ap (λ (s : Session). s.last) (of_user user e))
         | inr differ ↦ omega (arith, ap (λ (s : Session). s.last) (session_beside origin.user session state.sessions user differ))
       ]
@@ -133,7 +133,7 @@ module _ (given : List Event) (state : SiteState) (origin : Origin) (reply : Rep
     home = is.home;
     epoch = is.epoch;
     low = omega (arith, is.low, last_grows entry.origin.user, ap (λ (b : Book). (session_of entry.origin.user b).last) sessions);
-    takes = is.takes;
+    accepts = is.accepts;
   }
 
   known_then : (next : SiteState) → next.sessions ≡ book → next.me ≡ state.me → next.epoch ≡ state.epoch → origin.site ≡ state.me → origin.epoch ≡ state.epoch
@@ -142,7 +142,7 @@ module _ (given : List Event) (state : SiteState) (origin : Origin) (reply : Rep
       → (IsCommitted reply → (i : ℕ) × IsMeaningAt (history ++ more) i (record { origin = origin; reply = reply }))
       → (user : List ℕ) (kept : Reply) → (session_of user next.sessions).reply ≡ Some kept → IsCommitted kept → (i : ℕ) × IsMeaningAt (history ++ more) i (record { origin = last_origin next user; reply = kept })
   known_then next sessions me epoch home of_epoch history more known meant user kept at committed =
-      elim (user_tells user origin.user) [
+      elim (user_is user origin.user) [
         | inl e ↦
             let now : session_of user next.sessions ≡ session = ap (λ (b : Book). session_of user b) sessions ∙ of_user user e in
             let both : Some reply ≡ Some kept = sym (ap (λ (s : Session). s.reply) now) ∙ at in
@@ -160,7 +160,7 @@ module _ (given : List Event) (state : SiteState) (origin : Origin) (reply : Rep
             (there.0, subst (λ (o : Origin). IsMeaningAt (history ++ more) there.0 (record { origin = o; reply = kept })) asked (meaning_more history more there.0 (record { origin = last_origin state user; reply = kept }) there.1))
       ]
 
--- a text that is no request is taken
+-- a text without a supported statement is accepted
 pub entered_remembered : (given : List Event) (state : SiteState) (givens : List Given) (history : List Decided) (origin : Origin) (reply : Reply)
     → origin.number ≡ (session_of origin.user state.sessions).last + 1 → origin.site ≡ state.me → origin.epoch ≡ state.epoch → (IsCommitted reply → ⊥)
     → Entered given state givens history → Entered given (remembering state origin reply) givens history
@@ -184,15 +184,15 @@ entered_remembered given state givens history origin reply number home of_epoch 
 
 module _ (given : List Event) (state : SiteState) (givens : List Given) (history : List Decided) (origin : Origin) (text : List ℕ) (stmt : Stmt)
     (reads : statement_of text ≡ Some stmt) (number : origin.number ≡ (session_of origin.user state.sessions).last + 1) (home : origin.site ≡ state.me) (of_epoch : origin.epoch ≡ state.epoch)
-    (me : state.me ≡ 1) (epoch : state.epoch ≡ 1) (takes : Takes given origin text) (holds : Entered given state givens history) where
+    (me : state.me ≡ 1) (epoch : state.epoch ≡ 1) (accepts : Accepts given origin text) (holds : Entered given state givens history) where
   abbrev entry : Decided
   entry = record { txn = next_txn state; origin = origin; text = text }
 
   abbrev made : Database × Outcome
   made = meaning state.database (execution_of (next_txn state) origin stmt)
 
-  abbrev told : Given
-  told = record { origin = origin; reply = reply_of made.1 }
+  abbrev reported : Given
+  reported = record { origin = origin; reply = reply_of made.1 }
 
   abbrev next : SiteState
   next = record (remembering state origin (reply_of made.1)) { begun = state.begun + 1; database = made.0 }
@@ -227,7 +227,7 @@ module _ (given : List Event) (state : SiteState) (givens : List Given) (history
   entries_next i e at =
       elim (get_push history entry e i at) [
         | inl p ↦ entry_grows given state origin (reply_of made.1) number next refl e (holds.entries i e p.1)
-        | inr p ↦ subst (λ (x : Decided). IsEntry given next x) p.1 (record { home = home ∙ me; epoch = of_epoch ∙ epoch; low = omega (arith, last_is); takes = takes })
+        | inr p ↦ subst (λ (x : Decided). IsEntry given next x) p.1 (record { home = home ∙ me; epoch = of_epoch ∙ epoch; low = omega (arith, last_is); accepts = accepts })
       ]
 
   apart : (i : ℕ) (a : Decided) → slice_get history i ≡ Some a → a.origin ≢ origin
@@ -246,13 +246,13 @@ module _ (given : List Event) (state : SiteState) (givens : List Given) (history
   answers_next : (k : ℕ) (g : Given) → slice_get givens k ≡ Some g → IsCommitted g.reply → (i : ℕ) × IsMeaningAt longer i g
   answers_next k g at committed = let there = holds.answers k g at committed in (there.0, meaning_more history (entry ∷ []) there.0 g there.1)
 
-  meaning_here : IsMeaningAt longer (length history) told
+  meaning_here : IsMeaningAt longer (length history) reported
   meaning_here = record {
     entry = entry;
     there = get_last history entry;
     origin = refl;
     outcome = made.1;
-    meaning = ap (λ (h : List Decided). outcome_behind h entry) (take_front history (entry ∷ [])) ∙ ap (λ (p : Database × Option Outcome). p.1) does;
+    meaning = ap (λ (h : List Decided). outcome_after h entry) (take_prefix history (entry ∷ [])) ∙ ap (λ (p : Database × Option Outcome). p.1) does;
     reply = refl;
   }
 
@@ -268,5 +268,5 @@ module _ (given : List Event) (state : SiteState) (givens : List Given) (history
     known = known_then given state origin (reply_of made.1) number next refl refl refl home of_epoch history (entry ∷ []) holds.known (λ committed. (length history, meaning_here));
   }
 
-  pub entered_executed : Entered given next (givens ++ told ∷ []) longer
-  entered_executed = entered_said given next givens longer told (λ committed. (length history, meaning_here)) executed_kept
+  pub entered_executed : Entered given next (givens ++ reported ∷ []) longer
+  entered_executed = entered_said given next givens longer reported (λ committed. (length history, meaning_here)) executed_kept

@@ -1,4 +1,4 @@
--- The history at each moment is a front of each later one, and so are the replies.
+-- The history in each state is a prefix of that in each later one, and so are the replies.
 use Rattle.std.proofs.Common.{◌≡◌, List, [], ◌∷◌, ◌++◌, refl, sym, ap, subst, ◌∙◌, append_assoc}
 use Rattle.std.specs.Prelude.{fold}
 use Rattle.std.proofs.lemmas.List.{append-nil}
@@ -13,8 +13,8 @@ use Rattle.rs_msg.specs.Reader.{message_of}
 use Rattle.rs_world.specs.declared.report.Given.{Given}
 use Rattle.rs_world.specs.declared.world.Datagram.{Datagram}
 use Rattle.rs_world.specs.declared.world.World.{World}
-use Rattle.rs_world.specs.Course.{Happening, Open, Post, Deliver, Noise, start, stepped, delivered, heard, happen}
-use Rattle.rs_world.specs.Moments.{world_after}
+use Rattle.rs_world.specs.Course.{Action, Open, Post, Deliver, Noise, start, stepped, delivered, received, act}
+use Rattle.rs_world.specs.States.{world_after}
 
 -- what was given and committed stays
 pub record Grows (world next : World) : Type 0 where
@@ -45,20 +45,20 @@ grows_delivered world (Some datagram) =
     let step = grows_stepped on datagram.to _ (slice_get on.sites (datagram.to - 1)) in
     record { givens = step.givens; replies = step.replies; entries = step.entries; history = step.history }
 
-grows_heard : (world : World) (number : ℕ) (bytes : List ℕ) (read : Option Message) → Grows world (heard world number bytes read)
-grows_heard world number bytes None = grows_stepped world number _ (slice_get world.sites (number - 1))
-grows_heard world number bytes (Some message) = grows_not world world refl refl
+grows_received : (world : World) (number : ℕ) (bytes : List ℕ) (read : Option Message) → Grows world (received world number bytes read)
+grows_received world number bytes None = grows_stepped world number _ (slice_get world.sites (number - 1))
+grows_received world number bytes (Some message) = grows_not world world refl refl
 
-grows_once : (world : World) (happening : Happening) → Grows world (happen world happening)
-grows_once world (Open last) = grows_not world (happen world (Open last)) refl refl
-grows_once world (Post origin text) = grows_not world (happen world (Post origin text)) refl refl
+grows_once : (world : World) (action : Action) → Grows world (act world action)
+grows_once world (Open last) = grows_not world (act world (Open last)) refl refl
+grows_once world (Post origin text) = grows_not world (act world (Post origin text)) refl refl
 grows_once world Deliver = grows_delivered world (slice_get world.sent world.delivered)
-grows_once world (Noise site bytes) = grows_heard world site bytes (message_of bytes)
+grows_once world (Noise site bytes) = grows_received world site bytes (message_of bytes)
 
-grows_by : (world : World) (more : List Happening) → Grows world (fold happen world more)
+grows_by : (world : World) (more : List Action) → Grows world (fold act world more)
 grows_by world [] = grows_not world world refl refl
-grows_by world (happening ∷ more) = grows_twice world (happen world happening) (fold happen (happen world happening) more) (grows_once world happening) (grows_by (happen world happening) more)
+grows_by world (action ∷ more) = grows_twice world (act world action) (fold act (act world action) more) (grows_once world action) (grows_by (act world action) more)
 
--- from each moment to each later one
-pub grows : (before behind : List Happening) → Grows (world_after before) (world_after (before ++ behind))
-grows before behind = subst (Grows (world_after before)) (sym (fold-append happen start before behind)) (grows_by (world_after before) behind)
+-- from each state to each later one
+pub grows : (before suffix : List Action) → Grows (world_after before) (world_after (before ++ suffix))
+grows before suffix = subst (Grows (world_after before)) (sym (fold-append act start before suffix)) (grows_by (world_after before) suffix)

@@ -15,11 +15,11 @@ use Rattle.rs_site.specs.Asking.{execution_of}
 use Rattle.rs_site.specs.State.{SiteState}
 use Rattle.rs_world.specs.declared.report.Given.{Given}
 use Rattle.rs_world.specs.declared.world.World.{World}
-use Rattle.rs_world.specs.Course.{Happening, Open, view_of, course, report_of}
+use Rattle.rs_world.specs.Course.{Action, Open, view_of, course, report_of}
 use Rattle.rs_world.specs.Explains.{IsCommitted, IsMeaningAt}
-use Rattle.rs_world.specs.History.{effect_of, database_of, outcome_behind}
-use Rattle.rs_world.specs.Moments.{happenings, world_after, Takes}
-use Rattle.rs_world.proofs.AtEach.{Moment, at_each}
+use Rattle.rs_world.specs.History.{effect_of, database_of, outcome_after}
+use Rattle.rs_world.specs.States.{actions, world_after, Accepts}
+use Rattle.rs_world.proofs.AtEach.{StateAt, at_each}
 use Rattle.rs_world.proofs.Entered.{Entered, database_of-push, txn_at}
 use Rattle.rs_world.proofs.Entering.{entered_law}
 use Rattle.rs_world.proofs.Growing.{grows}
@@ -27,16 +27,16 @@ use Rattle.rs_world.proofs.Gets.{take-get}
 use Rattle.rs_world.proofs.Played.{Playable, course_is}
 use Rattle.rs_world.proofs.Walk.{after}
 
--- the last world is the one after all that happens
+-- the last world is the one after all actions
 pub last_is : (given : List Event) (can : Playable given) → course given ≡ after can.others
-last_is given can = course_is given ∙ ap world_after can.parted
+last_is given can = course_is given ∙ ap world_after can.separated
 
--- what holds of the history in the end
-pub in_the_end : (given : List Event) → Playable given → Moment (λ before state givens history. Entered given state givens history) (happenings given) (course given)
+-- the facts of the history in the end
+pub in_the_end : (given : List Event) → Playable given → StateAt (λ before state givens history. Entered given state givens history) (actions given) (course given)
 in_the_end given can =
     let whole = at_each given can (λ before state givens history. Entered given state givens history) (entered_law given) can.others [] (sym (append-nil can.others)) in
-    subst (λ (hs : List Happening). Moment (λ before state givens history. Entered given state givens history) hs (course given)) (sym can.parted)
-    (subst (λ (w : World). Moment (λ before state givens history. Entered given state givens history) (Open 1 ∷ can.others) w) (sym (last_is given can)) whole)
+    subst (λ (hs : List Action). StateAt (λ before state givens history. Entered given state givens history) hs (course given)) (sym can.separated)
+    (subst (λ (w : World). StateAt (λ before state givens history. Entered given state givens history) (Open 1 ∷ can.others) w) (sym (last_is given can)) whole)
 
 denied_at : (db : Database) (entry : Decided) (read : Option Stmt) (cause : Denial) → (effect_of db entry read).1 ≡ Some (Err cause) → (effect_of db entry read).0 ≡ db
 denied_at db entry None cause e = absurd cc
@@ -45,27 +45,27 @@ denied_at db entry (Some stmt) cause e =
     after_denied db (execution_of entry.txn entry.origin stmt) cause is
 
 -- an entry that was denied changed nothing
-pub denied_changes_nothing : (history : List Decided) (i : ℕ) (entry : Decided) (cause : Denial) → slice_get history i ≡ Some entry → outcome_behind (take i history) entry ≡ Some (Err cause)
+pub denied_changes_nothing : (history : List Decided) (i : ℕ) (entry : Decided) (cause : Denial) → slice_get history i ≡ Some entry → outcome_after (take i history) entry ≡ Some (Err cause)
     → database_of (take (i + 1) history) ≡ database_of (take i history)
 denied_changes_nothing history i entry cause at denied =
     ap database_of (take-get history i entry at) ∙ database_of-push (take i history) entry ∙ denied_at (database_of (take i history)) entry (statement_of entry.text) cause denied
 
--- the history at each moment is a front of that at each later one
-pub history_grows : (given : List Event) (before between behind : List Happening) → happenings given ≡ before ++ between ++ behind
+-- the history in each state is a prefix of that in each later one
+pub history_grows : (given : List Event) (before between suffix : List Action) → actions given ≡ before ++ between ++ suffix
     → (more : List Decided) × ((world_after (before ++ between)).history ≡ (world_after before).history ++ more)
-history_grows given before between behind parted = let on = grows before between in (on.entries, on.history)
+history_grows given before between suffix separated = let on = grows before between in (on.entries, on.history)
 
--- the history in the end is that of the last moment
-pub history_is_last : (given : List Event) → (course given).history ≡ (world_after (happenings given)).history
+-- the history in the end is that of the last state
+pub history_is_last : (given : List Event) → (course given).history ≡ (world_after (actions given)).history
 history_is_last given = ap (λ (w : World). w.history) (course_is given)
 
--- the history at each moment is a front of the last
-pub grows_to_last : (given : List Event) (before behind : List Happening) → happenings given ≡ before ++ behind → (more : List Decided) × ((course given).history ≡ (world_after before).history ++ more)
-grows_to_last given before behind parted =
-    let on = grows before behind in
-    (on.entries, ap (λ (w : World). w.history) (course_is given ∙ ap world_after parted) ∙ on.history)
+-- the history in each state is a prefix of the last
+pub grows_to_last : (given : List Event) (before suffix : List Action) → actions given ≡ before ++ suffix → (more : List Decided) × ((course given).history ≡ (world_after before).history ++ more)
+grows_to_last given before suffix separated =
+    let on = grows before suffix in
+    (on.entries, ap (λ (w : World). w.history) (course_is given ∙ ap world_after separated) ∙ on.history)
 
--- a site that stands among the one is that one
+-- each site of the world is the one site
 the_one : (sites : List SiteState) (state site : SiteState) (number : ℕ) → sites ≡ state ∷ [] → slice_get sites number ≡ Some site → site ≡ state
 the_one [] state site number e at = absurd cc
 the_one (first ∷ []) state site zero e at = cc
@@ -73,7 +73,7 @@ the_one (first ∷ []) state site (suc number) e at = absurd cc
 the_one (first ∷ next ∷ sites) state site number e at = absurd cc
 
 module _ (given : List Event) (can : Playable given) where
-  end : Moment (λ before state givens history. Entered given state givens history) (happenings given) (course given)
+  end : StateAt (λ before state givens history. Entered given state givens history) (actions given) (course given)
   end = in_the_end given can
 
   pub entries_distinct : (i j : ℕ) (a b : Decided) → i < j → slice_get (course given).history i ≡ Some a → slice_get (course given).history j ≡ Some b → (a.txn ≢ b.txn) × (a.origin ≢ b.origin)
@@ -84,24 +84,24 @@ module _ (given : List Event) (can : Playable given) where
           let both : txn_at i ≡ txn_at j = sym (end.holds.txns i a at_a) ∙ same ∙ end.holds.txns j b at_b in
           omega (arith, lt, ap (λ (t : Txn). t.number) both)
 
-  pub entries_asked : (i : ℕ) (entry : Decided) → slice_get (course given).history i ≡ Some entry → Takes given entry.origin entry.text
-  entries_asked i entry at = (end.holds.entries i entry at).takes
+  pub entries_asked : (i : ℕ) (entry : Decided) → slice_get (course given).history i ≡ Some entry → Accepts given entry.origin entry.text
+  entries_asked i entry at = (end.holds.entries i entry at).accepts
 
-  pub answers_are_meaning : (k : ℕ) (told : Given) → slice_get (course given).replies k ≡ Some told → IsCommitted told.reply → (i : ℕ) × IsMeaningAt (course given).history i told
-  answers_are_meaning k told at committed = end.holds.answers k told at committed
+  pub answers_are_meaning : (k : ℕ) (reported : Given) → slice_get (course given).replies k ≡ Some reported → IsCommitted reported.reply → (i : ℕ) × IsMeaningAt (course given).history i reported
+  answers_are_meaning k reported at committed = end.holds.answers k reported at committed
 
-  -- at each moment a site's database is that of the history so far
-  pub stores_follow : (before behind : List Happening) (number : ℕ) (site : SiteState) → happenings given ≡ before ++ behind
+  -- in each state a site's database is that of the history so far
+  pub stores_follow : (before suffix : List Action) (number : ℕ) (site : SiteState) → actions given ≡ before ++ suffix
       → slice_get (world_after before).sites number ≡ Some site → site.database ≡ database_of (world_after before).history
-  stores_follow [] behind number site parted at = absurd cc
-  stores_follow (first ∷ done) behind number site parted at =
-      let heads : Open 1 ∷ can.others ≡ first ∷ (done ++ behind) = sym can.parted ∙ parted in
+  stores_follow [] suffix number site separated at = absurd cc
+  stores_follow (first ∷ done) suffix number site separated at =
+      let heads : Open 1 ∷ can.others ≡ first ∷ (done ++ suffix) = sym can.separated ∙ separated in
       let opens : first ≡ Open 1 = cc in
-      let rest : can.others ≡ done ++ behind = cc in
-      let now = at_each given can (λ before state givens history. Entered given state givens history) (entered_law given) done behind rest in
-      let there : slice_get (after done).sites number ≡ Some site = subst (λ (h : Happening). slice_get (world_after (h ∷ done)).sites number ≡ Some site) opens at in
+      let rest : can.others ≡ done ++ suffix = cc in
+      let now = at_each given can (λ before state givens history. Entered given state givens history) (entered_law given) done suffix rest in
+      let there : slice_get (after done).sites number ≡ Some site = subst (λ (h : Action). slice_get (world_after (h ∷ done)).sites number ≡ Some site) opens at in
       let is : site ≡ now.site = the_one (after done).sites now.site site number now.stands.one.sites there in
-      subst (λ (h : Happening). site.database ≡ database_of (world_after (h ∷ done)).history) (sym opens) (ap (λ (s : SiteState). s.database) is ∙ now.holds.database)
+      subst (λ (h : Action). site.database ≡ database_of (world_after (h ∷ done)).history) (sym opens) (ap (λ (s : SiteState). s.database) is ∙ now.holds.database)
 
   pub stores_agree : (report_of (course given)).sites ≡ (record { site = 1; epoch = 1; tables = database_of (course given).history }) ∷ []
   stores_agree =

@@ -1,4 +1,4 @@
--- At each moment what was told is true, kept and entered, and each entry was asked before.
+-- In each state the replies are true, stored and entered, and each entry was asked before.
 use Rattle.std.proofs.Common.{◌≡◌, ℕ, ◌⊎◌, inl, inr, List, [], ◌∷◌, ◌++◌, Some, None, false, IsTrue, refl, sym, ap, subst, ◌∙◌}
 use Rattle.std.specs.List.{slice_get, Contains}
 use Rattle.std.proofs.lemmas.List.{append-nil}
@@ -12,24 +12,24 @@ use Rattle.rs_sched.specs.Schedule.{IsValid}
 use Rattle.rs_site.specs.declared.outs.Decided.{Decided}
 use Rattle.rs_site.specs.declared.outs.Outs.{Outs}
 use Rattle.rs_site.specs.State.{SiteState, opened}
-use Rattle.rs_site.proofs.Asked.{Asked, Refused, ToldAgain, Silent, NoRequest, Spent, Executed}
+use Rattle.rs_site.proofs.Asked.{Asked, Refused, RepliedAgain, Silent, NoRequest, Spent, Executed}
 use Rattle.rs_world.specs.declared.report.Given.{Given}
 use Rattle.rs_world.specs.declared.world.World.{World}
 use Rattle.rs_world.specs.Accepted.{are_accepted}
-use Rattle.rs_world.specs.Course.{Happening, Open, Post, course}
-use Rattle.rs_world.specs.Moments.{happenings, world_after}
-use Rattle.rs_world.proofs.AtEach.{Moment, IsLaw, at_each}
+use Rattle.rs_world.specs.Course.{Action, Open, Post, course}
+use Rattle.rs_world.specs.States.{actions, world_after}
+use Rattle.rs_world.proofs.AtEach.{StateAt, IsLaw, at_each}
 use Rattle.rs_world.proofs.Kept.{Kept}
 use Rattle.rs_world.proofs.Gets.{get_push}
 use Rattle.rs_world.proofs.Played.{Playable, playable, course_is}
-use Rattle.rs_world.proofs.Told.{told_keeps}
+use Rattle.rs_world.proofs.Reports.{reported_keeps}
 
--- each entry of the history was asked among these happenings
-abbrev pub ArePosted : List Happening → List Decided → Type 0
+-- each entry of the history was asked among these actions
+abbrev pub ArePosted : List Action → List Decided → Type 0
 ArePosted before history = (i : ℕ) (entry : Decided) → slice_get history i ≡ Some entry → Contains before (Post entry.origin entry.text)
 
-pub record Holds (all : List Event) (before : List Happening) (site : SiteState) (tolds : List Given) (history : List Decided) : Type 0 where
-  pub kept : Kept all site tolds history
+pub record Holds (all : List Event) (before : List Action) (site : SiteState) (reports : List Given) (history : List Decided) : Type 0 where
+  pub kept : Kept all site reports history
   pub posted : ArePosted before history
 
 -- ---- at the opening
@@ -42,17 +42,17 @@ nothing_at k x e = cc
 
 kept_first : (all : List Event) → Kept all (opened 1 1) [] []
 kept_first all = record {
-  truly = λ k told at. absurd (nothing_at k told at);
-  syntax_told = λ k place told at. absurd (nothing_at k told at);
-  syntax_kept = λ user place at. absurd (no_reply (replies.Syntax place) at);
+  truly = λ k reported at. absurd (nothing_at k reported at);
+  syntax_replied = λ k position reported at. absurd (nothing_at k reported at);
+  syntax_kept = λ user position at. absurd (no_reply (replies.Syntax position) at);
   keepable = λ user reply at. absurd (no_reply reply at);
-  settled = λ k told at. absurd (nothing_at k told at);
+  settled = λ k reported at. absurd (nothing_at k reported at);
   again = λ k l a b at_a at_b. absurd (nothing_at k a at_a);
-  entered_told = λ k told at. absurd (nothing_at k told at);
+  entered_replied = λ k reported at. absurd (nothing_at k reported at);
   entered_kept = λ user reply at. absurd (no_reply reply at);
 }
 
--- ---- by what is heard
+---- by a received ask
 
 -- what was committed is what was asked
 pub record IsEntryOf (origin : Origin) (text : List ℕ) (entry : Decided) : Type 0 where
@@ -64,13 +64,13 @@ AreOf origin text entries = (entries ≡ []) ⊎ ((entry : Decided) × (entries 
 
 are_of : (site : SiteState) (origin : Origin) (text : List ℕ) (came : SiteState × Outs) → Asked site (peers.Client 0) origin text came → AreOf origin text came.1.decided
 are_of site origin text came (Refused reply is true e) = inl (ap (λ (p : SiteState × Outs). p.1.decided) e)
-are_of site origin text came (ToldAgain reply last kept e) = inl (ap (λ (p : SiteState × Outs). p.1.decided) e)
+are_of site origin text came (RepliedAgain reply last kept e) = inl (ap (λ (p : SiteState × Outs). p.1.decided) e)
 are_of site origin text came (Silent last kept e) = inl (ap (λ (p : SiteState × Outs). p.1.decided) e)
 are_of site origin text came (NoRequest next none e) = inl (ap (λ (p : SiteState × Outs). p.1.decided) e)
 are_of site origin text came (Spent next stmt reads spent e) = inl (ap (λ (p : SiteState × Outs). p.1.decided) e)
 are_of site origin text came (Executed next stmt reads room e) = inr (_, ap (λ (p : SiteState × Outs). p.1.decided) e, record { origin_is = refl; text_is = refl })
 
-module _ (before : List Happening) (history : List Decided) (posted : ArePosted before history) where
+module _ (before : List Action) (history : List Decided) (posted : ArePosted before history) where
   posted_push : (entry : Decided) → Contains before (Post entry.origin entry.text) → ArePosted before (history ++ entry ∷ [])
   posted_push entry new i found at =
       elim (get_push history entry found i at) [
@@ -78,9 +78,9 @@ module _ (before : List Happening) (history : List Decided) (posted : ArePosted 
         | inr p ↦ subst (λ (e : Decided). Contains before (Post e.origin e.text)) p.1 new
       ]
 
-  posted_heard : (origin : Origin) (text : List ℕ) → Contains before (Post origin text) → (entries : List Decided) → AreOf origin text entries → ArePosted before (history ++ entries)
-  posted_heard origin text asked entries (inl none) = subst (ArePosted before) (sym (ap (λ (es : List Decided). history ++ es) none ∙ append-nil history)) posted
-  posted_heard origin text asked entries (inr one) =
+  posted_received : (origin : Origin) (text : List ℕ) → Contains before (Post origin text) → (entries : List Decided) → AreOf origin text entries → ArePosted before (history ++ entries)
+  posted_received origin text asked entries (inl none) = subst (ArePosted before) (sym (ap (λ (es : List Decided). history ++ es) none ∙ append-nil history)) posted
+  posted_received origin text asked entries (inr one) =
       let of_text : Contains before (Post origin one.0.text) = subst (λ (t : List ℕ). Contains before (Post origin t)) (sym one.2.text_is) asked in
       let new : Contains before (Post one.0.origin one.0.text) = subst (λ (o : Origin). Contains before (Post o one.0.text)) (sym one.2.origin_is) of_text in
       subst (λ (es : List Decided). ArePosted before (history ++ es)) (sym one.1) (posted_push one.0 new)
@@ -88,41 +88,41 @@ module _ (before : List Happening) (history : List Decided) (posted : ArePosted 
 is_law : (all : List Event) → IsLaw all (Holds all)
 is_law all = record {
   first = record { kept = kept_first all; posted = λ i entry at. absurd (nothing_at i entry at) };
-  later = λ before happening site tolds history holds. record {
+  later = λ before action site reports history holds. record {
     kept = holds.kept;
-    posted = λ i entry at. Contains-append_left before (happening ∷ []) (Post entry.origin entry.text) (holds.posted i entry at);
+    posted = λ i entry at. Contains-append_left before (action ∷ []) (Post entry.origin entry.text) (holds.posted i entry at);
   };
-  heard = λ before site origin text came next delivers cases holds. record {
-    kept = told_keeps all before site (peers.Client 0) origin text next.hears next.post.within.text (next.post.site ∙ sym next.stands.one.me) (world_after before).replies (world_after before).history refl
+  received = λ before site origin text came next delivers cases holds. record {
+    kept = reported_keeps all before site (peers.Client 0) origin text next.receives next.post.within.text (next.post.site ∙ sym next.stands.one.me) (world_after before).replies (world_after before).history refl
         holds.kept came cases (ap (λ (w : World). w.replies) delivers);
-    posted = posted_heard before (world_after before).history holds.posted origin text next.posted came.1.decided (are_of site origin text came cases);
+    posted = posted_received before (world_after before).history holds.posted origin text next.posted came.1.decided (are_of site origin text came cases);
   };
 }
 
--- ---- each moment
+---- each state
 
 module _ (all : List Event) (play : Playable all) where
-  abbrev At : List Happening → World → Type 0
-  At before world = Moment (Holds all) before world
+  abbrev At : List Action → World → Type 0
+  At before world = StateAt (Holds all) before world
 
-  at_front : (before behind : List Happening) → happenings all ≡ before ++ behind → (before ≡ []) ⊎ At before (world_after before)
-  at_front [] behind e = inl refl
-  at_front (first ∷ done) behind e =
-      let same : Open 1 ∷ play.others ≡ first ∷ (done ++ behind) = sym play.parted ∙ e in
+  at_prefix : (before suffix : List Action) → actions all ≡ before ++ suffix → (before ≡ []) ⊎ At before (world_after before)
+  at_prefix [] suffix e = inl refl
+  at_prefix (first ∷ done) suffix e =
+      let same : Open 1 ∷ play.others ≡ first ∷ (done ++ suffix) = sym play.separated ∙ e in
       let is : Open 1 ≡ first = cc in
-      let others : play.others ≡ done ++ behind = cc in
-      inr (subst (λ (h : Happening). At (h ∷ done) (world_after (h ∷ done))) is (at_each all play (Holds all) (is_law all) done behind others))
+      let others : play.others ≡ done ++ suffix = cc in
+      inr (subst (λ (h : Action). At (h ∷ done) (world_after (h ∷ done))) is (at_each all play (Holds all) (is_law all) done suffix others))
 
-  at_last : At (happenings all) (course all)
+  at_last : At (actions all) (course all)
   at_last =
       let now = at_each all play (Holds all) (is_law all) play.others [] (sym (append-nil play.others)) in
-      let whole : At (happenings all) (world_after (happenings all)) = subst (λ (hs : List Happening). At hs (world_after hs)) (sym play.parted) now in
-      subst (At (happenings all)) (sym (course_is all)) whole
+      let whole : At (actions all) (world_after (actions all)) = subst (λ (hs : List Action). At hs (world_after hs)) (sym play.separated) now in
+      subst (At (actions all)) (sym (course_is all)) whole
 
 -- at the end
-pub holds_last : (all : List Event) → IsValid all → IsTrue (are_accepted false all) → Moment (Holds all) (happenings all) (course all)
+pub holds_last : (all : List Event) → IsValid all → IsTrue (are_accepted false all) → StateAt (Holds all) (actions all) (course all)
 holds_last all valid are = at_last all (playable all valid are)
 
--- at each moment, but for the one before the opening
-pub holds_at : (all : List Event) → IsValid all → IsTrue (are_accepted false all) → (before behind : List Happening) → happenings all ≡ before ++ behind → (before ≡ []) ⊎ Moment (Holds all) before (world_after before)
-holds_at all valid are = at_front all (playable all valid are)
+-- in each state, but for the one before the opening
+pub holds_at : (all : List Event) → IsValid all → IsTrue (are_accepted false all) → (before suffix : List Action) → actions all ≡ before ++ suffix → (before ≡ []) ⊎ StateAt (Holds all) before (world_after before)
+holds_at all valid are = at_prefix all (playable all valid are)

@@ -6,7 +6,7 @@ pub mod Entering
 pub mod Explaining
 pub mod Gets
 pub mod Growing
-pub mod Heard
+pub mod Received
 pub mod HistoryFields
 pub mod Holding
 pub mod Kept
@@ -20,7 +20,7 @@ pub mod Refusals
 pub mod Replied
 pub mod Reported
 pub mod Standing
-pub mod Told
-pub mod ToldAgain
+pub mod Reports
+pub mod RepliedAgain
 pub mod Turns
 pub mod Walk

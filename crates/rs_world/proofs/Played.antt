@@ -1,5 +1,5 @@
--- What may happen by valid events that are accepted: site 1 is opened, and then asks of it are posted within their
--- limits, datagrams delivered, and noise given to it.
+-- The actions of valid events that are accepted: site 1 is opened, and then asks of it are posted within their limits,
+-- datagrams delivered, and noise given to it.
 use Rattle.std.proofs.Common.{◌≡◌, ◌≤◌, ℕ, zero, suc, Bool, true, false, ◌&&◌, List, [], ◌∷◌, ◌++◌, Some, None, IsTrue, refl, sym, ap, subst, ◌∙◌, arith}
 use Rattle.std.specs.Prelude.{fold, replicate, ◌==◌}
 use Rattle.std.proofs.lemmas.Bool.Decides.{nat_tests}
@@ -12,10 +12,10 @@ use Rattle.rs_sched.specs.declared.event.Event.TheVariants as events
 use Rattle.rs_sched.specs.Schedule.{IsValid, IsLater, AreLater}
 use Rattle.rs_world.specs.Accepted.{may_come, is_open_after, are_accepted}
 use Rattle.rs_world.specs.declared.world.World.{World}
-use Rattle.rs_world.specs.Course.{Happening, Open, Post, Deliver, Noise, deliveries, happenings_of, happen, world_step, start, course}
-use Rattle.rs_world.specs.Moments.{happenings, world_after}
+use Rattle.rs_world.specs.Course.{Action, Open, Post, Deliver, Noise, deliveries, actions_of, act, world_step, start, course}
+use Rattle.rs_world.specs.States.{actions, world_after}
 
--- the message by which a first part is asked for
+-- the message that asks for a first part
 abbrev pub ask_of : Origin → List ℕ → Ask
 ask_of origin text = record { user = origin.user; epoch = origin.epoch; number = origin.number; part = 0; text = text }
 
@@ -24,29 +24,29 @@ pub record IsPost (origin : Origin) (text : List ℕ) : Type 0 where
   pub site : origin.site ≡ 1
   pub within : IsAskWithin (ask_of origin text)
 
-abbrev pub IsPlayed : Happening → Type 0
+abbrev pub IsPlayed : Action → Type 0
 IsPlayed (Open last) = ⊥
 IsPlayed (Post origin text) = IsPost origin text
 IsPlayed Deliver = Unit {0}
 IsPlayed (Noise site bytes) = site ≡ 1
 
-unfoldable pub ArePlayed : List Happening → Type 0
+unfoldable pub ArePlayed : List Action → Type 0
 ArePlayed [] = Unit {0}
-ArePlayed (happening ∷ others) = IsPlayed happening × ArePlayed others
+ArePlayed (action ∷ others) = IsPlayed action × ArePlayed others
 
 pub played_none : ArePlayed []
 unfolding ArePlayed
 played_none = tt
 
-pub played_more : (happening : Happening) (others : List Happening) → IsPlayed happening → ArePlayed others → ArePlayed (happening ∷ others)
+pub played_more : (action : Action) (others : List Action) → IsPlayed action → ArePlayed others → ArePlayed (action ∷ others)
 unfolding ArePlayed
-played_more happening others one all = (one, all)
+played_more action others one all = (one, all)
 
-pub played_first : (happening : Happening) (others : List Happening) → ArePlayed (happening ∷ others) → IsPlayed happening × ArePlayed others
+pub played_first : (action : Action) (others : List Action) → ArePlayed (action ∷ others) → IsPlayed action × ArePlayed others
 unfolding ArePlayed
-played_first happening others are = are
+played_first action others are = are
 
-played_both : (xs ys : List Happening) → ArePlayed xs → ArePlayed ys → ArePlayed (xs ++ ys)
+played_both : (xs ys : List Action) → ArePlayed xs → ArePlayed ys → ArePlayed (xs ++ ys)
 played_both [] ys a b = b
 played_both (x ∷ xs) ys a b =
     let parts = played_first x xs a in
@@ -68,15 +68,15 @@ pub both_true : (a b : Bool) → (a && b) ≡ true → (a ≡ true) × (b ≡ tr
 both_true true b e = (refl, e)
 both_true false b e = absurd cc
 
--- an ask behind the opening is one of site 1
+-- an ask after the opening is one of site 1
 pub is_post : (origin : Origin) (text : List ℕ) → IsLater 1 (events.Ask origin text) → IsPost origin text
 is_post origin text later = record {
   site = omega (arith, later.fits.fields.site.0, later.fits.site_right);
   within = record { user = later.fits.fields.user; epoch = later.fits.fields.epoch; number = later.fits.fields.number; part = omega arith; text = later.text.short };
 }
 
--- what happens by one event
-played_event : (is_open : Bool) (event : Event) → IsLater 1 event → may_come is_open event ≡ true → ArePlayed (happenings_of event)
+-- the actions of one event
+played_event : (is_open : Bool) (event : Event) → IsLater 1 event → may_come is_open event ≡ true → ArePlayed (actions_of event)
 played_event is_open (events.Sites last) later may = absurd (later.fits.sites_once tt)
 played_event is_open (events.Ask origin text) later may = played_more (Post origin text) [] (is_post origin text later) played_none
 played_event is_open (events.Settle None) later may = played_deliveries
@@ -89,16 +89,16 @@ played_event is_open (events.Stop site k j) later may = played_none
 played_event is_open (events.Arm site c k j) later may = played_none
 played_event is_open (events.Restart site) later may = played_none
 
-played_events : (is_open : Bool) (given : List Event) → AreLater 1 given → are_accepted is_open given ≡ true → ArePlayed (happenings given)
+played_events : (is_open : Bool) (given : List Event) → AreLater 1 given → are_accepted is_open given ≡ true → ArePlayed (actions given)
 played_events is_open [] later are = played_none
 played_events is_open (event ∷ others) later are =
     let parts = both_true (may_come is_open event) (are_accepted (is_open_after is_open event) others) are in
-    played_both (happenings_of event) (happenings others) (played_event is_open event later.0 parts.0) (played_events (is_open_after is_open event) others later.1 parts.1)
+    played_both (actions_of event) (actions others) (played_event is_open event later.0 parts.0) (played_events (is_open_after is_open event) others later.1 parts.1)
 
--- Site 1 is opened, and what happens then may.
+-- Site 1 is opened, and the later actions are allowed.
 pub record Playable (given : List Event) : Type 0 where
-  pub others : List Happening
-  pub parted : happenings given ≡ Open 1 ∷ others
+  pub others : List Action
+  pub separated : actions given ≡ Open 1 ∷ others
   pub are : ArePlayed others
 
 pub one_site : (last : ℕ) (others : List Event) → IsTrue (are_accepted false (events.Sites last ∷ others)) → last ≡ 1
@@ -110,8 +110,8 @@ playable (events.Sites last ∷ others) valid are =
     let parts = both_true (last == 1) (are_accepted false others) are in
     let one = one_site last others are in
     record {
-      others = happenings others;
-      parted = ap (λ (n : ℕ). Open n ∷ happenings others) one;
+      others = actions others;
+      separated = ap (λ (n : ℕ). Open n ∷ actions others) one;
       are = played_events false others (subst (λ (n : ℕ). AreLater n others) one valid.1) parts.1;
     }
 playable (events.Ask origin text ∷ others) valid are = absurd valid
@@ -124,12 +124,12 @@ playable (events.Restart site ∷ others) valid are = absurd valid
 playable (events.Settle count ∷ others) valid are = absurd valid
 playable (events.Noise site bytes ∷ others) valid are = absurd valid
 
--- ---- the course as a fold of happenings
+---- the course as a fold of actions
 
-course_from : (given : List Event) (world : World) → fold world_step world given ≡ fold happen world (happenings given)
+course_from : (given : List Event) (world : World) → fold world_step world given ≡ fold act world (actions given)
 course_from [] world = refl
 course_from (event ∷ others) world =
-    course_from others (world_step world event) ∙ sym (fold-append happen world (happenings_of event) (happenings others))
+    course_from others (world_step world event) ∙ sym (fold-append act world (actions_of event) (actions others))
 
-pub course_is : (given : List Event) → course given ≡ world_after (happenings given)
+pub course_is : (given : List Event) → course given ≡ world_after (actions given)
 course_is given = course_from given start

@@ -1,4 +1,4 @@
--- What is posted and what waits, by the happenings alone.
+-- What is posted and what waits, by the actions alone.
 use Rattle.std.proofs.Common.{◌≡◌, ◌≤◌, ℕ, zero, suc, ◌+◌, ◌-◌, Bool, true, false, not, List, [], ◌∷◌, ◌++◌, length, Some, None, IsTrue, refl, ap, ◌∙◌, arith, length-append}
 use Rattle.std.specs.Prelude.{fold, flat_map, replicate}
 use Rattle.std.proofs.lemmas.List.{append-nil}
@@ -9,22 +9,22 @@ use Rattle.rs_sched.specs.declared.event.Event.{Event}
 use Rattle.rs_sched.specs.declared.event.Event.TheVariants as events
 use Rattle.rs_world.specs.Accepted.{may_come, is_open_after, are_accepted}
 use Rattle.rs_world.specs.Answered.{numbered, asked_by, requests_asked}
-use Rattle.rs_world.specs.Course.{Happening, Open, Post, Deliver, Noise, deliveries, happenings_of}
-use Rattle.rs_world.specs.Moments.{happenings}
+use Rattle.rs_world.specs.Course.{Action, Open, Post, Deliver, Noise, deliveries, actions_of}
+use Rattle.rs_world.specs.States.{actions}
 use Rattle.rs_world.proofs.Played.{deliveries_are, both_true}
 
 -- ---- what is posted
 
-abbrev pub posts_in : Happening → List (Origin × List ℕ)
+abbrev pub posts_in : Action → List (Origin × List ℕ)
 posts_in (Open last) = []
 posts_in (Post origin text) = (origin, text) ∷ []
 posts_in Deliver = []
 posts_in (Noise site bytes) = []
 
-abbrev pub posts_of : List Happening → List (Origin × List ℕ)
+abbrev pub posts_of : List Action → List (Origin × List ℕ)
 posts_of hs = flat_map posts_in hs
 
-pub posts_push : (hs : List Happening) (h : Happening) → posts_of (hs ++ h ∷ []) ≡ posts_of hs ++ posts_in h
+pub posts_push : (hs : List Action) (h : Action) → posts_of (hs ++ h ∷ []) ≡ posts_of hs ++ posts_in h
 posts_push hs h = flat_map-append posts_in hs (h ∷ []) ∙ ap (λ (ps : List (Origin × List ℕ)). posts_of hs ++ ps) (append-nil (posts_in h))
 
 abbrev pub numbered_of : List (Origin × List ℕ) → List Origin
@@ -37,7 +37,7 @@ posts_again (suc n) = posts_again n
 posts_deliveries : posts_of deliveries ≡ []
 posts_deliveries = ap posts_of deliveries_are.2 ∙ posts_again deliveries_are.0
 
-posts_event : (event : Event) → numbered_of (posts_of (happenings_of event)) ≡ asked_by event
+posts_event : (event : Event) → numbered_of (posts_of (actions_of event)) ≡ asked_by event
 posts_event (events.Sites last) = refl
 posts_event (events.Ask origin text) = append-nil (numbered origin)
 posts_event (events.Settle None) = ap numbered_of posts_deliveries
@@ -51,15 +51,15 @@ posts_event (events.Arm site c k j) = refl
 posts_event (events.Restart site) = refl
 
 -- what is posted is what is asked
-pub posts_are_asked : (given : List Event) → numbered_of (posts_of (happenings given)) ≡ requests_asked given
+pub posts_are_asked : (given : List Event) → numbered_of (posts_of (actions given)) ≡ requests_asked given
 posts_are_asked [] = refl
 posts_are_asked (event ∷ others) =
-    ap numbered_of (flat_map-append posts_in (happenings_of event) (happenings others))
-    ∙ flat_map-append (λ (post : Origin × List ℕ). numbered post.0) (posts_of (happenings_of event)) (posts_of (happenings others))
-    ∙ ap (λ (os : List Origin). os ++ numbered_of (posts_of (happenings others))) (posts_event event)
+    ap numbered_of (flat_map-append posts_in (actions_of event) (actions others))
+    ∙ flat_map-append (λ (post : Origin × List ℕ). numbered post.0) (posts_of (actions_of event)) (posts_of (actions others))
+    ∙ ap (λ (os : List Origin). os ++ numbered_of (posts_of (actions others))) (posts_event event)
     ∙ ap (λ (os : List Origin). asked_by event ++ os) (posts_are_asked others)
 
-one_post : (event : Event) → length (posts_of (happenings_of event)) ≤ 1
+one_post : (event : Event) → length (posts_of (actions_of event)) ≤ 1
 one_post (events.Sites last) = omega arith
 one_post (events.Ask origin text) = omega arith
 one_post (events.Settle None) = omega (arith, ap (λ (ps : List (Origin × List ℕ)). length ps) posts_deliveries)
@@ -73,30 +73,30 @@ one_post (events.Arm site c k j) = omega arith
 one_post (events.Restart site) = omega arith
 
 -- no more is posted than there are events
-pub few_posts : (given : List Event) → length (posts_of (happenings given)) ≤ length given
+pub few_posts : (given : List Event) → length (posts_of (actions given)) ≤ length given
 few_posts [] = omega arith
 few_posts (event ∷ others) = omega (
   arith,
-  ap (λ (ps : List (Origin × List ℕ)). length ps) (flat_map-append posts_in (happenings_of event) (happenings others)),
-  length-append (posts_of (happenings_of event)) (posts_of (happenings others)),
+  ap (λ (ps : List (Origin × List ℕ)). length ps) (flat_map-append posts_in (actions_of event) (actions others)),
+  length-append (posts_of (actions_of event)) (posts_of (actions others)),
   one_post event,
   few_posts others,
 )
 
 -- ---- what waits
 
--- how many asks wait after a happening
-abbrev pub waits : ℕ → Happening → ℕ
+-- the number of asks that wait after an action
+abbrev pub waits : ℕ → Action → ℕ
 waits n (Open last) = n
 waits n (Post origin text) = n + 1
 waits n Deliver = n - 1
 waits n (Noise site bytes) = n
 
--- how many wait after these happenings
-abbrev pub waiting : List Happening → ℕ
+-- the number that wait after these actions
+abbrev pub waiting : List Action → ℕ
 waiting hs = fold waits 0 hs
 
--- at most one waits where an ask is unsettled, and none where none is
+-- at most one waits if an ask is unsettled, and none if none is
 abbrev pub IsCalm : Bool → ℕ → Type 0
 IsCalm true n = n ≤ 1
 IsCalm false n = n ≡ 0
@@ -116,9 +116,9 @@ calm_is_few true w calm = calm
 calm_is_few false w calm = omega (arith, calm)
 
 after_settle : (w : ℕ) → w ≤ 1 → fold waits w deliveries ≡ 0
-after_settle w le = ap (λ (hs : List Happening). fold waits w hs) deliveries_are.2 ∙ none_waits_then w deliveries_are.0 le deliveries_are.1
+after_settle w le = ap (λ (hs : List Action). fold waits w hs) deliveries_are.2 ∙ none_waits_then w deliveries_are.0 le deliveries_are.1
 
-calm_event : (unsettled : Bool) (event : Event) (w : ℕ) → may_come unsettled event ≡ true → IsCalm unsettled w → IsCalm (is_open_after unsettled event) (fold waits w (happenings_of event))
+calm_event : (unsettled : Bool) (event : Event) (w : ℕ) → may_come unsettled event ≡ true → IsCalm unsettled w → IsCalm (is_open_after unsettled event) (fold waits w (actions_of event))
 calm_event unsettled (events.Sites last) w may calm = calm
 calm_event true (events.Ask origin text) w may calm = absurd cc
 calm_event false (events.Ask origin text) w may calm = omega (arith, calm)
@@ -136,13 +136,13 @@ calm_end : (unsettled : Bool) (w : ℕ) → not unsettled ≡ true → IsCalm un
 calm_end true w e calm = absurd cc
 calm_end false w e calm = calm
 
-calm_from : (unsettled : Bool) (given : List Event) (w : ℕ) → are_accepted unsettled given ≡ true → IsCalm unsettled w → fold waits w (happenings given) ≡ 0
+calm_from : (unsettled : Bool) (given : List Event) (w : ℕ) → are_accepted unsettled given ≡ true → IsCalm unsettled w → fold waits w (actions given) ≡ 0
 calm_from unsettled [] w are calm = calm_end unsettled w are calm
 calm_from unsettled (event ∷ others) w are calm =
     let parts = both_true (may_come unsettled event) (are_accepted (is_open_after unsettled event) others) are in
-    fold-append waits w (happenings_of event) (happenings others)
-    ∙ calm_from (is_open_after unsettled event) others (fold waits w (happenings_of event)) parts.1 (calm_event unsettled event w parts.0 calm)
+    fold-append waits w (actions_of event) (actions others)
+    ∙ calm_from (is_open_after unsettled event) others (fold waits w (actions_of event)) parts.1 (calm_event unsettled event w parts.0 calm)
 
 -- at the end none waits
-pub none_left_waiting : (given : List Event) → IsTrue (are_accepted false given) → waiting (happenings given) ≡ 0
+pub none_left_waiting : (given : List Event) → IsTrue (are_accepted false given) → waiting (actions given) ≡ 0
 none_left_waiting given are = calm_from false given 0 are refl

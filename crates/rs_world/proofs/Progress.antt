@@ -1,4 +1,4 @@
--- At each moment the replies answer the asks that were delivered, and the rest of what was posted waits.
+-- In each state the replies answer the asks that were delivered, and the rest of what was posted waits.
 use Rattle.std.proofs.Common.{◌≡◌, ◌<◌, ◌≤◌, ℕ, zero, suc, ◌+◌, Bool, true, false, cond, ◌||◌, inl, inr, List, [], ◌∷◌, ◌++◌, map, length, take, Some, None, refl, sym, ap, subst, ◌∙◌, arith, length-append}
 use Rattle.std.specs.Prelude.{◌==◌}
 use Rattle.std.specs.List.{slice_get}
@@ -14,30 +14,30 @@ use Rattle.rs_site.specs.declared.session.Session.{Session}
 use Rattle.rs_site.specs.declared.outs.Outs.{Outs}
 use Rattle.rs_site.specs.declared.outs.Decided.{Decided}
 use Rattle.rs_site.specs.Asking.{last_number, on_first, remembering}
-use Rattle.rs_site.specs.Sessions.{Book, session_of, is_there, may_go_on}
+use Rattle.rs_site.specs.Sessions.{Book, session_of, is_there, last_is_answered}
 use Rattle.rs_site.specs.State.{SiteState}
-use Rattle.rs_site.proofs.Asked.{Asked, Refused, ToldAgain, Silent, NoRequest, Spent, Executed, asked}
-use Rattle.rs_site.proofs.PutSessions.{session_put, session_beside, user_tells}
+use Rattle.rs_site.proofs.Asked.{Asked, Refused, RepliedAgain, Silent, NoRequest, Spent, Executed, asked}
+use Rattle.rs_site.proofs.PutSessions.{session_put, session_beside, user_is}
 use Rattle.rs_world.specs.declared.report.Given.{Given}
 use Rattle.rs_world.specs.declared.world.Datagram.{Datagram}
 use Rattle.rs_world.specs.declared.world.World.{World}
 use Rattle.rs_world.specs.Answered.{numbered, requests_answered}
-use Rattle.rs_world.specs.Course.{Happening, Open, Post, Deliver, Noise, given_of, ask_datagram, happen}
-use Rattle.rs_world.proofs.AtEach.{IsLaw, Moment, at_each}
+use Rattle.rs_world.specs.Course.{Action, Open, Post, Deliver, Noise, given_of, ask_datagram, act}
+use Rattle.rs_world.proofs.AtEach.{IsLaw, StateAt, at_each}
 use Rattle.rs_world.proofs.Deliveries.{nothing_left}
 use Rattle.rs_world.proofs.Entered.{Entered}
 use Rattle.rs_world.proofs.Entering.{entered_law}
 use Rattle.rs_world.proofs.Gets.{get_push, get_at, take-get}
-use Rattle.rs_world.proofs.Heard.{noise_stays}
+use Rattle.rs_world.proofs.Received.{noise_stays}
 use Rattle.rs_world.proofs.Played.{IsPost, IsPlayed, Playable}
 use Rattle.rs_world.proofs.Posts.{posts_in, posts_of, posts_push, numbered_of, waits, waiting}
-use Rattle.rs_world.proofs.Turns.{onward, turns_heard}
+use Rattle.rs_world.proofs.Turns.{onward, turns_received}
 use Rattle.rs_world.proofs.Walk.{after, after_push, walk}
 
 -- ---- the last request of each user is answered
 
 abbrev pub GoOn : SiteState → Type 0
-GoOn site = (user : List ℕ) → may_go_on (session_of user site.sessions) ≡ true
+GoOn site = (user : List ℕ) → last_is_answered (session_of user site.sessions) ≡ true
 
 or_true : (b : Bool) → (b || true) ≡ true
 or_true true = refl
@@ -45,11 +45,11 @@ or_true false = refl
 
 go_on_remembering : (site : SiteState) (origin : Origin) (reply : Reply) → GoOn site → GoOn (remembering site origin reply)
 go_on_remembering site origin reply go user =
-    elim (user_tells user origin.user) [
+    elim (user_is user origin.user) [
       | inl e ↦
           let is : session_of user book ≡ session = ap (λ (u : List ℕ). session_of u book) e ∙ session_put origin.user session site.sessions in
-          ap may_go_on is ∙ or_true (origin.number == 0)
-      | inr differ ↦ ap may_go_on (session_beside origin.user session site.sessions user differ) ∙ go user
+          ap last_is_answered is ∙ or_true (origin.number == 0)
+      | inr differ ↦ ap last_is_answered (session_beside origin.user session site.sessions user differ) ∙ go user
     ]
   where
     session : Session
@@ -58,28 +58,28 @@ go_on_remembering site origin reply go user =
     book : Book
     book = (remembering site origin reply).sessions
 
-go_on_heard : (site : SiteState) (origin : Origin) (text : List ℕ) (came : SiteState × Outs) → Asked site (peers.Client 0) origin text came → GoOn site → GoOn came.0
-go_on_heard site origin text came (Refused reply refusal is e) go = subst (λ (p : SiteState × Outs). GoOn p.0) (sym e) go
-go_on_heard site origin text came (ToldAgain reply last kept e) go = subst (λ (p : SiteState × Outs). GoOn p.0) (sym e) go
-go_on_heard site origin text came (Silent last kept e) go = subst (λ (p : SiteState × Outs). GoOn p.0) (sym e) go
-go_on_heard site origin text came (NoRequest next none e) go = subst (λ (p : SiteState × Outs). GoOn p.0) (sym e) (go_on_remembering site origin _ go)
-go_on_heard site origin text came (Spent next stmt reads spent e) go = subst (λ (p : SiteState × Outs). GoOn p.0) (sym e) go
-go_on_heard site origin text came (Executed next stmt reads room e) go = subst (λ (p : SiteState × Outs). GoOn p.0) (sym e) (go_on_remembering site origin _ go)
+go_on_received : (site : SiteState) (origin : Origin) (text : List ℕ) (came : SiteState × Outs) → Asked site (peers.Client 0) origin text came → GoOn site → GoOn came.0
+go_on_received site origin text came (Refused reply refusal is e) go = subst (λ (p : SiteState × Outs). GoOn p.0) (sym e) go
+go_on_received site origin text came (RepliedAgain reply last kept e) go = subst (λ (p : SiteState × Outs). GoOn p.0) (sym e) go
+go_on_received site origin text came (Silent last kept e) go = subst (λ (p : SiteState × Outs). GoOn p.0) (sym e) go
+go_on_received site origin text came (NoRequest next none e) go = subst (λ (p : SiteState × Outs). GoOn p.0) (sym e) (go_on_remembering site origin _ go)
+go_on_received site origin text came (Spent next stmt reads spent e) go = subst (λ (p : SiteState × Outs). GoOn p.0) (sym e) go
+go_on_received site origin text came (Executed next stmt reads room e) go = subst (λ (p : SiteState × Outs). GoOn p.0) (sym e) (go_on_remembering site origin _ go)
 
-abbrev pub Works : List Event → List Happening → SiteState → List Given → List Decided → Type 0
+abbrev pub Works : List Event → List Action → SiteState → List Given → List Decided → Type 0
 Works given before site givens history = GoOn site × Entered given site givens history
 
 pub works_law : (given : List Event) → IsLaw given (Works given)
 works_law given = record {
   first = (λ user. refl, (entered_law given).first);
-  later = λ before happening site givens history holds. holds;
-  heard = λ before site origin text came hearing delivers cases holds. (go_on_heard site origin text came cases holds.0, (entered_law given).heard before site origin text came hearing delivers cases holds.1);
+  later = λ before action site givens history holds. holds;
+  received = λ before site origin text came receiving delivers cases holds. (go_on_received site origin text came cases holds.0, (entered_law given).received before site origin text came receiving delivers cases holds.1);
 }
 
--- ---- what an ask gives that is heard
+---- the output of a received ask
 
--- where no reply is kept, no request was taken
-pub none_kept : (session : Session) → session.reply ≡ None → may_go_on session ≡ true → session.last ≡ 0
+-- if no reply is stored, no request was accepted
+pub none_kept : (session : Session) → session.reply ≡ None → last_is_answered session ≡ true → session.last ≡ 0
 none_kept session kept go =
     let none : is_there session.reply ≡ false = ap is_there kept in
     let first : (session.last == 0) ≡ true = by_none (session.last == 0) (is_there session.reply) none go in
@@ -93,18 +93,18 @@ not_numbered : (origin : Origin) → origin.number ≡ 0 → numbered origin ≡
 not_numbered origin none = ap (λ (n : ℕ). cond (n == 0) [] (origin ∷ [])) none
 
 module _ (site : SiteState) (origin : Origin) (text : List ℕ) (go : GoOn site) (room : site.begun < last_number) where
-  abbrev IsTold : SiteState × Outs → Type 0
-  IsTold came = (requests_answered (map given_of came.1.replies) ≡ numbered origin) × (length came.1.decided ≤ 1)
+  abbrev IsReplied : SiteState × Outs → Type 0
+  IsReplied came = (requests_answered (map given_of came.1.replies) ≡ numbered origin) × (length came.1.decided ≤ 1)
 
-  pub told_once : (came : SiteState × Outs) → Asked site (peers.Client 0) origin text came → IsTold came
-  told_once came (Refused reply refusal is e) = subst IsTold (sym e) (append-nil (numbered origin), omega arith)
-  told_once came (ToldAgain reply last kept e) = subst IsTold (sym e) (append-nil (numbered origin), omega arith)
-  told_once came (Silent last kept e) = subst IsTold (sym e) (sym (not_numbered origin (last.number ∙ none_kept (session_of origin.user site.sessions) kept (go origin.user))), omega arith)
-  told_once came (NoRequest next none e) = subst IsTold (sym e) (append-nil (numbered origin), omega arith)
-  told_once came (Spent next stmt reads spent e) = absurd (omega (arith, spent, room))
-  told_once came (Executed next stmt reads is e) = subst IsTold (sym e) (append-nil (numbered origin), omega arith)
+  pub reported_once : (came : SiteState × Outs) → Asked site (peers.Client 0) origin text came → IsReplied came
+  reported_once came (Refused reply refusal is e) = subst IsReplied (sym e) (append-nil (numbered origin), omega arith)
+  reported_once came (RepliedAgain reply last kept e) = subst IsReplied (sym e) (append-nil (numbered origin), omega arith)
+  reported_once came (Silent last kept e) = subst IsReplied (sym e) (sym (not_numbered origin (last.number ∙ none_kept (session_of origin.user site.sessions) kept (go origin.user))), omega arith)
+  reported_once came (NoRequest next none e) = subst IsReplied (sym e) (append-nil (numbered origin), omega arith)
+  reported_once came (Spent next stmt reads spent e) = absurd (omega (arith, spent, room))
+  reported_once came (Executed next stmt reads is e) = subst IsReplied (sym e) (append-nil (numbered origin), omega arith)
 
--- ---- what holds at each moment
+---- the facts of each state
 
 abbrev pub Posting : Type 0
 Posting = Origin × List ℕ
@@ -112,7 +112,7 @@ Posting = Origin × List ℕ
 abbrev pub datagram_of : Posting → Datagram
 datagram_of post = ask_datagram post.0 post.1
 
-pub record Progress (done : List Happening) (world : World) : Type 0 where
+pub record Progress (done : List Action) (world : World) : Type 0 where
   pub sent : world.sent ≡ map datagram_of (posts_of done)
   pub posts : (i : ℕ) (post : Posting) → slice_get (posts_of done) i ≡ Some post → IsPost post.0 post.1
   pub waits_for : length world.sent ≡ world.delivered + waiting done
@@ -130,25 +130,25 @@ nothing_at i x e = cc
 progress_first : Progress [] (after [])
 progress_first = record { sent = refl; posts = λ i post at. absurd (nothing_at i post at); waits_for = refl; answered = refl; entries = omega arith }
 
-waiting_push : (done : List Happening) (happening : Happening) → waiting (done ++ happening ∷ []) ≡ waits (waiting done) happening
-waiting_push done happening = fold_push waits 0 done happening
+waiting_push : (done : List Action) (action : Action) → waiting (done ++ action ∷ []) ≡ waits (waiting done) action
+waiting_push done action = fold_push waits 0 done action
 
-module _ (done : List Happening) (world : World) (now : Progress done world) where
+module _ (done : List Action) (world : World) (now : Progress done world) where
   as_many : length (posts_of done) ≡ length world.sent
   as_many = sym (ap (λ (ds : List Datagram). length ds) now.sent ∙ length-map (posts_of done) datagram_of)
 
-  -- nothing is posted, and nothing comes of it
-  on_nothing : (happening : Happening) → posts_in happening ≡ [] → waits (waiting done) happening ≡ waiting done → Progress (done ++ happening ∷ []) world
-  on_nothing happening none same = record {
+  -- nothing is posted, and there is no output
+  on_nothing : (action : Action) → posts_in action ≡ [] → waits (waiting done) action ≡ waiting done → Progress (done ++ action ∷ []) world
+  on_nothing action none same = record {
     sent = now.sent ∙ ap (λ (ps : List Posting). map datagram_of ps) (sym posts_same);
     posts = λ i post at. now.posts i post (ap (λ (ps : List Posting). slice_get ps i) (sym posts_same) ∙ at);
-    waits_for = now.waits_for ∙ ap (λ (n : ℕ). world.delivered + n) (sym (waiting_push done happening ∙ same));
+    waits_for = now.waits_for ∙ ap (λ (n : ℕ). world.delivered + n) (sym (waiting_push done action ∙ same));
     answered = now.answered ∙ ap (λ (ps : List Posting). numbered_of (take world.delivered ps)) (sym posts_same);
     entries = now.entries;
   }
     where
-      posts_same : posts_of (done ++ happening ∷ []) ≡ posts_of done
-      posts_same = posts_push done happening ∙ ap (λ (ps : List Posting). posts_of done ++ ps) none ∙ append-nil (posts_of done)
+      posts_same : posts_of (done ++ action ∷ []) ≡ posts_of done
+      posts_same = posts_push done action ∙ ap (λ (ps : List Posting). posts_of done ++ ps) none ∙ append-nil (posts_of done)
 
   on_post : (origin : Origin) (text : List ℕ) → IsPost origin text → Progress (done ++ Post origin text ∷ []) (record world { sent = world.sent ++ ask_datagram origin text ∷ [] })
   on_post origin text is = record {
@@ -170,18 +170,18 @@ module _ (done : List Happening) (world : World) (now : Progress done world) whe
             | inr p ↦ subst (λ (p : Posting). IsPost p.0 p.1) p.1 is
           ]
 
-  -- an ask that waited is heard
-  on_heard : (site : SiteState) (post : Posting) → slice_get (posts_of done) world.delivered ≡ Some post → (came : SiteState × Outs)
+  -- an ask that waited is received
+  on_received : (site : SiteState) (post : Posting) → slice_get (posts_of done) world.delivered ≡ Some post → (came : SiteState × Outs)
       → requests_answered (map given_of came.1.replies) ≡ numbered post.0 → length came.1.decided ≤ 1 → (w : ℕ) → waiting done ≡ suc w
       → Progress (done ++ Deliver ∷ []) (onward world came.0 (map given_of came.1.replies) came.1.decided)
-  on_heard site post at came told few w some = record {
+  on_received site post at came reported few w some = record {
     sent = now.sent ∙ ap (λ (ps : List Posting). map datagram_of ps) (sym posts_same);
     posts = λ i other there. now.posts i other (ap (λ (ps : List Posting). slice_get ps i) (sym posts_same) ∙ there);
     waits_for = omega (arith, now.waits_for, some, waiting_push done Deliver);
     answered =
         flat_map-append (λ (given : Given). numbered given.origin) world.replies (map given_of came.1.replies)
         ∙ ap (λ (os : List Origin). os ++ requests_answered (map given_of came.1.replies)) now.answered
-        ∙ ap (λ (os : List Origin). numbered_of (take world.delivered (posts_of done)) ++ os) (told ∙ sym (append-nil (numbered post.0)))
+        ∙ ap (λ (os : List Origin). numbered_of (take world.delivered (posts_of done)) ++ os) (reported ∙ sym (append-nil (numbered post.0)))
         ∙ sym (flat_map-append (λ (p : Posting). numbered p.0) (take world.delivered (posts_of done)) (post ∷ []))
         ∙ ap numbered_of (sym (take-get (posts_of done) world.delivered post at))
         ∙ ap (λ (ps : List Posting). numbered_of (take (world.delivered + 1) ps)) (sym posts_same);
@@ -191,49 +191,49 @@ module _ (done : List Happening) (world : World) (now : Progress done world) whe
       posts_same : posts_of (done ++ Deliver ∷ []) ≡ posts_of done
       posts_same = posts_push done Deliver ∙ append-nil (posts_of done)
 
--- ---- each moment
+---- each state
 
 module _ (given : List Event) (can : Playable given) (few : length (posts_of can.others) < last_number) where
-  moment : (done behind : List Happening) → can.others ≡ done ++ behind → Moment (Works given) (Open 1 ∷ done) (after done)
-  moment done behind parted = at_each given can (Works given) (works_law given) done behind parted
+  state_at : (done suffix : List Action) → can.others ≡ done ++ suffix → StateAt (Works given) (Open 1 ∷ done) (after done)
+  state_at done suffix separated = at_each given can (Works given) (works_law given) done suffix separated
 
-  few_now : (done behind : List Happening) → can.others ≡ done ++ behind → length (posts_of done) < last_number
-  few_now done behind parted =
-      let parts : posts_of can.others ≡ posts_of done ++ posts_of behind = ap posts_of parted ∙ flat_map-append posts_in done behind in
-      omega (arith, few, ap (λ (ps : List Posting). length ps) parts, length-append (posts_of done) (posts_of behind))
+  few_now : (done suffix : List Action) → can.others ≡ done ++ suffix → length (posts_of done) < last_number
+  few_now done suffix separated =
+      let parts : posts_of can.others ≡ posts_of done ++ posts_of suffix = ap posts_of separated ∙ flat_map-append posts_in done suffix in
+      omega (arith, few, ap (λ (ps : List Posting). length ps) parts, length-append (posts_of done) (posts_of suffix))
 
-  pub room_now : (done behind : List Happening) → can.others ≡ done ++ behind → Progress done (after done) → (site : SiteState) → site.begun ≡ length (after done).history → site.begun < last_number
-  room_now done behind parted now site begun = omega (arith, begun, now.entries, now.waits_for, as_many done (after done) now, few_now done behind parted)
+  pub room_now : (done suffix : List Action) → can.others ≡ done ++ suffix → Progress done (after done) → (site : SiteState) → site.begun ≡ length (after done).history → site.begun < last_number
+  room_now done suffix separated now site begun = omega (arith, begun, now.entries, now.waits_for, as_many done (after done) now, few_now done suffix separated)
 
-  by_waiting : (done behind : List Happening) → can.others ≡ done ++ Deliver ∷ behind → Progress done (after done) → (n : ℕ) → waiting done ≡ n → Progress (done ++ Deliver ∷ []) (happen (after done) Deliver)
-  by_waiting done behind parted now zero none =
-      let left : happen (after done) Deliver ≡ after done = nothing_left (after done) (omega (arith, now.waits_for, none)) in
+  by_waiting : (done suffix : List Action) → can.others ≡ done ++ Deliver ∷ suffix → Progress done (after done) → (n : ℕ) → waiting done ≡ n → Progress (done ++ Deliver ∷ []) (act (after done) Deliver)
+  by_waiting done suffix separated now zero none =
+      let left : act (after done) Deliver ≡ after done = nothing_left (after done) (omega (arith, now.waits_for, none)) in
       subst (Progress (done ++ Deliver ∷ [])) (sym left) (on_nothing done (after done) now Deliver refl (omega (arith, none)))
-  by_waiting done behind parted now (suc w) some =
+  by_waiting done suffix separated now (suc w) some =
       let world = after done in
       let found = get_at (posts_of done) world.delivered (omega (arith, now.waits_for, some, as_many done world now)) in
       let post = found.0 in
       let is = now.posts world.delivered post found.1 in
-      let m = moment done (Deliver ∷ behind) parted in
+      let m = state_at done (Deliver ∷ suffix) separated in
       let there : slice_get world.sent world.delivered ≡ Some (datagram_of post) = ap (λ (ds : List Datagram). slice_get ds world.delivered) now.sent ∙ get_map datagram_of (posts_of done) world.delivered post found.1 in
       let came : SiteState × Outs = on_first m.site (peers.Client 0) post.0 post.1 in
-      let told = told_once m.site post.0 post.1 m.holds.0 (room_now done (Deliver ∷ behind) parted now m.site m.holds.1.begun) came (asked m.site (peers.Client 0) post.0 post.1) in
-      subst (Progress (done ++ Deliver ∷ [])) (sym (turns_heard (Open 1 ∷ done) world m.site m.stands.one post.0 post.1 is there)) (on_heard done world now m.site post found.1 came told.0 told.1 w some)
+      let reported = reported_once m.site post.0 post.1 m.holds.0 (room_now done (Deliver ∷ suffix) separated now m.site m.holds.1.begun) came (asked m.site (peers.Client 0) post.0 post.1) in
+      subst (Progress (done ++ Deliver ∷ [])) (sym (turns_received (Open 1 ∷ done) world m.site m.stands.one post.0 post.1 is there)) (on_received done world now m.site post found.1 came reported.0 reported.1 w some)
 
-  on_happening : (done : List Happening) (happening : Happening) (behind : List Happening) → can.others ≡ done ++ happening ∷ behind → IsPlayed happening → Progress done (after done)
-      → Progress (done ++ happening ∷ []) (happen (after done) happening)
-  on_happening done (Open last) behind parted is now = absurd is
-  on_happening done (Post origin text) behind parted is now = on_post done (after done) now origin text is
-  on_happening done Deliver behind parted is now = by_waiting done behind parted now (waiting done) refl
-  on_happening done (Noise number bytes) behind parted is now =
-      let m = moment done (Noise number bytes ∷ behind) parted in
+  on_action : (done : List Action) (action : Action) (suffix : List Action) → can.others ≡ done ++ action ∷ suffix → IsPlayed action → Progress done (after done)
+      → Progress (done ++ action ∷ []) (act (after done) action)
+  on_action done (Open last) suffix separated is now = absurd is
+  on_action done (Post origin text) suffix separated is now = on_post done (after done) now origin text is
+  on_action done Deliver suffix separated is now = by_waiting done suffix separated now (waiting done) refl
+  on_action done (Noise number bytes) suffix separated is now =
+      let m = state_at done (Noise number bytes ∷ suffix) separated in
       subst (Progress (done ++ Noise number bytes ∷ [])) (sym (noise_stays (Open 1 ∷ done) (after done) m.site m.stands.one number bytes is)) (on_nothing done (after done) now (Noise number bytes) refl refl)
 
-  abbrev At : List Happening → Type 0
+  abbrev At : List Action → Type 0
   At done = Progress done (after done)
 
-  at_step : (done : List Happening) (happening : Happening) (behind : List Happening) → can.others ≡ done ++ happening ∷ behind → IsPlayed happening → At done → At (done ++ happening ∷ [])
-  at_step done happening behind parted is now = subst (Progress (done ++ happening ∷ [])) (sym (after_push done happening)) (on_happening done happening behind parted is now)
+  at_step : (done : List Action) (action : Action) (suffix : List Action) → can.others ≡ done ++ action ∷ suffix → IsPlayed action → At done → At (done ++ action ∷ [])
+  at_step done action suffix separated is now = subst (Progress (done ++ action ∷ [])) (sym (after_push done action)) (on_action done action suffix separated is now)
 
-  pub progress : (done behind : List Happening) → can.others ≡ done ++ behind → Progress done (after done)
-  progress done behind parted = walk At can.others can.are at_step progress_first done behind parted
+  pub progress : (done suffix : List Action) → can.others ≡ done ++ suffix → Progress done (after done)
+  progress done suffix separated = walk At can.others can.are at_step progress_first done suffix separated

@@ -1,4 +1,4 @@
--- Each reply of a report was true when it was given, and a text that was told to be no request is none.
+-- Each reply of a report was true when it was given, and a text that was refused has no supported statement.
 use Rattle.std.proofs.Common.{◌≡◌, ℕ, List, Some, false, IsTrue}
 use Rattle.std.specs.List.{slice_get}
 use Rattle.rs_base.specs.declared.reply.Reply.TheVariants as replies
@@ -14,5 +14,5 @@ pub replies_given_truly : (all : List Event) → IsValid all → IsTrue (are_acc
 replies_given_truly all valid are = (holds_last all valid are).holds.kept.truly
 
 pub syntax_true : (all : List Event) → IsValid all → IsTrue (are_accepted false all)
-    → (k place : ℕ) (given : Given) → slice_get (report_of (course all)).replies k ≡ Some given → given.reply ≡ replies.Syntax place → IsNoRequest all given.origin place
-syntax_true all valid are = (holds_last all valid are).holds.kept.syntax_told
+    → (k position : ℕ) (given : Given) → slice_get (report_of (course all)).replies k ≡ Some given → given.reply ≡ replies.Syntax position → IsNoRequest all given.origin position
+syntax_true all valid are = (holds_last all valid are).holds.kept.syntax_replied

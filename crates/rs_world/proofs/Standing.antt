@@ -1,4 +1,4 @@
--- At each moment behind the opening the world has one site, and what was sent was asked of it.
+-- In each state after the opening the world has one site, and what was sent was asked of it.
 use Rattle.std.proofs.Common.{◌≡◌, ℕ, inl, inr, List, [], ◌∷◌, ◌++◌, Some, refl, sym, subst, ◌∙◌}
 use Rattle.std.specs.List.{slice_get, Contains}
 use Rattle.std.proofs.lemmas.List.Elements.{Contains-append_left, Contains-push}
@@ -7,18 +7,18 @@ use Rattle.rs_base.specs.declared.txn.Origin.{Origin}
 use Rattle.rs_site.specs.declared.outs.Outs.{Outs}
 use Rattle.rs_site.specs.declared.outs.Decided.{Decided}
 use Rattle.rs_site.specs.State.{SiteState, opened}
-use Rattle.rs_site.proofs.Asked.{Asked, Refused, ToldAgain, Silent, NoRequest, Spent, Executed}
+use Rattle.rs_site.proofs.Asked.{Asked, Refused, RepliedAgain, Silent, NoRequest, Spent, Executed}
 use Rattle.rs_world.specs.declared.report.Given.{Given}
 use Rattle.rs_world.specs.declared.world.Datagram.{Datagram}
 use Rattle.rs_world.specs.declared.world.World.{World}
-use Rattle.rs_world.specs.Course.{Happening, Open, Post, ask_datagram}
-use Rattle.rs_world.proofs.Heard.{IsOf, IsAsked}
+use Rattle.rs_world.specs.Course.{Action, Open, Post, ask_datagram}
+use Rattle.rs_world.proofs.Received.{IsOf, IsAsked}
 use Rattle.rs_world.proofs.Gets.{get_push}
 use Rattle.rs_world.proofs.Played.{IsPost}
 use Rattle.rs_world.proofs.Turns.{onward}
 use Rattle.rs_world.proofs.Walk.{after}
 
-pub record Stands (before : List Happening) (world : World) (site : SiteState) : Type 0 where
+pub record Stands (before : List Action) (world : World) (site : SiteState) : Type 0 where
   pub one : IsOf world site
   pub sent : (i : ℕ) (datagram : Datagram) → slice_get world.sent i ≡ Some datagram → IsAsked before datagram
 
@@ -36,37 +36,37 @@ pub record IsSameSite (site next : SiteState) : Type 0 where
 
 pub same_site : (site : SiteState) (from : Peer) (origin : Origin) (text : List ℕ) (came : SiteState × Outs) → Asked site from origin text came → IsSameSite site came.0
 same_site site from origin text came (Refused reply is true e) = subst (λ (p : SiteState × Outs). IsSameSite site p.0) (sym e) (record { me = refl; many = refl; epoch = refl })
-same_site site from origin text came (ToldAgain reply last kept e) = subst (λ (p : SiteState × Outs). IsSameSite site p.0) (sym e) (record { me = refl; many = refl; epoch = refl })
+same_site site from origin text came (RepliedAgain reply last kept e) = subst (λ (p : SiteState × Outs). IsSameSite site p.0) (sym e) (record { me = refl; many = refl; epoch = refl })
 same_site site from origin text came (Silent last none e) = subst (λ (p : SiteState × Outs). IsSameSite site p.0) (sym e) (record { me = refl; many = refl; epoch = refl })
 same_site site from origin text came (NoRequest next none e) = subst (λ (p : SiteState × Outs). IsSameSite site p.0) (sym e) (record { me = refl; many = refl; epoch = refl })
 same_site site from origin text came (Spent next stmt reads spent e) = subst (λ (p : SiteState × Outs). IsSameSite site p.0) (sym e) (record { me = refl; many = refl; epoch = refl })
 same_site site from origin text came (Executed next stmt reads room e) = subst (λ (p : SiteState × Outs). IsSameSite site p.0) (sym e) (record { me = refl; many = refl; epoch = refl })
 
-module _ (before : List Happening) (world : World) (site : SiteState) (stands : Stands before world site) (happening : Happening) where
-  later : (datagram : Datagram) → IsAsked before datagram → IsAsked (before ++ happening ∷ []) datagram
-  later datagram a = record { origin = a.origin; text = a.text; is = a.is; post = a.post; posted = Contains-append_left before (happening ∷ []) (Post a.origin a.text) a.posted }
+module _ (before : List Action) (world : World) (site : SiteState) (stands : Stands before world site) (action : Action) where
+  later : (datagram : Datagram) → IsAsked before datagram → IsAsked (before ++ action ∷ []) datagram
+  later datagram a = record { origin = a.origin; text = a.text; is = a.is; post = a.post; posted = Contains-append_left before (action ∷ []) (Post a.origin a.text) a.posted }
 
-  pub stands_on : Stands (before ++ happening ∷ []) world site
+  pub stands_on : Stands (before ++ action ∷ []) world site
   stands_on = record { one = stands.one; sent = λ i datagram at. later datagram (stands.sent i datagram at) }
 
-  pub stands_posted : (origin : Origin) (text : List ℕ) → IsPost origin text → happening ≡ Post origin text → Stands (before ++ happening ∷ []) (record world { sent = world.sent ++ ask_datagram origin text ∷ [] }) site
+  pub stands_posted : (origin : Origin) (text : List ℕ) → IsPost origin text → action ≡ Post origin text → Stands (before ++ action ∷ []) (record world { sent = world.sent ++ ask_datagram origin text ∷ [] }) site
   stands_posted origin text post e = record {
     one = record { sites = stands.one.sites; me = stands.one.me; many = stands.one.many; epoch = stands.one.epoch };
     sent = sent_next;
   }
     where
-      new : IsAsked (before ++ happening ∷ []) (ask_datagram origin text)
-      new = record { origin = origin; text = text; is = refl; post = post; posted = subst (λ (h : Happening). Contains (before ++ happening ∷ []) h) e (Contains-push before happening) }
+      new : IsAsked (before ++ action ∷ []) (ask_datagram origin text)
+      new = record { origin = origin; text = text; is = refl; post = post; posted = subst (λ (h : Action). Contains (before ++ action ∷ []) h) e (Contains-push before action) }
 
-      sent_next : (i : ℕ) (datagram : Datagram) → slice_get (world.sent ++ ask_datagram origin text ∷ []) i ≡ Some datagram → IsAsked (before ++ happening ∷ []) datagram
+      sent_next : (i : ℕ) (datagram : Datagram) → slice_get (world.sent ++ ask_datagram origin text ∷ []) i ≡ Some datagram → IsAsked (before ++ action ∷ []) datagram
       sent_next i datagram at =
           elim (get_push world.sent (ask_datagram origin text) datagram i at) [
             | inl p ↦ later datagram (stands.sent i datagram p.1)
-            | inr p ↦ subst (λ (d : Datagram). IsAsked (before ++ happening ∷ []) d) p.1 new
+            | inr p ↦ subst (λ (d : Datagram). IsAsked (before ++ action ∷ []) d) p.1 new
           ]
 
-  pub stands_heard : (next : SiteState) (givens : List Given) (entries : List Decided) → IsSameSite site next → Stands (before ++ happening ∷ []) (onward world next givens entries) next
-  stands_heard next givens entries same = record {
+  pub stands_received : (next : SiteState) (givens : List Given) (entries : List Decided) → IsSameSite site next → Stands (before ++ action ∷ []) (onward world next givens entries) next
+  stands_received next givens entries same = record {
     one = record { sites = refl; me = same.me ∙ stands.one.me; many = same.many ∙ stands.one.many; epoch = same.epoch ∙ stands.one.epoch };
     sent = λ i datagram at. later datagram (stands.sent i datagram at);
   }

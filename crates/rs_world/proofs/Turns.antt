@@ -1,4 +1,4 @@
--- What the next world is by a happening: an ask is posted, nothing comes of it, or an ask is heard.
+-- The next world by an action: an ask is posted, nothing comes of it, or an ask is received.
 use Rattle.std.proofs.Common.{◌≡◌, ℕ, ◌+◌, List, [], ◌∷◌, ◌++◌, map, Some, ap, ◌∙◌}
 use Rattle.std.specs.Prelude.{flat_map}
 use Rattle.std.specs.List.{slice_get, Contains}
@@ -10,62 +10,62 @@ use Rattle.rs_site.specs.declared.outs.Outs.{Outs}
 use Rattle.rs_site.specs.declared.outs.Decided.{Decided}
 use Rattle.rs_site.specs.Asking.{on_first}
 use Rattle.rs_site.specs.State.{SiteState}
-use Rattle.rs_site.proofs.Asked.{Asked, Refused, ToldAgain, Silent, NoRequest, Spent, Executed, asked}
+use Rattle.rs_site.proofs.Asked.{Asked, Refused, RepliedAgain, Silent, NoRequest, Spent, Executed, asked}
 use Rattle.rs_world.specs.declared.report.Given.{Given}
 use Rattle.rs_world.specs.declared.world.Datagram.{Datagram}
 use Rattle.rs_world.specs.declared.world.World.{World}
-use Rattle.rs_world.specs.Course.{Happening, Post, Deliver, sent_by, given_of, ask_datagram, happen}
-use Rattle.rs_world.proofs.Heard.{IsOf, IsAsked, Does, Posts, Hears, Stays, hearing, hears_next, does}
+use Rattle.rs_world.specs.Course.{Action, Post, Deliver, sent_by, given_of, ask_datagram, act}
+use Rattle.rs_world.proofs.Received.{IsOf, IsAsked, Does, Posts, Receives, Stays, receiving, receives_next, does}
 use Rattle.rs_world.proofs.Played.{IsPost, IsPlayed}
 
--- the happening is a delivery, by which this ask is heard
-pub record IsHeard (before : List Happening) (world : World) (happening : Happening) (origin : Origin) (text : List ℕ) : Type 0 where
+-- the action is a delivery, by which this ask is received
+pub record IsReceived (before : List Action) (world : World) (action : Action) (origin : Origin) (text : List ℕ) : Type 0 where
   pub post : IsPost origin text
   pub posted : Contains before (Post origin text)
-  pub deliver : happening ≡ Deliver
+  pub deliver : action ≡ Deliver
   pub next : slice_get world.sent world.delivered ≡ Some (ask_datagram origin text)
 
--- the world behind a delivery: its site is this one now, and it gave these replies and committed these executions
+-- the world after a delivery: its site is this one now, and it gave these replies and committed these executions
 abbrev pub onward : World → SiteState → List Given → List Decided → World
 onward world site givens entries = record { sites = site ∷ []; sent = world.sent; delivered = world.delivered + 1; replies = world.replies ++ givens; history = world.history ++ entries }
 
-pub data Turns (before : List Happening) (world : World) (site : SiteState) (happening : Happening) (next : World) : Type 0 where
-  Posted : (origin : Origin) → (text : List ℕ) → IsPost origin text → happening ≡ Post origin text → next ≡ record world { sent = world.sent ++ ask_datagram origin text ∷ [] } → Turns before world site happening next
-  Stayed : next ≡ world → Turns before world site happening next
-  Heard : (origin : Origin) → (text : List ℕ) → IsHeard before world happening origin text → (came : SiteState × Outs) → Asked site (peers.Client 0) origin text came
-      → next ≡ onward world came.0 (map given_of came.1.replies) came.1.decided → Turns before world site happening next
+pub data Turns (before : List Action) (world : World) (site : SiteState) (action : Action) (next : World) : Type 0 where
+  Posted : (origin : Origin) → (text : List ℕ) → IsPost origin text → action ≡ Post origin text → next ≡ record world { sent = world.sent ++ ask_datagram origin text ∷ [] } → Turns before world site action next
+  Stayed : next ≡ world → Turns before world site action next
+  Received : (origin : Origin) → (text : List ℕ) → IsReceived before world action origin text → (came : SiteState × Outs) → Asked site (peers.Client 0) origin text came
+      → next ≡ onward world came.0 (map given_of came.1.replies) came.1.decided → Turns before world site action next
 
 no_sends : (site : SiteState) (from : Peer) (origin : Origin) (text : List ℕ) (came : SiteState × Outs) → Asked site from origin text came → came.1.sends ≡ []
 no_sends site from origin text came (Refused reply is true e) = ap (λ (p : SiteState × Outs). p.1.sends) e
-no_sends site from origin text came (ToldAgain reply last kept e) = ap (λ (p : SiteState × Outs). p.1.sends) e
+no_sends site from origin text came (RepliedAgain reply last kept e) = ap (λ (p : SiteState × Outs). p.1.sends) e
 no_sends site from origin text came (Silent last none e) = ap (λ (p : SiteState × Outs). p.1.sends) e
 no_sends site from origin text came (NoRequest next none e) = ap (λ (p : SiteState × Outs). p.1.sends) e
 no_sends site from origin text came (Spent next stmt reads spent e) = ap (λ (p : SiteState × Outs). p.1.sends) e
 no_sends site from origin text came (Executed next stmt reads room e) = ap (λ (p : SiteState × Outs). p.1.sends) e
 
-hears_on : (world : World) (came : SiteState × Outs) → came.1.sends ≡ [] → hearing world came ≡ onward world came.0 (map given_of came.1.replies) came.1.decided
-hears_on world came none =
+receives_on : (world : World) (came : SiteState × Outs) → came.1.sends ≡ [] → receiving world came ≡ onward world came.0 (map given_of came.1.replies) came.1.decided
+receives_on world came none =
     let sent : world.sent ++ flat_map (sent_by 1) came.1.sends ≡ world.sent = ap (λ (sends : List (Peer × List ℕ)). world.sent ++ flat_map (sent_by 1) sends) none ∙ append-nil world.sent in
     ap (λ (all : List Datagram). record { sites = came.0 ∷ []; sent = all; delivered = world.delivered + 1; replies = world.replies ++ map given_of came.1.replies; history = world.history ++ came.1.decided }) sent
 
--- the world behind the delivery of the ask that waits longest
-pub turns_heard : (before : List Happening) (world : World) (site : SiteState) → IsOf world site → (origin : Origin) (text : List ℕ) → IsPost origin text → slice_get world.sent world.delivered ≡ Some (ask_datagram origin text)
-    → happen world Deliver ≡ onward world (on_first site (peers.Client 0) origin text).0 (map given_of (on_first site (peers.Client 0) origin text).1.replies) (on_first site (peers.Client 0) origin text).1.decided
-turns_heard before world site one origin text post there =
+-- the world after the delivery of the ask that waits longest
+pub turns_received : (before : List Action) (world : World) (site : SiteState) → IsOf world site → (origin : Origin) (text : List ℕ) → IsPost origin text → slice_get world.sent world.delivered ≡ Some (ask_datagram origin text)
+    → act world Deliver ≡ onward world (on_first site (peers.Client 0) origin text).0 (map given_of (on_first site (peers.Client 0) origin text).1.replies) (on_first site (peers.Client 0) origin text).1.decided
+turns_received before world site one origin text post there =
     let from = peers.Client 0 in
     let came = on_first site from origin text in
-    hears_next before world site one origin text post there ∙ hears_on world came (no_sends site from origin text came (asked site from origin text))
+    receives_next before world site one origin text post there ∙ receives_on world came (no_sends site from origin text came (asked site from origin text))
 
 -- one of the cases is there
-pub turns : (before : List Happening) (world : World) (site : SiteState) → IsOf world site → ((i : ℕ) (datagram : Datagram) → slice_get world.sent i ≡ Some datagram → IsAsked before datagram) → (happening : Happening) → IsPlayed happening
-    → Turns before world site happening (happen world happening)
-turns before world site one sent happening is = by_case (does before world site one sent happening is)
+pub turns : (before : List Action) (world : World) (site : SiteState) → IsOf world site → ((i : ℕ) (datagram : Datagram) → slice_get world.sent i ≡ Some datagram → IsAsked before datagram) → (action : Action) → IsPlayed action
+    → Turns before world site action (act world action)
+turns before world site one sent action is = by_case (does before world site one sent action is)
   where
-    by_case : Does before world site happening → Turns before world site happening (happen world happening)
-    by_case (Posts origin text post e) = Posted origin text post e (ap (λ (h : Happening). happen world h) e)
+    by_case : Does before world site action → Turns before world site action (act world action)
+    by_case (Posts origin text post e) = Posted origin text post e (ap (λ (h : Action). act world h) e)
     by_case (Stays e) = Stayed e
-    by_case (Hears origin text post posted deliver next e) =
+    by_case (Receives origin text post posted deliver next e) =
         let from = peers.Client 0 in
         let came = on_first site from origin text in
         let cases = asked site from origin text in
-        Heard origin text (record { post = post; posted = posted; deliver = deliver; next = next }) came cases (e ∙ hears_on world came (no_sends site from origin text came cases))
+        Received origin text (record { post = post; posted = posted; deliver = deliver; next = next }) came cases (e ∙ receives_on world came (no_sends site from origin text came cases))

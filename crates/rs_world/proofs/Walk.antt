@@ -1,32 +1,32 @@
--- What holds after the opening, and is kept by each happening, holds at each moment.
+-- A fact that holds after the opening, and is kept by each action, holds in each state.
 use Rattle.std.proofs.Common.{◌≡◌, List, [], ◌∷◌, ◌++◌, sym, subst, ◌∙◌, append_assoc}
 use Rattle.std.proofs.lemmas.List.{append-nil}
 use Rattle.std.proofs.lemmas.List.Sums.{fold_push}
 use Rattle.rs_world.specs.declared.world.World.{World}
-use Rattle.rs_world.specs.Course.{Happening, Open, happen, start}
-use Rattle.rs_world.specs.Moments.{world_after}
+use Rattle.rs_world.specs.Course.{Action, Open, act, start}
+use Rattle.rs_world.specs.States.{world_after}
 use Rattle.rs_world.proofs.Played.{IsPlayed, ArePlayed, played_first}
 
--- the world after the opening of site 1 and these happenings
-abbrev pub after : List Happening → World
+-- the world after the opening of site 1 and these actions
+abbrev pub after : List Action → World
 after done = world_after (Open 1 ∷ done)
 
-pub after_push : (done : List Happening) (happening : Happening) → after (done ++ happening ∷ []) ≡ happen (after done) happening
-after_push done happening = fold_push happen start (Open 1 ∷ done) happening
+pub after_push : (done : List Action) (action : Action) → after (done ++ action ∷ []) ≡ act (after done) action
+after_push done action = fold_push act start (Open 1 ∷ done) action
 
-played_behind : (xs ys : List Happening) → ArePlayed (xs ++ ys) → ArePlayed ys
-played_behind [] ys are = are
-played_behind (x ∷ xs) ys are = played_behind xs ys (played_first x (xs ++ ys) are).1
+played_after : (xs ys : List Action) → ArePlayed (xs ++ ys) → ArePlayed ys
+played_after [] ys are = are
+played_after (x ∷ xs) ys are = played_after xs ys (played_first x (xs ++ ys) are).1
 
-module _ (P : List Happening → Type 0) (whole : List Happening) (are : ArePlayed whole)
-    (step : (done : List Happening) (happening : Happening) (behind : List Happening) → whole ≡ done ++ happening ∷ behind → IsPlayed happening → P done → P (done ++ happening ∷ [])) where
-  pub walk_on : (done todo behind : List Happening) → whole ≡ done ++ (todo ++ behind) → P done → P (done ++ todo)
-  walk_on done [] behind e holds = subst P (sym (append-nil done)) holds
-  walk_on done (happening ∷ todo) behind e holds =
-      let played = played_first happening (todo ++ behind) (played_behind done (happening ∷ (todo ++ behind)) (subst ArePlayed e are)) in
-      let next = step done happening (todo ++ behind) e played.0 holds in
-      let onto : whole ≡ (done ++ happening ∷ []) ++ (todo ++ behind) = e ∙ sym (append_assoc done (happening ∷ []) (todo ++ behind)) in
-      subst P (append_assoc done (happening ∷ []) todo) (walk_on (done ++ happening ∷ []) todo behind onto next)
+module _ (P : List Action → Type 0) (whole : List Action) (are : ArePlayed whole)
+    (step : (done : List Action) (action : Action) (suffix : List Action) → whole ≡ done ++ action ∷ suffix → IsPlayed action → P done → P (done ++ action ∷ [])) where
+  pub walk_on : (done todo suffix : List Action) → whole ≡ done ++ (todo ++ suffix) → P done → P (done ++ todo)
+  walk_on done [] suffix e holds = subst P (sym (append-nil done)) holds
+  walk_on done (action ∷ todo) suffix e holds =
+      let played = played_first action (todo ++ suffix) (played_after done (action ∷ (todo ++ suffix)) (subst ArePlayed e are)) in
+      let next = step done action (todo ++ suffix) e played.0 holds in
+      let onto : whole ≡ (done ++ action ∷ []) ++ (todo ++ suffix) = e ∙ sym (append_assoc done (action ∷ []) (todo ++ suffix)) in
+      subst P (append_assoc done (action ∷ []) todo) (walk_on (done ++ action ∷ []) todo suffix onto next)
 
-  pub walk : P [] → (done behind : List Happening) → whole ≡ done ++ behind → P done
-  walk first done behind e = walk_on [] done behind e first
+  pub walk : P [] → (done suffix : List Action) → whole ≡ done ++ suffix → P done
+  walk first done suffix e = walk_on [] done suffix e first

@@ -1,10 +1,10 @@
 -- Which events are played in this stage: one site, asks, settles without a count and noise, with a settle between two
--- asks and one behind the last.
+-- asks and one after the last.
 use Rattle.std.specs.Prelude.{Bool, true, false, ◌&&◌, not, ◌==◌, List, [], ◌∷◌, None, Some}
 use Rattle.rs_sched.specs.declared.event.Event.{Event}
 use Rattle.rs_sched.specs.declared.event.Event.TheVariants as events
 
--- the event may come now, where `unsettled` says that an ask has no settle behind it yet
+-- the event may come now, where `unsettled` says that an ask has no settle after it yet
 abbrev pub may_come : Bool → Event → Bool
 may_come unsettled (events.Sites last) = last == 1
 may_come unsettled (events.Ask origin text) = not unsettled
@@ -18,7 +18,7 @@ may_come unsettled (events.Stop site k j) = false
 may_come unsettled (events.Arm site c k j) = false
 may_come unsettled (events.Restart site) = false
 
--- whether an ask has no settle behind it, after this event
+-- whether an ask has no settle after it, after this event
 abbrev pub is_open_after : Bool → Event → Bool
 is_open_after unsettled (events.Ask origin text) = true
 is_open_after unsettled (events.Settle count) = false

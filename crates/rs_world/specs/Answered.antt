@@ -1,12 +1,12 @@
--- Each ask is answered: it has one reply, in the order of the asks; and a request that its site takes stands in the history, or
--- is told that it is none. So it is where an ask is settled before the next one comes.
+-- Each ask is answered: it has one reply, in the order of the asks; and a request that its site accepts is in the history,
+-- or its text has no supported statement. This holds if each ask is settled before the next one comes.
 use Rattle.std.specs.Prelude.{◌≡◌, ℕ, ◌<◌, ◌==◌, List, [], ◌∷◌, length, flat_map, if◌then◌else◌, Some, None}
 use Rattle.std.specs.List.{slice_get, Contains}
 use Rattle.rs_base.specs.declared.txn.Origin.{Origin}
 use Rattle.rs_base.specs.declared.reply.Reply.{Reply}
 use Rattle.rs_base.specs.declared.reply.Reply.TheVariants as replies
 use Rattle.rs_mean.specs.declared.built.Stmt.{Stmt}
-use Rattle.rs_site.specs.Statement.{statement_of, place_told}
+use Rattle.rs_site.specs.Statement.{statement_of, offset_replied}
 use Rattle.rs_sched.specs.declared.event.Event.{Event}
 use Rattle.rs_sched.specs.declared.event.Event.TheVariants as events
 use Rattle.rs_site.specs.declared.outs.Decided.{Decided}
@@ -15,8 +15,8 @@ use Rattle.rs_site.specs.Sessions.{session_of}
 use Rattle.rs_site.specs.State.{SiteState}
 use Rattle.rs_world.specs.declared.report.Given.{Given}
 use Rattle.rs_world.specs.declared.report.Report.{Report}
-use Rattle.rs_world.specs.Course.{Happening}
-use Rattle.rs_world.specs.Moments.{world_after, Hears, Takes}
+use Rattle.rs_world.specs.Course.{Action}
+use Rattle.rs_world.specs.States.{world_after, Receives, Accepts}
 
 -- Requests are numbered from 1: none is named by the number 0.
 abbrev pub numbered : Origin → List Origin
@@ -43,30 +43,30 @@ requests_asked given = flat_map asked_by given
 abbrev pub requests_answered : List Given → List Origin
 requests_answered givens = flat_map (λ given. numbered given.origin) givens
 
--- The number 0 in the site's epoch, before a request of the user was taken: no reply is kept that could be told.
+-- The number 0 in the site's epoch, before a request of the user was accepted: no reply is stored that could be sent.
 pub record NamesNone (site : SiteState) (origin : Origin) : Type 0 where
   pub epoch : origin.epoch ≡ site.epoch
   pub number : origin.number ≡ 0
-  pub none_taken : (session_of origin.user site.sessions).last ≡ 0
+  pub none_accepted : (session_of origin.user site.sessions).last ≡ 0
 
 -- the history has an entry of this request, with this text
 pub record IsEntered (history : List Decided) (origin : Origin) (text : List ℕ) : Type 0 where
-  pub place : ℕ
+  pub position : ℕ
   pub entry : Decided
-  pub there : slice_get history place ≡ Some entry
+  pub there : slice_get history position ≡ Some entry
   pub origin_is : entry.origin ≡ origin
   pub text_is : entry.text ≡ text
 
 pub record EachAskIsAnswered (given : List Event) (report : Report) : Type 0 where
   -- the replies answer the requests that are asked, each ask once, in their order
   pub in_order : requests_answered report.replies ≡ requests_asked given
-  -- the delivery by which a site hears an ask gives it a reply
-  pub when_heard : (before : List Happening) (site : SiteState) (origin : Origin) (text : List ℕ) → Contains given (events.Ask origin text) → Hears given before site origin text → (NamesNone site origin → ⊥)
+  -- the delivery by which a site receives an ask gives it a reply
+  pub when_received : (before : List Action) (site : SiteState) (origin : Origin) (text : List ℕ) → Contains given (events.Ask origin text) → Receives given before site origin text → (NamesNone site origin → ⊥)
       → (reply : Reply) × (slice_get report.replies (length (world_after before).replies) ≡ Some (record { origin = origin; reply = reply }))
-  -- a request that its site takes is entered
-  pub entered : (origin : Origin) (text : List ℕ) (stmt : Stmt) → Contains given (events.Ask origin text) → Takes given origin text → statement_of text ≡ Some stmt → IsEntered report.history origin text
-  -- one whose text is no request is told so
-  pub told_no_request : (origin : Origin) (text : List ℕ) → Contains given (events.Ask origin text) → Takes given origin text → statement_of text ≡ None → Contains report.replies (record { origin = origin; reply = replies.Syntax (place_told text) })
+  -- a request that its site accepts is entered
+  pub entered : (origin : Origin) (text : List ℕ) (stmt : Stmt) → Contains given (events.Ask origin text) → Accepts given origin text → statement_of text ≡ Some stmt → IsEntered report.history origin text
+  -- a text without a supported statement is answered so
+  pub no_request_replied : (origin : Origin) (text : List ℕ) → Contains given (events.Ask origin text) → Accepts given origin text → statement_of text ≡ None → Contains report.replies (record { origin = origin; reply = replies.Syntax (offset_replied text) })
 
 -- there are fewer events than a site has transactions in an epoch, so that each ask may have one
 abbrev pub HaveTransactions : List Event → Type 0

@@ -1,4 +1,4 @@
--- The course of events: what the world is after each. An event is a list of happenings, and the world is a fold of them.
+-- The course of events: the world after each. An event is a list of actions, and the world is a fold of them.
 use Rattle.std.specs.Prelude.{ℕ, ◌+◌, ◌-◌, List, [], ◌∷◌, ◌++◌, map, slice_set, fold, flat_map, replicate, Option, Some, None}
 use Rattle.std.specs.List.{slice_get, range_with_len}
 use Rattle.rs_base.specs.declared.peer.Peer.{Peer}
@@ -26,17 +26,17 @@ use Rattle.rs_world.specs.declared.world.World.{World}
 abbrev pub start : World
 start = record { sites = []; sent = []; delivered = 0; replies = []; history = [] }
 
--- ---- a site takes an input
+---- a site handles an input
 
--- what is sent to a site is numbered and kept; what goes to a client isn't
+-- what is sent to a site is numbered and stored; what goes to a client isn't
 abbrev pub sent_by : ℕ → Peer × List ℕ → List Datagram
 sent_by site (peers.Site to, bytes) = (record { from = peers.Site site; to = to; bytes = bytes }) ∷ []
 sent_by site (peers.Client port, bytes) = []
 
 abbrev pub given_of : Told → Given
-given_of told = record { origin = told.origin; reply = told.reply }
+given_of reported = record { origin = reported.origin; reply = reported.reply }
 
--- what came out of a step of this site
+-- the output of a step of this site
 abbrev pub after_outs : World → ℕ → Outs → World
 after_outs world site outs = record world {
   sent = world.sent ++ flat_map (sent_by site) outs.sends;
@@ -50,17 +50,17 @@ stepped world number input (Some site) =
     let step = site_step site input in
     after_outs (record world { sites = slice_set world.sites (number - 1) step.0 }) number step.1
 
--- the site of this number takes an input, where there is one
-abbrev pub taken_by : World → ℕ → Input → World
-taken_by world number input = stepped world number input (slice_get world.sites (number - 1))
+-- the site of this number handles an input, if there is one
+abbrev pub stepped_by : World → ℕ → Input → World
+stepped_by world number input = stepped world number input (slice_get world.sites (number - 1))
 
--- ---- happenings
+---- actions
 
-pub data Happening : Type 0 where
-  Open : (last : ℕ) → Happening  -- sites 1 to this one are opened
-  Post : (origin : Origin) → (text : List ℕ) → Happening  -- a client's ask is sent
-  Deliver : Happening  -- the first datagram that wasn't delivered yet is, if there is one
-  Noise : (site : ℕ) → (bytes : List ℕ) → Happening  -- a site is given bytes, where they are no message
+pub data Action : Type 0 where
+  Open : (last : ℕ) → Action  -- sites 1 to this one are opened
+  Post : (origin : Origin) → (text : List ℕ) → Action  -- a client's ask is sent
+  Deliver : Action  -- the first datagram that wasn't delivered yet is, if there is one
+  Noise : (site : ℕ) → (bytes : List ℕ) → Action  -- a site is given bytes, where they are no message
 
 -- the datagram of a client's ask of a first part
 abbrev pub ask_datagram : Origin → List ℕ → Datagram
@@ -72,40 +72,40 @@ ask_datagram origin text = record {
 
 abbrev pub delivered : World → Option Datagram → World
 delivered world None = world
-delivered world (Some datagram) = taken_by (record world { delivered = world.delivered + 1 }) datagram.to (inputs.Datagram datagram.from datagram.bytes)
+delivered world (Some datagram) = stepped_by (record world { delivered = world.delivered + 1 }) datagram.to (inputs.Datagram datagram.from datagram.bytes)
 
-abbrev pub heard : World → ℕ → List ℕ → Option Message → World
-heard world site bytes None = taken_by world site (inputs.Datagram (peers.Client 0) bytes)
-heard world site bytes (Some message) = world
+abbrev pub received : World → ℕ → List ℕ → Option Message → World
+received world site bytes None = stepped_by world site (inputs.Datagram (peers.Client 0) bytes)
+received world site bytes (Some message) = world
 
-abbrev pub happen : World → Happening → World
-happen world (Open last) = record world { sites = map (λ me. opened me last) (range_with_len 1 last) }
-happen world (Post origin text) = record world { sent = world.sent ++ ask_datagram origin text ∷ [] }
-happen world Deliver = delivered world (slice_get world.sent world.delivered)
-happen world (Noise site bytes) = heard world site bytes (message_of bytes)
+abbrev pub act : World → Action → World
+act world (Open last) = record world { sites = map (λ me. opened me last) (range_with_len 1 last) }
+act world (Post origin text) = record world { sent = world.sent ++ ask_datagram origin text ∷ [] }
+act world Deliver = delivered world (slice_get world.sent world.delivered)
+act world (Noise site bytes) = received world site bytes (message_of bytes)
 
 -- ---- events
 
--- as many deliveries as a settle without a count makes at most
-unfoldable pub deliveries : List Happening
+-- the largest number of deliveries of a settle without a count
+unfoldable pub deliveries : List Action
 deliveries = replicate 16777216 Deliver
 
 -- Settles with a count, deliveries by number, losses, ticks, stops, arms and restarts aren't played yet: they do nothing.
-abbrev pub happenings_of : Event → List Happening
-happenings_of (events.Sites last) = Open last ∷ []
-happenings_of (events.Ask origin text) = Post origin text ∷ []
-happenings_of (events.Settle None) = deliveries
-happenings_of (events.Noise site bytes) = Noise site bytes ∷ []
-happenings_of (events.Settle (Some n)) = []
-happenings_of (events.Deliver k) = []
-happenings_of (events.Lose k) = []
-happenings_of (events.Tick site n) = []
-happenings_of (events.Stop site k j) = []
-happenings_of (events.Arm site c k j) = []
-happenings_of (events.Restart site) = []
+abbrev pub actions_of : Event → List Action
+actions_of (events.Sites last) = Open last ∷ []
+actions_of (events.Ask origin text) = Post origin text ∷ []
+actions_of (events.Settle None) = deliveries
+actions_of (events.Noise site bytes) = Noise site bytes ∷ []
+actions_of (events.Settle (Some n)) = []
+actions_of (events.Deliver k) = []
+actions_of (events.Lose k) = []
+actions_of (events.Tick site n) = []
+actions_of (events.Stop site k j) = []
+actions_of (events.Arm site c k j) = []
+actions_of (events.Restart site) = []
 
 abbrev pub world_step : World → Event → World
-world_step world event = fold happen world (happenings_of event)
+world_step world event = fold act world (actions_of event)
 
 abbrev pub course : List Event → World
 course given = fold world_step start given

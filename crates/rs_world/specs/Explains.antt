@@ -1,6 +1,6 @@
--- The report explains the events: all committed executions stand in one serial history, each once and after whatever was
--- reported before it was asked; each answer is its meaning over the database of the executions before it; what the site
--- shows is the database of the whole history; each refusal is true.
+-- The report explains the events: all committed executions are in one serial history, exactly once and in real-time order;
+-- each reported answer is its meaning over the database of the executions before it; the site's tables are those of the
+-- database of the whole history; each refusal is true.
 use Rattle.std.specs.Prelude.{◌≡◌, ◌≢◌, ℕ, ◌+◌, ◌<◌, List, [], ◌∷◌, ◌++◌, length, take, Some, None, Err}
 use Rattle.std.specs.List.{slice_get, Contains}
 use Rattle.rs_base.specs.declared.txn.Origin.{Origin}
@@ -17,103 +17,103 @@ use Rattle.rs_site.specs.Truth.{IsTrueReply}
 use Rattle.rs_site.specs.declared.outs.Decided.{Decided}
 use Rattle.rs_world.specs.declared.report.Given.{Given}
 use Rattle.rs_world.specs.declared.report.Report.{Report}
-use Rattle.rs_world.specs.Course.{Happening, Post, Deliver, course, report_of}
-use Rattle.rs_world.specs.History.{database_of, outcome_behind}
-use Rattle.rs_world.specs.Moments.{happenings, world_after, Hears, Takes}
+use Rattle.rs_world.specs.Course.{Action, Post, Deliver, course, report_of}
+use Rattle.rs_world.specs.History.{database_of, outcome_after}
+use Rattle.rs_world.specs.States.{actions, world_after, Receives, Accepts}
 
--- the reply tells what became of a request that was taken
+-- the reply is the final one of an accepted request
 abbrev pub IsFinal : Reply → Type 0
 IsFinal (replies.Done answered) = Unit {0}
 IsFinal (replies.Denied cause) = Unit {0}
 IsFinal (replies.Failed reason) = Unit {0}
 IsFinal (replies.Shown lines) = Unit {0}
-IsFinal (replies.Syntax place) = Unit {0}
+IsFinal (replies.Syntax position) = Unit {0}
 IsFinal (replies.OldEpoch epoch) = ⊥
 IsFinal (replies.OldRequest last) = ⊥
 IsFinal (replies.Gap last) = ⊥
 
--- the reply tells that the request is committed
+-- the reply reports that the request is committed
 abbrev pub IsCommitted : Reply → Type 0
 IsCommitted (replies.Done answered) = Unit {0}
 IsCommitted (replies.Denied cause) = Unit {0}
 IsCommitted (replies.Failed reason) = ⊥
 IsCommitted (replies.Shown lines) = ⊥
-IsCommitted (replies.Syntax place) = ⊥
+IsCommitted (replies.Syntax position) = ⊥
 IsCommitted (replies.OldEpoch epoch) = ⊥
 IsCommitted (replies.OldRequest last) = ⊥
 IsCommitted (replies.Gap last) = ⊥
 
--- The history has the entry of this reply's request at this place, and the reply is its meaning over the database of the
--- entries before it.
+-- The history has the entry of this reply's request at this position, and the reply is its meaning over the database of
+-- the entries before it.
 pub record IsMeaningAt (history : List Decided) (i : ℕ) (given : Given) : Type 0 where
   pub entry : Decided
   pub there : slice_get history i ≡ Some entry
   pub origin : entry.origin ≡ given.origin
   pub outcome : Outcome
-  pub meaning : outcome_behind (take i history) entry ≡ Some outcome
+  pub meaning : outcome_after (take i history) entry ≡ Some outcome
   pub reply : given.reply ≡ reply_of outcome
 
--- The request of this entry was told that it is committed.
-pub record IsTold (givens : List Given) (entry : Decided) : Type 0 where
-  pub place : ℕ
+-- A reply reports to the request of this entry that it is committed.
+pub record IsReplied (givens : List Given) (entry : Decided) : Type 0 where
+  pub position : ℕ
   pub given : Given
-  pub there : slice_get givens place ≡ Some given
+  pub there : slice_get givens position ≡ Some given
   pub origin : given.origin ≡ entry.origin
   pub committed : IsCommitted given.reply
 
--- The reply of this place was given when the site heard its request, and is true by what the site was then.
-pub record IsGivenTruly (events : List Event) (place : ℕ) (given : Given) : Type 0 where
-  pub before : List Happening
+-- The reply of this position was given when the site received its request, and is true by the site's state then.
+pub record IsGivenTruly (events : List Event) (position : ℕ) (given : Given) : Type 0 where
+  pub before : List Action
   pub site : SiteState
   pub text : List ℕ
-  pub hears : Hears events before site given.origin text
-  pub number : length (world_after before).replies ≡ place
+  pub receives : Receives events before site given.origin text
+  pub number : length (world_after before).replies ≡ position
   -- and the delivery gave it
-  pub gives : slice_get (world_after (before ++ Deliver ∷ [])).replies place ≡ Some given
+  pub gives : slice_get (world_after (before ++ Deliver ∷ [])).replies position ≡ Some given
   pub true : IsTrueReply site given.origin given.reply
 
--- The request was taken with a text that says no statement that is executed, and for which this place is told.
-pub record IsNoRequest (events : List Event) (origin : Origin) (place : ℕ) : Type 0 where
+-- The request was accepted with a text that has no supported statement, and to which this byte offset is replied.
+pub record IsNoRequest (events : List Event) (origin : Origin) (position : ℕ) : Type 0 where
   pub text : List ℕ
-  pub takes : Takes events origin text
+  pub accepts : Accepts events origin text
   pub no_request : statement_of text ≡ None
-  pub says : SaysNothing text place
+  pub says : SaysNothing text position
 
 pub record Explains (events : List Event) (report : Report) : Type 0 where
   -- the report is that of the last state of the course
   pub from_last_state : report ≡ report_of (course events)
   -- no two entries have one transaction or one request
   pub entries_distinct : (i j : ℕ) (a b : Decided) → i < j → slice_get report.history i ≡ Some a → slice_get report.history j ≡ Some b → (a.txn ≢ b.txn) × (a.origin ≢ b.origin)
-  -- each entry was asked, and taken by its site, with its text
-  pub entries_asked : (i : ℕ) (entry : Decided) → slice_get report.history i ≡ Some entry → Takes events entry.origin entry.text
+  -- each entry was asked, and accepted by its site, with its text
+  pub entries_asked : (i : ℕ) (entry : Decided) → slice_get report.history i ≡ Some entry → Accepts events entry.origin entry.text
   -- each entry has its reply
-  pub entries_told : (i : ℕ) (entry : Decided) → slice_get report.history i ≡ Some entry → IsTold report.replies entry
-  -- the history at each moment is a front of that at each later one, and the last is the report's
-  pub history_grows : (before between behind : List Happening) → happenings events ≡ before ++ between ++ behind
+  pub entries_replied : (i : ℕ) (entry : Decided) → slice_get report.history i ≡ Some entry → IsReplied report.replies entry
+  -- the history in each state is a prefix of that in each later one, and the last is the report's
+  pub history_grows : (before between suffix : List Action) → actions events ≡ before ++ between ++ suffix
       → (more : List Decided) × ((world_after (before ++ between)).history ≡ (world_after before).history ++ more)
-  pub history_is_last : report.history ≡ (world_after (happenings events)).history
-  -- each reply that tells of a committed request is the meaning of its entry over the database of the entries before it
+  pub history_is_last : report.history ≡ (world_after (actions events)).history
+  -- each reply that reports a committed request is the meaning of its entry over the database of the entries before it
   pub answers_are_meaning : (k : ℕ) (given : Given) → slice_get report.replies k ≡ Some given → IsCommitted given.reply → (i : ℕ) × IsMeaningAt report.history i given
   -- an entry that was denied changed nothing
-  pub denied_changes_nothing : (i : ℕ) (entry : Decided) (cause : Denial) → slice_get report.history i ≡ Some entry → outcome_behind (take i report.history) entry ≡ Some (Err cause) → database_of (take (i + 1) report.history) ≡ database_of (take i report.history)
-  -- an entry whose reply was given before the request of another was asked stands before that
-  pub after_what_was_reported : (before behind : List Happening) (k i j : ℕ) (given : Given) (a b : Decided)
-      → happenings events ≡ before ++ behind
+  pub denied_changes_nothing : (i : ℕ) (entry : Decided) (cause : Denial) → slice_get report.history i ≡ Some entry → outcome_after (take i report.history) entry ≡ Some (Err cause) → database_of (take (i + 1) report.history) ≡ database_of (take i report.history)
+  -- real-time order: an entry whose reply was given before the request of another was asked comes before that
+  pub after_what_was_reported : (before suffix : List Action) (k i j : ℕ) (given : Given) (a b : Decided)
+      → actions events ≡ before ++ suffix
       → slice_get (world_after before).replies k ≡ Some given → IsCommitted given.reply
       → slice_get report.history i ≡ Some a → a.origin ≡ given.origin
       → slice_get report.history j ≡ Some b → ((text : List ℕ) → Contains before (Post b.origin text) → ⊥)
       → i < j
   -- each reply was true when it was given
   pub replies_given_truly : (k : ℕ) (given : Given) → slice_get report.replies k ≡ Some given → IsGivenTruly events k given
-  -- a text that was told to be no request says no statement that is executed, and its fault stands at the place that was told
-  pub syntax_true : (k place : ℕ) (given : Given) → slice_get report.replies k ≡ Some given → given.reply ≡ replies.Syntax place → IsNoRequest events given.origin place
-  -- what a request is told again is what it was told first
-  pub told_again_the_same : (k l : ℕ) (a b : Given) → slice_get report.replies k ≡ Some a → slice_get report.replies l ≡ Some b → a.origin ≡ b.origin → IsFinal a.reply → IsFinal b.reply → a.reply ≡ b.reply
+  -- a text that was refused has no supported statement, and its fault is at the replied byte offset
+  pub syntax_true : (k position : ℕ) (given : Given) → slice_get report.replies k ≡ Some given → given.reply ≡ replies.Syntax position → IsNoRequest events given.origin position
+  -- a repeated reply is the first one
+  pub repeated_replies_agree : (k l : ℕ) (a b : Given) → slice_get report.replies k ≡ Some a → slice_get report.replies l ≡ Some b → a.origin ≡ b.origin → IsFinal a.reply → IsFinal b.reply → a.reply ≡ b.reply
   -- no stored section ran
   pub runs_stand : report.runs ≡ 0
-  -- at each moment a site's database is that of the history so far
-  pub stores_follow : (before behind : List Happening) (number : ℕ) (site : SiteState) → happenings events ≡ before ++ behind
+  -- in each state a site's database is that of the history so far
+  pub stores_follow : (before suffix : List Action) (number : ℕ) (site : SiteState) → actions events ≡ before ++ suffix
       → slice_get (world_after before).sites number ≡ Some site → site.database ≡ database_of (world_after before).history
-  -- the one site shows the database of the whole history, its tables in order of names
+  -- the one site shows the database of the whole history, its tables sorted by name
   pub stores_agree : report.sites ≡ (record { site = 1; epoch = 1; tables = database_of report.history }) ∷ []
   pub tables_in_order : IsInOrder (database_of report.history)

@@ -11,7 +11,7 @@ abbrev pub effect_of : Database → Decided → Option Stmt → Database × Opti
 effect_of db entry None = (db, None)
 effect_of db entry (Some stmt) = let m = meaning db (execution_of entry.txn entry.origin stmt) in (m.0, Some m.1)
 
--- What an entry does to a database, and its outcome there. A text that is no request does nothing and has none.
+-- An entry's effect on a database, and its outcome there. A text without a supported statement has none.
 abbrev pub effect : Database → Decided → Database × Option Outcome
 effect db entry = effect_of db entry (statement_of entry.text)
 
@@ -19,6 +19,6 @@ effect db entry = effect_of db entry (statement_of entry.text)
 abbrev pub database_of : List Decided → Database
 database_of history = fold (λ db entry. (effect db entry).0) (empty 1) history
 
--- the outcome of an entry behind this history
-abbrev pub outcome_behind : List Decided → Decided → Option Outcome
-outcome_behind history entry = (effect (database_of history) entry).1
+-- the outcome of an entry after this history
+abbrev pub outcome_after : List Decided → Decided → Option Outcome
+outcome_after history entry = (effect (database_of history) entry).1

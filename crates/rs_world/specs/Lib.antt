@@ -3,6 +3,6 @@ pub mod Answered
 pub mod Course
 pub mod Explains
 pub mod History
-pub mod Moments
+pub mod States
 pub mod ReportText
 pub mod Sites

@@ -2,7 +2,8 @@
 use Rattle.std.specs.Prelude.{ℕ, List, ◌++◌, flat_map, length, decimal, codes}
 use Rattle.std.specs.List.{enumerate_from}
 use Rattle.rs_base.specs.declared.name.Swn.{Swn}
-use Rattle.rs_base.specs.Printing.{printed_row, printed_txn, printed_swn, printed_origin, printed_reply}
+use Rattle.rs_base.specs.Printing.{printed_swn}
+use Rattle.rs_print.specs.Replies.{printed_row, printed_txn, printed_origin, printed_reply}
 use Rattle.rs_mean.specs.declared.table.Table.{Table}
 use Rattle.rs_site.specs.declared.outs.Decided.{Decided}
 use Rattle.rs_world.specs.declared.report.Given.{Given}
@@ -12,11 +13,11 @@ use Rattle.rs_world.specs.declared.report.Report.{Report}
 abbrev pub printed_given : Given → List ℕ
 printed_given given = printed_reply given.origin given.reply
 
--- its place in the history, from 1, its transaction, its request and the request's text
+-- its position in the history, from 1, its transaction, its request and the request's text
 abbrev pub printed_entry : ℕ × Decided → List ℕ
 printed_entry (i, entry) = decimal i ++ codes " " ++ printed_txn entry.txn ++ codes " " ++ printed_origin entry.origin ++ codes " " ++ entry.text ++ codes "\n"
 
--- a line with its name, the transaction that made it and the number of its rows
+-- a line with its name, the transaction that created it and the number of its rows
 unfoldable pub printed_table_line : Swn → Table → List ℕ
 printed_table_line name table = codes "table " ++ printed_swn name ++ codes " made " ++ printed_txn table.made ++ codes " rows " ++ decimal (length table.rows) ++ codes "\n"
 
@@ -27,7 +28,7 @@ printed_table named = printed_table_line named.0 named.1 ++ flat_map printed_row
 abbrev pub printed_site : SiteView → List ℕ
 printed_site view = codes "site " ++ decimal view.site ++ codes " up " ++ decimal view.epoch ++ codes "\n" ++ flat_map printed_table view.tables.tables
 
--- how many entries there are, and a line for each
+-- the number of entries, and a line for each
 abbrev pub printed_history : List Decided → List ℕ
 printed_history history = codes "history " ++ decimal (length history) ++ codes "\n" ++ flat_map printed_entry (enumerate_from 1 history)
 

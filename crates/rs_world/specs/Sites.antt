@@ -1,4 +1,4 @@
--- The sites of a world: what they are, and what comes out, where the one of a place takes an input.
+-- The sites of a world: their states, and the output when the one of a number handles an input.
 use Rattle.std.specs.Prelude.{ℕ, List, slice_set, Option, Some, None}
 use Rattle.rs_site.specs.declared.input.Input.{Input}
 use Rattle.rs_site.specs.declared.outs.Outs.{Outs}
@@ -6,8 +6,8 @@ use Rattle.rs_site.specs.State.{SiteState}
 use Rattle.rs_site.specs.Step.{site_step}
 
 abbrev pub sites_after : List SiteState → ℕ → Input → Option SiteState → List SiteState
-sites_after sites place input None = sites
-sites_after sites place input (Some site) = slice_set sites place (site_step site input).0
+sites_after sites position input None = sites
+sites_after sites position input (Some site) = slice_set sites position (site_step site input).0
 
 abbrev pub outs_of : Input → Option SiteState → Option Outs
 outs_of input None = None

@@ -1,4 +1,4 @@
-//! What holds of every course. Each function here is a law: its contract says it, and its body does nothing.
+//! Laws of every course. Each function here is a law: its contract states it, and its body does nothing.
 
 ghost use Rattle.std.specs.Prelude.{List, Bool.false, IsTrue};
 ghost use Rattle.rs_sched.specs.declared.event.Event.{Event};
@@ -13,7 +13,7 @@ pub fn explained()
     ensures { (events : List Event) → IsValid events → IsTrue (are_accepted false events) → Explains events (report_of (course events)) }
 {}
 
-/// By the report of the course of each valid and accepted list of fewer than 2^64 - 1 events each ask is answered.
+/// By the report of the course of each valid and accepted list of fewer than 2 ^ 64 - 1 events each ask is answered.
 pub fn answered()
     ensures { (events : List Event) → IsValid events → IsTrue (are_accepted false events) → HaveTransactions events → EachAskIsAnswered events (report_of (course events)) }
 {}

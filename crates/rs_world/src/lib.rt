@@ -1,13 +1,13 @@
-//! A world of sites: what becomes of it by the events of a schedule, and what it reports.
+//! A world of sites: its course by the events of a schedule, and its report.
 #![tactic(auto)]
 
-mod happening;
+mod action;
 pub mod laws;
 mod print;
 mod queue;
 mod report;
 mod sites;
-mod taking;
+mod stepping;
 #[cfg(test)]
 mod tests;
 mod world;

@@ -2,12 +2,13 @@
 
 ghost use Rattle.std.specs.Prelude.{◌≡◌, ◌++◌, OnOk, IfOk, flat_map, codes, length, decimal};
 ghost use Rattle.std.specs.List.{enumerate_from};
-ghost use Rattle.rs_base.specs.Printing.{printed_row};
+ghost use Rattle.rs_print.specs.Replies.{printed_row};
 ghost use Rattle.rs_world.specs.ReportText as spec;
 
 use crate::report::{Given, Report, SiteView};
-use rs_base::{Bytes, NoMemory, Swn, put};
+use rs_base::{Bytes, NoMemory, Swn};
 use rs_mean::{Database, Table};
+use rs_print::append;
 use rs_rows::RowRun;
 use rs_site::Decided;
 use std::alloc::Global;
@@ -16,19 +17,19 @@ fn print_givens(givens: &[Given], out: &mut Bytes) -> Result<(), NoMemory>
     ensures { OnOk result (out.new ≡ out.old ++ flat_map spec.printed_given givens.now) }
 {
     for given in givens {
-        put::reply(out, &given.origin, &given.reply)?;
+        append::reply(out, &given.origin, &given.reply)?;
     }
     Ok(())
 }
 
-fn print_entry(place: u64, entry: &Decided, out: &mut Bytes) -> Result<(), NoMemory>
-    ensures { OnOk result (out.new ≡ out.old ++ spec.printed_entry (place, entry.now)) }
+fn print_entry(position: u64, entry: &Decided, out: &mut Bytes) -> Result<(), NoMemory>
+    ensures { OnOk result (out.new ≡ out.old ++ spec.printed_entry (position, entry.now)) }
 {
-    put::number(out, place)?;
+    append::number(out, position)?;
     out.extend(b" ")?;
-    put::txn(out, &entry.txn)?;
+    append::txn(out, &entry.txn)?;
     out.extend(b" ")?;
-    put::origin(out, &entry.origin)?;
+    append::origin(out, &entry.origin)?;
     out.extend(b" ")?;
     out.extend(entry.text.as_slice())?;
     out.extend(b"\n")
@@ -37,10 +38,10 @@ fn print_entry(place: u64, entry: &Decided, out: &mut Bytes) -> Result<(), NoMem
 fn print_entries(entries: &[Decided], out: &mut Bytes) -> Result<(), NoMemory>
     ensures { OnOk result (out.new ≡ out.old ++ flat_map spec.printed_entry (enumerate_from 1 entries.now)) }
 {
-    let mut place = 1u64;
+    let mut position = 1u64;
     for entry in entries {
-        print_entry(place, entry, out)?;
-        place += 1;
+        print_entry(position, entry, out)?;
+        position += 1;
     }
     Ok(())
 }
@@ -49,7 +50,7 @@ fn print_history(entries: &[Decided], out: &mut Bytes) -> Result<(), NoMemory>
     ensures { OnOk result (out.new ≡ out.old ++ spec.printed_history entries.now) }
 {
     out.extend(b"history ")?;
-    put::number(out, entries.len() as u64)?;
+    append::number(out, entries.len() as u64)?;
     out.extend(b"\n")?;
     print_entries(entries, out)
 }
@@ -57,9 +58,9 @@ fn print_history(entries: &[Decided], out: &mut Bytes) -> Result<(), NoMemory>
 fn print_rows(rows: &RowRun<'_>, out: &mut Bytes) -> Result<(), NoMemory>
     ensures { OnOk result (out.new ≡ out.old ++ flat_map printed_row rows.now) }
 {
-    let mut rest = rows.again();
+    let mut rest = rows.view();
     while let Some((row, others)) = rest.split_first() {
-        put::row(out, row)?;
+        append::row(out, row)?;
         rest = others;
     }
     Ok(())
@@ -70,11 +71,11 @@ fn print_table_line(name: &Swn, table: &Table, out: &mut Bytes) -> Result<(), No
     ensures { OnOk result (out.new ≡ out.old ++ spec.printed_table_line name.now table.now) }
 {
     out.extend(b"table ")?;
-    put::swn(out, name)?;
+    append::swn(out, name)?;
     out.extend(b" made ")?;
-    put::txn(out, &table.made)?;
+    append::txn(out, &table.made)?;
     out.extend(b" rows ")?;
-    put::number(out, table.rows.len() as u64)?;
+    append::number(out, table.rows.len() as u64)?;
     out.extend(b"\n")
 }
 
@@ -98,9 +99,9 @@ fn print_site(view: &SiteView, out: &mut Bytes) -> Result<(), NoMemory>
     ensures { OnOk result (out.new ≡ out.old ++ spec.printed_site view.now) }
 {
     out.extend(b"site ")?;
-    put::number(out, u64::from(view.site.number()))?;
+    append::number(out, u64::from(view.site.number()))?;
     out.extend(b" up ")?;
-    put::number(out, u64::from(view.epoch))?;
+    append::number(out, u64::from(view.epoch))?;
     out.extend(b"\n")?;
     print_tables(&view.tables, out)
 }
@@ -118,7 +119,7 @@ fn print_runs(runs: u64, out: &mut Bytes) -> Result<(), NoMemory>
     ensures { OnOk result (out.new ≡ out.old ++ spec.printed_runs runs) }
 {
     out.extend(b"runs ")?;
-    put::number(out, runs)?;
+    append::number(out, runs)?;
     out.extend(b"\n")
 }
 
@@ -131,7 +132,7 @@ fn print_parts(report: &Report, out: &mut Bytes) -> Result<(), NoMemory>
     print_sites(report.sites.as_slice(), out)
 }
 
-/// Prints a report: the replies, the history, the count of runs, and each site with its tables.
+/// Appends a report: the replies, the history, the number of runs, and each site with its tables.
 pub fn print_report(alloc: Global, report: &Report) -> Result<Bytes, NoMemory>
     ensures { IfOk result (λ text. text ≡ spec.printed_report report.now) }
 {

@@ -1,4 +1,4 @@
-//! Lists whose items are moved out, from the first on.
+//! Lists whose items are moved out from the first on.
 
 ghost use Rattle.std.specs.Prelude.{◌≡◌, reverse, IfOk};
 
@@ -6,13 +6,13 @@ use rs_base::{NoMemory, with_room};
 use sqlite_items::Items;
 use std::alloc::Global;
 
-/// The items in reverse order, so that the last that is taken out of them is the last of `items`.
-pub fn turned<T: Drop>(alloc: Global, mut items: Items<T>) -> Result<Items<T>, NoMemory>
-    ensures { IfOk result (λ turned. reverse turned ≡ items) }
+/// Reverses the items, so that popping them gives the first first.
+pub fn reversed<T: Drop>(alloc: Global, mut items: Items<T>) -> Result<Items<T>, NoMemory>
+    ensures { IfOk result (λ reversed. reverse reversed ≡ items) }
 {
-    let mut turned = with_room(alloc, items.len())?;
+    let mut reversed = with_room(alloc, items.len())?;
     while let Some(item) = items.pop() {
-        turned.push(item)?;
+        reversed.push(item)?;
     }
-    Ok(turned)
+    Ok(reversed)
 }

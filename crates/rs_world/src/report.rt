@@ -1,4 +1,4 @@
-//! What the course of a world reports.
+//! The report of a world.
 
 ghost use Rattle.std.specs.Prelude.{◌≡◌};
 ghost use Rattle.rs_world.specs.Course.{view_of};
@@ -8,8 +8,8 @@ use rs_mean::Database;
 use rs_site::{Decideds, Site};
 use sqlite_items::Items;
 
-/// A reply as it was given, and the request that it answers, as it was asked.
-#[derive(Debug, Drop)]
+/// A reply, and the request that it answers, as it was asked.
+#[derive(Drop)]
 pub struct Given {
     pub origin: Origin,
     pub reply: Reply,
@@ -18,7 +18,7 @@ pub struct Given {
 /// Replies in the order in which they were given.
 pub type ReplyList = Items<Given>;
 
-/// What a site that is up shows: its epoch and its tables.
+/// The view of a site that is up: its epoch and its tables.
 #[derive(Drop)]
 pub struct SiteView {
     pub site: SiteNo,
@@ -27,7 +27,7 @@ pub struct SiteView {
 }
 
 impl SiteView {
-    /// What a site shows.
+    /// Returns the view of a site.
     pub fn of(site: Site) -> SiteView
         ensures { result ≡ view_of site }
     {
@@ -39,10 +39,10 @@ impl SiteView {
     }
 }
 
-/// What each site shows, in order of their numbers.
+/// The view of each site, sorted by number.
 pub type SiteViews = Items<SiteView>;
 
-/// The replies, the committed executions in their serial order, how many stored sections ran, and the sites.
+/// The replies, the committed executions in their serial order, the number of stored sections that ran, and the sites.
 #[derive(Drop)]
 pub struct Report {
     pub replies: ReplyList,

@@ -12,7 +12,7 @@ use rs_site::{Input, Outs, Site};
 use std::alloc::Global;
 use std::marker::Model;
 
-/// Sites 1 and up. Contracts see the list of what each is.
+/// Sites 1 and up. Contracts see the list of their states.
 #[derive(Drop)]
 pub struct Sites {
     sites: Vec<Site>,
@@ -28,7 +28,7 @@ impl Model for Sites {
 }
 
 impl Sites {
-    /// No site.
+    /// Makes an empty list of sites.
     pub fn new(alloc: Global) -> Sites
         ensures { result ≡ [] }
     {
@@ -51,8 +51,8 @@ impl Sites {
         Ok(Sites { sites })
     }
 
-    /// The site of this number takes an input, where there is one. It gives what came out. After `NoMemory` the sites are
-    /// as before.
+    /// Gives the site of this number an input, if there is such a site, and returns the output. On out of memory the sites
+    /// stay as they were.
     pub fn step(
         &mut self,
         alloc: Global,
@@ -69,7 +69,7 @@ impl Sites {
         }
     }
 
-    /// What each site shows.
+    /// Returns the view of each site.
     pub fn into_views(self, alloc: Global) -> Result<SiteViews, NoMemory>
         ensures { IfOk result (λ views. views ≡ map view_of self) }
     {

@@ -1,4 +1,4 @@
-//! A world of sites, and what happens to it.
+//! A world of sites, and its actions.
 
 ghost use Rattle.std.specs.Prelude.{◌≡◌, List, false, IsTrue, OnOk, IfOk};
 ghost use Rattle.rs_sched.specs.declared.event.Event.{Event};
@@ -17,15 +17,15 @@ use sqlite_items::Items;
 use std::alloc::Global;
 
 /// A datagram as it was sent to a site.
-#[derive(Debug, Drop)]
+#[derive(Drop)]
 pub struct Datagram {
     pub from: Peer,
     pub to: SiteNo,
     pub bytes: Bytes,
 }
 
-/// Sites 1 and up, the datagrams in the order in which they were sent, how many of them were delivered, the replies and
-/// the committed executions, in their order.
+/// Sites 1 and up, the datagrams in the order in which they were sent, the number of them delivered, the replies and the
+/// committed executions, in their order.
 #[derive(Drop)]
 pub struct World {
     pub sites: Sites,
@@ -36,7 +36,7 @@ pub struct World {
 }
 
 impl World {
-    /// The world before the first event.
+    /// Makes the world before the first event.
     pub fn new(alloc: Global) -> World
         ensures { result ≡ spec.start }
     {
@@ -49,8 +49,8 @@ impl World {
         }
     }
 
-    /// What becomes of the world by an event. The time goes with the bytes of the event and of the datagrams that it
-    /// delivers, and with the rows that the statements in these look at. After `NoMemory` the world is used no more.
+    /// Plays one event. Linear in the bytes of the event and of the datagrams that it delivers, and in the rows that their
+    /// statements look at. After `NoMemory` the world is used no more.
     pub fn step(&mut self, alloc: Global, event: &Event) -> Result<(), NoMemory>
         ensures { OnOk result (self.new ≡ spec.world_step self.old event.now) }
     {
@@ -58,7 +58,7 @@ impl World {
             Event::Sites(last) => self.open_sites(alloc, *last),
             Event::Ask { origin, text } => self.post(alloc, origin, text),
             Event::Settle(None) => self.settle(alloc),
-            Event::Noise(site, bytes) => self.hear_noise(alloc, *site, bytes),
+            Event::Noise(site, bytes) => self.receive_noise(alloc, *site, bytes),
             Event::Settle(Some(_)) => Ok(()),
             Event::Deliver(_) | Event::Lose(_) => Ok(()),
             Event::Tick(_, _) | Event::Stop(_, _, _) => Ok(()),
@@ -66,7 +66,7 @@ impl World {
         }
     }
 
-    /// The world after these events.
+    /// Plays these events.
     pub fn play(alloc: Global, events: &[Event]) -> Result<World, NoMemory>
         ensures { IfOk result (λ world. world ≡ spec.course events.now) }
     {
@@ -94,7 +94,7 @@ impl World {
         })
     }
 
-    /// What the world reports. It explains each valid and accepted list of events by which the world came to be, and each
+    /// Returns the report of the world. It explains each valid and accepted list of events that led to the world, and each
     /// ask of these is answered.
     pub fn into_report(self, alloc: Global) -> Result<Report, NoMemory>
         ensures value { IfOk result (λ report. report ≡ spec.report_of self) }

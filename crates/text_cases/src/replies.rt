@@ -4,9 +4,9 @@ use crate::values::read_row;
 use crate::words::Words;
 use rs_base::{
     Answer, Answers, Bytes, Denial, Enlist, Lines, ReadFault, Reason, Reply, Resource, Rows, Swn,
-    print_reply,
 };
 use rs_name::parse_swn;
+use rs_print::print_reply;
 use std::alloc::Global;
 
 /// Reads `ok`, `changed:COUNT` or `rows:ROW;ROW`.

@@ -4,8 +4,9 @@ use crate::escape::unescaped;
 use crate::words::Words;
 use rs_base::{
     Bytes, Ident, NoMemory, ReadFault, Row, Swn, Txn, Txt, TxtFault, Value, print_number,
-    print_origin, print_row, print_swn, print_txn, print_value,
+    print_swn, print_value,
 };
+use rs_print::{print_origin, print_row, print_txn};
 use std::alloc::Global;
 
 /// Reads an integer, or a text.

@@ -1,12 +1,12 @@
-//! What INSERT and UPDATE put into rows.
+//! Tokens of the values of INSERT and the assignments of UPDATE.
 
 ghost use Rattle.std.specs.Prelude.{◌≡◌, ◌++◌, OnOk};
 ghost use Rattle.rs_ast.specs.Spelled as spec;
 
 use crate::change::{Arith, Expr, Set, Term, TermRow};
 use crate::spell::value::param;
-use crate::spell::{Spell, ident, mark, tuple};
-use crate::token::{Mark, Tokens};
+use crate::spell::{Spell, ident, symbol, tuple};
+use crate::token::{Symbol, Tokens};
 use rs_base::NoMemory;
 use std::alloc::Global;
 
@@ -36,14 +36,14 @@ impl Spell for TermRow {
     }
 }
 
-#[tactic(auto, unfolding(crate::specs::Spelled::arith_mark))]
-fn arith_mark(arith: Arith) -> Mark
-    ensures { result ≡ spec.arith_mark arith }
+#[tactic(auto, unfolding(crate::specs::Spelled::arith_symbol))]
+fn arith_symbol(arith: Arith) -> Symbol
+    ensures { result ≡ spec.arith_symbol arith }
 {
     match arith {
-        Arith::Add => Mark::Plus,
-        Arith::Sub => Mark::Minus,
-        Arith::Mul => Mark::Star,
+        Arith::Add => Symbol::Plus,
+        Arith::Sub => Symbol::Minus,
+        Arith::Mul => Symbol::Star,
     }
 }
 
@@ -54,7 +54,7 @@ fn more(alloc: Global, more: &Option<(Arith, Term)>, out: &mut Tokens) -> Result
     let Some((arith, second)) = more else {
         return Ok(());
     };
-    mark(arith_mark(*arith), out)?;
+    symbol(arith_symbol(*arith), out)?;
     second.spell(alloc, out)
 }
 
@@ -78,7 +78,7 @@ impl Spell for Set {
     #[tactic(auto, unfolding(crate::specs::Spelled::spelled_set))]
     fn spell(&self, alloc: Global, out: &mut Tokens) -> Result<(), NoMemory> {
         ident(self.column, out)?;
-        mark(Mark::Equal, out)?;
+        symbol(Symbol::Equal, out)?;
         self.expr.spell(alloc, out)
     }
 }

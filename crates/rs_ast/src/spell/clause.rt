@@ -1,26 +1,26 @@
-//! What WHERE asks of a row.
+//! Tokens of predicates.
 
 ghost use Rattle.std.specs.Prelude.{◌≡◌, ◌++◌, OnOk};
 ghost use Rattle.rs_ast.specs.Spelled as spec;
 
 use crate::clause::{Clause, Cmp, Op, Operand};
 use crate::spell::value::param;
-use crate::spell::{Spell, keyword, list, mark, word};
-use crate::token::{Mark, Tokens};
+use crate::spell::{Spell, keyword, list, symbol, word};
+use crate::token::{Symbol, Tokens};
 use rs_base::NoMemory;
 use std::alloc::Global;
 
-#[tactic(auto, unfolding(crate::specs::Spelled::mark_of))]
-fn mark_of(op: Op) -> Mark
-    ensures { result ≡ spec.mark_of op }
+#[tactic(auto, unfolding(crate::specs::Spelled::symbol_of))]
+fn symbol_of(op: Op) -> Symbol
+    ensures { result ≡ spec.symbol_of op }
 {
     match op {
-        Op::Eq => Mark::Equal,
-        Op::Ne => Mark::NotEqual,
-        Op::Lt => Mark::Less,
-        Op::Le => Mark::LessOrEqual,
-        Op::Gt => Mark::Greater,
-        Op::Ge => Mark::GreaterOrEqual,
+        Op::Eq => Symbol::Equal,
+        Op::Ne => Symbol::NotEqual,
+        Op::Lt => Symbol::Less,
+        Op::Le => Symbol::LessOrEqual,
+        Op::Gt => Symbol::Greater,
+        Op::Ge => Symbol::GreaterOrEqual,
     }
 }
 
@@ -47,7 +47,7 @@ impl Spell for Cmp {
     #[tactic(auto, unfolding(crate::specs::Spelled::spelled_cmp))]
     fn spell(&self, alloc: Global, out: &mut Tokens) -> Result<(), NoMemory> {
         self.left.spell(alloc, out)?;
-        mark(mark_of(self.op), out)?;
+        symbol(symbol_of(self.op), out)?;
         self.right.spell(alloc, out)
     }
 }
@@ -55,9 +55,9 @@ impl Spell for Cmp {
 fn any(alloc: Global, any: &[Cmp], out: &mut Tokens) -> Result<(), NoMemory>
     ensures { OnOk result (out.new ≡ out.old ++ spec.spelled_any any.now) }
 {
-    mark(Mark::Open, out)?;
+    symbol(Symbol::Open, out)?;
     list(alloc, &keyword(b"or"), any, out)?;
-    mark(Mark::Close, out)
+    symbol(Symbol::Close, out)
 }
 
 #[tactic(auto, unfolding(crate::specs::Spelled::spelled_cmps))]

@@ -1,11 +1,11 @@
-//! Names and columns.
+//! Tokens of names and columns.
 
 ghost use Rattle.std.specs.Prelude.{◌≡◌, ◌++◌, OnOk};
 ghost use Rattle.rs_ast.specs.Spelled as spec;
 
 use crate::column::{ColDef, ColRef};
-use crate::spell::{Spell, ident, mark, number, word};
-use crate::token::{Mark, Tokens};
+use crate::spell::{Spell, ident, number, symbol, word};
+use crate::token::{Symbol, Tokens};
 use rs_base::{Ident, Kind, NameText, NoMemory, SiteNo};
 use std::alloc::Global;
 
@@ -26,7 +26,7 @@ fn site(site: Option<SiteNo>, out: &mut Tokens) -> Result<(), NoMemory>
     let Some(site) = site else {
         return Ok(());
     };
-    mark(Mark::At, out)?;
+    symbol(Symbol::At, out)?;
     number(u64::from(site.number()), out)
 }
 
@@ -43,7 +43,7 @@ fn creator(
     };
     ident(creator, out)?;
     site(creator_site, out)?;
-    mark(Mark::Dot, out)
+    symbol(Symbol::Dot, out)
 }
 
 impl Spell for NameText {
@@ -89,7 +89,7 @@ fn table(table: Option<Ident>, out: &mut Tokens) -> Result<(), NoMemory>
         return Ok(());
     };
     ident(table, out)?;
-    mark(Mark::Dot, out)
+    symbol(Symbol::Dot, out)
 }
 
 impl Spell for ColRef {

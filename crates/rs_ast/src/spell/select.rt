@@ -1,4 +1,4 @@
-//! Queries.
+//! Tokens of queries.
 
 ghost use Rattle.std.specs.Prelude.{◌≡◌, ◌++◌, OnOk, IsTrue};
 ghost use Rattle.rs_base.specs.Ident.{is_ident};
@@ -7,8 +7,8 @@ ghost use Rattle.rs_ast.specs.Spelled as spec;
 use crate::column::ColRef;
 use crate::select::{Item, Key, KeyBy, Select, SelectItems, TableRef};
 use crate::spell::clause::condition;
-use crate::spell::{Spell, comma_list, ident, mark, number, word};
-use crate::token::{Mark, Tokens};
+use crate::spell::{Spell, comma_list, ident, number, symbol, word};
+use crate::token::{Symbol, Tokens};
 use rs_base::{Ident, NoMemory};
 use std::alloc::Global;
 
@@ -23,9 +23,9 @@ fn function(
     ensures { OnOk result (out.new ≡ out.old ++ spec.spelled_function function.now (spec.spelled_ref column.now)) }
 {
     word(function, out)?;
-    mark(Mark::Open, out)?;
+    symbol(Symbol::Open, out)?;
     column.spell(alloc, out)?;
-    mark(Mark::Close, out)
+    symbol(Symbol::Close, out)
 }
 
 #[tactic(auto, unfolding(crate::specs::Spelled::spelled_function, crate::specs::Spelled::spelled_item))]
@@ -33,9 +33,9 @@ fn count(out: &mut Tokens) -> Result<(), NoMemory>
     ensures { OnOk result (out.new ≡ out.old ++ spec.spelled_item Item.Count) }
 {
     word(b"count", out)?;
-    mark(Mark::Open, out)?;
-    mark(Mark::Star, out)?;
-    mark(Mark::Close, out)
+    symbol(Symbol::Open, out)?;
+    symbol(Symbol::Star, out)?;
+    symbol(Symbol::Close, out)
 }
 
 impl Spell for Item {
@@ -60,7 +60,7 @@ fn items(alloc: Global, items: &Option<SelectItems>, out: &mut Tokens) -> Result
     ensures { OnOk result (out.new ≡ out.old ++ spec.spelled_items items.now) }
 {
     match items {
-        None => mark(Mark::Star, out),
+        None => symbol(Symbol::Star, out),
         Some(items) => comma_list(alloc, items.as_slice(), out),
     }
 }
@@ -75,9 +75,9 @@ fn distinct(distinct: bool, out: &mut Tokens) -> Result<(), NoMemory>
     Ok(())
 }
 
-#[tactic(auto, unfolding(crate::specs::Spelled::spelled_answered))]
-fn answered(alloc: Global, select: &Select, out: &mut Tokens) -> Result<(), NoMemory>
-    ensures { OnOk result (out.new ≡ out.old ++ spec.spelled_answered select.now.distinct select.now.items) }
+#[tactic(auto, unfolding(crate::specs::Spelled::spelled_select_list))]
+fn select_list(alloc: Global, select: &Select, out: &mut Tokens) -> Result<(), NoMemory>
+    ensures { OnOk result (out.new ≡ out.old ++ spec.spelled_select_list select.now.distinct select.now.items) }
 {
     word(b"select", out)?;
     distinct(select.distinct, out)?;
@@ -140,9 +140,9 @@ impl Spell for KeyBy {
     }
 }
 
-#[tactic(auto, unfolding(crate::specs::Spelled::spelled_falling))]
-fn falling(desc: bool, out: &mut Tokens) -> Result<(), NoMemory>
-    ensures { OnOk result (out.new ≡ out.old ++ spec.spelled_falling desc) }
+#[tactic(auto, unfolding(crate::specs::Spelled::spelled_direction))]
+fn direction(desc: bool, out: &mut Tokens) -> Result<(), NoMemory>
+    ensures { OnOk result (out.new ≡ out.old ++ spec.spelled_direction desc) }
 {
     if desc {
         word(b"desc", out)?;
@@ -158,7 +158,7 @@ impl Spell for Key {
     #[tactic(auto, unfolding(crate::specs::Spelled::spelled_key))]
     fn spell(&self, alloc: Global, out: &mut Tokens) -> Result<(), NoMemory> {
         self.by.spell(alloc, out)?;
-        falling(self.desc, out)
+        direction(self.desc, out)
     }
 }
 
@@ -181,7 +181,7 @@ impl Spell for Select {
 
     #[tactic(auto, unfolding(crate::specs::Spelled::spelled_select))]
     fn spell(&self, alloc: Global, out: &mut Tokens) -> Result<(), NoMemory> {
-        answered(alloc, self, out)?;
+        select_list(alloc, self, out)?;
         tables(alloc, self.from.as_slice(), out)?;
         condition(alloc, self.clauses.as_slice(), out)?;
         group(alloc, self.group.as_slice(), out)?;

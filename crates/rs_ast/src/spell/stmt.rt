@@ -1,4 +1,4 @@
-//! Statements.
+//! Tokens of statements.
 
 ghost use Rattle.std.specs.Prelude.{◌≡◌, [], ◌∷◌, ◌++◌, flat_map, take, OnOk, IsTrue};
 ghost use Rattle.rs_base.specs.Ident.{is_ident};
@@ -10,13 +10,13 @@ use crate::clause::Clause;
 use crate::column::ColDef;
 use crate::select::Select;
 use crate::spell::clause::condition;
-use crate::spell::{Spell, comma_list, ident, mark, number, tuple, word};
+use crate::spell::{Spell, comma_list, ident, number, symbol, tuple, word};
 use crate::stmt::{Dml, Stmt};
-use crate::token::{Mark, Tokens};
+use crate::token::{Symbol, Tokens};
 use rs_base::{Ident, NameText, NoMemory, SiteNo, Value};
 use std::alloc::Global;
 
-/// The two words that a statement begins with.
+/// Appends the two words that a statement begins with.
 fn words(first: &[u8], second: &[u8], out: &mut Tokens) -> Result<(), NoMemory>
     requires first { IsTrue (is_ident first.now) }
     requires second { IsTrue (is_ident second.now) }
@@ -132,9 +132,9 @@ fn create_index(
     ident(index, out)?;
     word(b"on", out)?;
     name.spell(alloc, out)?;
-    mark(Mark::Open, out)?;
+    symbol(Symbol::Open, out)?;
     ident(column, out)?;
-    mark(Mark::Close, out)
+    symbol(Symbol::Close, out)
 }
 
 #[tactic(auto, unfolding(crate::specs::Spelled::spelled_stmt))]
@@ -192,7 +192,7 @@ fn step(alloc: Global, dml: &Dml, out: &mut Tokens) -> Result<(), NoMemory>
     ensures { OnOk result (out.new ≡ out.old ++ spec.spelled_step dml.now) }
 {
     dml.spell(alloc, out)?;
-    mark(Mark::Semicolon, out)
+    symbol(Symbol::Semicolon, out)
 }
 
 #[tactic(auto, unfolding(crate::specs::Spelled::spelled_steps))]

@@ -1,10 +1,10 @@
-//! Values and parameters.
+//! Tokens of values and parameters.
 
 ghost use Rattle.std.specs.Prelude.{◌≡◌, ◌++◌, OnOk};
 ghost use Rattle.rs_ast.specs.Spelled as spec;
 
-use crate::spell::{Spell, ident, mark, number};
-use crate::token::{Mark, Token, Tokens};
+use crate::spell::{Spell, ident, number, symbol};
+use crate::token::{Symbol, Token, Tokens};
 use rs_base::{Ident, NoMemory, Value};
 use std::alloc::Global;
 
@@ -13,7 +13,7 @@ fn integer(n: i64, out: &mut Tokens) -> Result<(), NoMemory>
     ensures { OnOk result (out.new ≡ out.old ++ spec.spelled_integer n) }
 {
     if n < 0 {
-        mark(Mark::Minus, out)?;
+        symbol(Symbol::Minus, out)?;
     }
     number(n.unsigned_abs(), out)
 }
@@ -38,6 +38,6 @@ impl Spell for Value {
 pub fn param(param: Ident, out: &mut Tokens) -> Result<(), NoMemory>
     ensures { OnOk result (out.new ≡ out.old ++ spec.spelled_param param) }
 {
-    mark(Mark::Colon, out)?;
+    symbol(Symbol::Colon, out)?;
     ident(param, out)
 }

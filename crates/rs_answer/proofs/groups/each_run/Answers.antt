@@ -14,55 +14,55 @@ use Rattle.rs_answer.proofs.groups.each_run.Goals as goal
 
 pub loop-rest-init : goal.loop-rest-init
 loop-rest-init c =
-    let places = c.args.places.now in
-    let groups = grouped_by places c.args.rows.now in (
+    let column_indexes = c.args.column_indexes.now in
+    let groups = grouped_by column_indexes c.args.rows.now in (
       subst (λ (given : List (List Value)). Progress c.args.items.now given groups groups) (sym c.new-given.ensures.items) (progress_none c.args.items.now groups),
-      rising_from_sorted (on_total (group_values places) group_total) c.args.rows.now c.requires,
+      rising_from_sorted (on_total (group_values column_indexes) group_total) c.args.rows.now c.requires,
     )
 
 pub split_at-requires : goal.split_at-requires
 split_at-requires c =
-    let places = c.args.places.now in
+    let column_indexes = c.args.column_indexes.now in
     let rest = c.loop-rest.rest.now in
-    let front : c.run_length.result ≡ prefix_len (alike_to places c.first-item.result) rest
-    = c.run_length.ensures ∙ ap (λ (row : List Value). prefix_len (alike_to places row) rest) c.as_slice.ensures in
-    omega (arith, prefix_len-le-length (alike_to places c.first-item.result) rest)
+    let prefix : c.run_length.result ≡ prefix_len (alike_to column_indexes c.first-item.result) rest
+    = c.run_length.ensures ∙ ap (λ (row : List Value). prefix_len (alike_to column_indexes row) rest) c.as_slice.ensures in
+    omega (arith, prefix_len-le-length (alike_to column_indexes c.first-item.result) rest)
 
 pub returns-in_err-push_group : goal.returns-in_err-push_group
 returns-in_err-push_group c =
-    let places = c.args.places.now in
+    let column_indexes = c.args.column_indexes.now in
     let rest = c.loop-rest.rest.now in
-    let front : c.run_length.result ≡ prefix_len (alike_to places c.first-item.result) rest
-    = c.run_length.ensures ∙ ap (λ (row : List Value). prefix_len (alike_to places row) rest) c.as_slice.ensures in
+    let prefix : c.run_length.result ≡ prefix_len (alike_to column_indexes c.first-item.result) rest
+    = c.run_length.ensures ∙ ap (λ (row : List Value). prefix_len (alike_to column_indexes row) rest) c.as_slice.ensures in
     let some : 0 < length rest = omega arith in
-    let cut = run_cut places c.first-item.result rest c.run_length.result some c.first-item.is front c.loop-rest.invariant.1 in
-    let left : grouped_by places rest ≡ c.split_at.result.0.now ∷ grouped_by places c.split_at.result.1.now = rw (c.split_at.ensures.front, c.split_at.ensures.back) cut in
-    let sums : (group_overflows c.args.items.now c.split_at.result.0.now || any_overflows c.args.items.now (grouped_by places c.split_at.result.1.now)) ≡ any_overflows c.args.items.now (grouped_by places c.args.rows.now)
+    let cut = run_cut column_indexes c.first-item.result rest c.run_length.result some c.first-item.is prefix c.loop-rest.invariant.1 in
+    let left : grouped_by column_indexes rest ≡ c.split_at.result.0.now ∷ grouped_by column_indexes c.split_at.result.1.now = rw (c.split_at.ensures.front, c.split_at.ensures.back) cut in
+    let sums : (group_overflows c.args.items.now c.split_at.result.0.now || any_overflows c.args.items.now (grouped_by column_indexes c.split_at.result.1.now)) ≡ any_overflows c.args.items.now (grouped_by column_indexes c.args.rows.now)
     = sym (ap (any_overflows c.args.items.now) left) ∙ c.loop-rest.invariant.0.sums in
     grind (arith, common_steps)
 
 pub loop-rest-preserved : goal.loop-rest-preserved
 loop-rest-preserved c =
-    let places = c.args.places.now in
+    let column_indexes = c.args.column_indexes.now in
     let items = c.args.items.now in
     let rest = c.loop-rest.rest.now in
-    let front : c.run_length.result ≡ prefix_len (alike_to places c.first-item.result) rest
-    = c.run_length.ensures ∙ ap (λ (row : List Value). prefix_len (alike_to places row) rest) c.as_slice.ensures in
+    let prefix : c.run_length.result ≡ prefix_len (alike_to column_indexes c.first-item.result) rest
+    = c.run_length.ensures ∙ ap (λ (row : List Value). prefix_len (alike_to column_indexes row) rest) c.as_slice.ensures in
     let some : 0 < length rest = omega arith in
-    let cut = run_cut places c.first-item.result rest c.run_length.result some c.first-item.is front c.loop-rest.invariant.1 in
-    let left : grouped_by places rest ≡ c.split_at.result.0.now ∷ grouped_by places c.split_at.result.1.now = rw (c.split_at.ensures.front, c.split_at.ensures.back) cut in
-    let groups = grouped_by places c.args.rows.now in
+    let cut = run_cut column_indexes c.first-item.result rest c.run_length.result some c.first-item.is prefix c.loop-rest.invariant.1 in
+    let left : grouped_by column_indexes rest ≡ c.split_at.result.0.now ∷ grouped_by column_indexes c.split_at.result.1.now = rw (c.split_at.ensures.front, c.split_at.ensures.back) cut in
+    let groups = grouped_by column_indexes c.args.rows.now in
     let so_far = subst (λ (left : List (List (List Value))). Progress items c.loop-rest.given.items left groups) left c.loop-rest.invariant.0 in (
-      progress_more items c.loop-rest.given.items c.split_at.result.0.now (grouped_by places c.split_at.result.1.now) groups so_far c.push_group.new.rows.items c.in_ok-push_group.ensures.0 c.in_ok-push_group.ensures.1,
-      rw c.split_at.ensures.back (rising_drop (by_group places) c.run_length.result rest c.loop-rest.invariant.1),
+      progress_more items c.loop-rest.given.items c.split_at.result.0.now (grouped_by column_indexes c.split_at.result.1.now) groups so_far c.push_group.new.rows.items c.in_ok-push_group.ensures.0 c.in_ok-push_group.ensures.1,
+      rw c.split_at.ensures.back (rising_drop (by_group column_indexes) c.run_length.result rest c.loop-rest.invariant.1),
     )
 
 pub loop-rest-smaller : goal.loop-rest-smaller
 loop-rest-smaller c =
-    let places = c.args.places.now in
+    let column_indexes = c.args.column_indexes.now in
     let rest = c.loop-rest.rest.now in
-    let front : c.run_length.result ≡ prefix_len (alike_to places c.first-item.result) rest
-    = c.run_length.ensures ∙ ap (λ (row : List Value). prefix_len (alike_to places row) rest) c.as_slice.ensures in
+    let prefix : c.run_length.result ≡ prefix_len (alike_to column_indexes c.first-item.result) rest
+    = c.run_length.ensures ∙ ap (λ (row : List Value). prefix_len (alike_to column_indexes row) rest) c.as_slice.ensures in
     let some : 0 < length rest = omega arith in
-    let more = run_some places c.first-item.result rest c.run_length.result some c.first-item.is front in
+    let more = run_some column_indexes c.first-item.result rest c.run_length.result some c.first-item.is prefix in
     omega arith

@@ -19,8 +19,8 @@ returns-in_ok-rows c =
     let sorted = c.in_ok-rows.rows.items in
     let some : shape.group ≢ [] = λ none. false≢true (c.if-is_empty.ensures.1 none) in
     let stable : IsStableByKey (group_values shape.group) group_cmp joined sorted
-    = subst (λ (places : List ℕ). IsStableByKey (group_values places) group_cmp joined sorted) c.as_slice-else-is_empty.ensures c.in_ok-rows.ensures.stable in
-    let places = c.as_slice-else-is_empty-2.result.now in
+    = subst (λ (column_indexes : List ℕ). IsStableByKey (group_values column_indexes) group_cmp joined sorted) c.as_slice-else-is_empty.ensures c.in_ok-rows.ensures.stable in
+    let column_indexes = c.as_slice-else-is_empty-2.result.now in
     let rows = c.as_slice-else-is_empty-3.result.now in
-    shown_from _ shape joined c.as_slice-items.result.now (grouped_by places rows) c.each_run.result c.as_slice-items.ensures
-    (run_groups shape joined sorted rows places c.if-not-shape.false some c.in_ok-rows.ensures.same stable c.as_slice-else-is_empty-3.ensures.value c.as_slice-else-is_empty-2.ensures) c.each_run.ensures
+    shown_from _ shape joined c.as_slice-items.result.now (grouped_by column_indexes rows) c.each_run.result c.as_slice-items.ensures
+    (run_groups shape joined sorted rows column_indexes c.if-not-shape.false some c.in_ok-rows.ensures.same stable c.as_slice-else-is_empty-3.ensures.value c.as_slice-else-is_empty-2.ensures) c.each_run.ensures

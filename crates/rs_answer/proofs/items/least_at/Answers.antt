@@ -4,5 +4,5 @@ use Rattle.rs_answer.proofs.items.least_at.Goals as goal
 
 pub loop-row-preserved : goal.loop-row-preserved
 loop-row-preserved c =
-    let more = least_more c.args.place c.args.members.now c.loop-row.row-index _ c.loop-row-test.true c.row-item.is in
+    let more = least_more c.args.column_index c.args.members.now c.loop-row.row-index _ c.loop-row-test.true c.row-item.is in
     c.lesser-least.ensures ∙ simp (c.loop-row.invariant, c.value_at.ensures) (sym more)

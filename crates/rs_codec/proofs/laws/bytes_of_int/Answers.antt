@@ -1,5 +1,5 @@
-use Rattle.rs_codec.specs.Spelling.{count_of}
-use Rattle.rs_codec.proofs.Spellings.{bytes_of_count}
+use Rattle.rs_codec.specs.Encoding.{count_of}
+use Rattle.rs_codec.proofs.Encodings.{bytes_of_count}
 use Rattle.rs_codec.proofs.laws.bytes_of_int.Goals as goal
 
 pub returns : goal.returns

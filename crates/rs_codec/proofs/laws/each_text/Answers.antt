@@ -1,4 +1,4 @@
-use Rattle.rs_codec.proofs.Spellings.{each_text}
+use Rattle.rs_codec.proofs.Encodings.{each_text}
 use Rattle.rs_codec.proofs.laws.each_text.Goals as goal
 
 pub returns : goal.returns

@@ -1,4 +1,4 @@
-use Rattle.rs_codec.proofs.Spellings.{one_text}
+use Rattle.rs_codec.proofs.Encodings.{one_text}
 use Rattle.rs_codec.proofs.laws.one_text.Goals as goal
 
 pub returns : goal.returns

@@ -8,8 +8,8 @@ loop-at-preserved c = record {
   completes = writes_more c.loop-at.bytes c.loop-at.at c.loop-at.rest c.args.n (omega arith) c.if-rest-lt128.false c.loop-at.invariant.completes;
 }
 
-pub returns-clause-spelled : goal.returns-clause-spelled
-returns-clause-spelled c = record {
+pub returns-clause-encoded : goal.returns-clause-encoded
+returns-clause-encoded c = record {
   groups = writes_tenth c.loop-at.bytes c.loop-at.at c.loop-at.rest c.args.n (omega arith) (omega arith) c.loop-at.invariant.below c.loop-at.invariant.completes;
   below = c.ranges.n.fits;
 }

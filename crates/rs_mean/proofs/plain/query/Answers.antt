@@ -8,7 +8,7 @@ use Rattle.rs_mean.proofs.plain.query.Goals as goal
 
 pub returns : goal.returns
 returns c =
-    let Claim : List Swn → Type 0 = λ names. IfOk c.select.result (λ told. outcome_of told ≡ (select (plain_tables c.args.tables.now) names c.args.query.now).outcome) in
+    let Claim : List Swn → Type 0 = λ names. IfOk c.select.result (λ answered. outcome_of answered ≡ (select (plain_tables c.args.tables.now) names c.args.query.now).outcome) in
     let name : TableRef → Swn = λ table. resolve table.name c.args.user c.args.site in
     let at_names : Claim c.in_ok-names.names = subst Claim c.as_slice-2.ensures c.select.ensures in
     let at_map : Claim (map name c.as_slice.result.now) = subst Claim c.in_ok-names.ensures at_names in

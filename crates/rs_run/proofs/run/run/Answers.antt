@@ -1,6 +1,6 @@
 use Rattle.std.proofs.Common.{List, ℕ, subst}
-use Rattle.rs_base.specs.Streams.{AppendsFront}
-use Rattle.rs_run.proofs.RunLaws.{writes_front, complete_status, refused_status}
+use Rattle.rs_stream.specs.Streams.{AppendsPrefix}
+use Rattle.rs_run.proofs.RunLaws.{writes_prefix, complete_status, refused_status}
 use Rattle.rs_run.proofs.run.run.Goals as goal
 
 pub returns-in-Ok-write_whole-clause-complete : goal.returns-in-Ok-write_whole-clause-complete
@@ -14,10 +14,10 @@ returns-in-Err-Failed-write_whole-clause-sink g c =
     let old = g.K.Sink.written c.args.sink.now in
     let new = g.K.Sink.written c.write_whole.new.sink in
     let faults = rw c.in-Err-Failed-write_whole.field-0-is at c.in-Err-Failed-write_whole.ensures.faults in
-    λ status. (faults, writes_front _ _ _ _ _ _ _ c.in-Ok.ensures.found (subst (λ (bs : List ℕ). AppendsFront old new bs) c.as_slice.ensures c.in-Err-Failed-write_whole.ensures.front))
+    λ status. (faults, writes_prefix _ _ _ _ _ _ _ c.in-Ok.ensures.found (subst (λ (bs : List ℕ). AppendsPrefix old new bs) c.as_slice.ensures c.in-Err-Failed-write_whole.ensures.prefix))
 
 pub returns-clause-memory : goal.returns-clause-memory
 returns-clause-memory g c =
     let old = g.K.Sink.written c.args.sink.now in
     let new = g.K.Sink.written c.write_whole.new.sink in
-    λ status. writes_front _ _ _ _ _ _ _ c.in-Ok.ensures.found (subst (λ (bs : List ℕ). AppendsFront old new bs) c.as_slice.ensures c.in-Err-NoMemory-write_whole.ensures.front)
+    λ status. writes_prefix _ _ _ _ _ _ _ c.in-Ok.ensures.found (subst (λ (bs : List ℕ). AppendsPrefix old new bs) c.as_slice.ensures c.in-Err-NoMemory-write_whole.ensures.prefix)

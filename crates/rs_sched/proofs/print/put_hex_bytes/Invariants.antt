@@ -1,6 +1,6 @@
 use Rattle.std.proofs.Common.{◌≡◌, ◌++◌, take}
 use Rattle.std.specs.Prelude.{flat_map}
-use Rattle.rs_sched.specs.Spelling.{hex_byte}
+use Rattle.rs_sched.specs.Encoding.{hex_byte}
 use Rattle.rs_sched.proofs.print.put_hex_bytes.Given as goal
 
 abbrev pub invariant-loop-byte : goal.invariant-loop-byte

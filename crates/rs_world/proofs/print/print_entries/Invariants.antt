@@ -5,4 +5,4 @@ use Rattle.rs_world.specs.ReportText.{printed_entry}
 use Rattle.rs_world.proofs.print.print_entries.Given as goal
 
 abbrev pub invariant-loop-entry : goal.invariant-loop-entry
-invariant-loop-entry l = (l.place ≡ 1 + l.entry-index) × (l.out ≡ l.fn.out ++ flat_map printed_entry (enumerate_from 1 (take l.entry-index l.entries)))
+invariant-loop-entry l = (l.position ≡ 1 + l.entry-index) × (l.out ≡ l.fn.out ++ flat_map printed_entry (enumerate_from 1 (take l.entry-index l.entries)))

@@ -1,6 +1,6 @@
 use Rattle.std.proofs.Common.{◌≡◌, ◌++◌, length}
 use Rattle.std.specs.Prelude.{flat_map}
-use Rattle.rs_base.specs.Printing.{printed_row}
+use Rattle.rs_print.specs.Replies.{printed_row}
 use Rattle.rs_world.proofs.print.print_rows.Given as goal
 
 abbrev pub invariant-loop-row : goal.invariant-loop-row

@@ -1,5 +1,5 @@
 use Rattle.std.proofs.Common.{sym}
-use Rattle.rs_codec.specs.Spelling.{IsCount}
+use Rattle.rs_codec.specs.Encoding.{IsCount}
 use Rattle.rs_codec.specs.Reader.{count_at}
 use Rattle.rs_codec.proofs.Readers.{count_read, ends_there}
 use Rattle.rs_codec.proofs.fields.Fields.take_count.Goals as goal

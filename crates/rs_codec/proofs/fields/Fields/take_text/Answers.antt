@@ -1,8 +1,8 @@
 use Rattle.std.proofs.Common.{sym}
-use Rattle.rs_codec.specs.Spelling.{IsText}
+use Rattle.rs_codec.specs.Encoding.{IsText}
 use Rattle.rs_codec.specs.Reader.{text_at}
 use Rattle.rs_codec.proofs.Readers.{text_read, ends_there}
-use Rattle.rs_codec.proofs.Spellings.{none_no_count, none_short, takes_text}
+use Rattle.rs_codec.proofs.Encodings.{none_no_count, none_short, takes_text}
 use Rattle.rs_codec.proofs.fields.Fields.take_text.Goals as goal
 
 pub returns-then-rest-len-clause-none : goal.returns-then-rest-len-clause-none

@@ -4,12 +4,12 @@ use Rattle.std.proofs.lemmas.Grind.{common_steps}
 use Rattle.rs_codec.proofs.Readers.{short_u64, found_u64}
 use Rattle.rs_codec.proofs.fields.Fields.take_u64.Goals as goal
 
-pub returns-in_err-front-clause-end : goal.returns-in_err-front-clause-end
-returns-in_err-front-clause-end c =
+pub returns-in_err-prefix-clause-end : goal.returns-in_err-prefix-clause-end
+returns-in_err-prefix-clause-end c =
     let short : length c.self.inside.left.now < 8 = first_of (search rules, grind (arith, common_steps)) in
     rw (c.from_residual.ensures, sym c.self.view_is) (short_u64 c.self.inside.left.now short)
 
 pub returns-clause-read : goal.returns-clause-read
 returns-clause-read c =
-    let parts : c.self.inside.left.now ≡ to_be_bytes w64 c.u64_of.result ++ c.in_ok-front.rest.now = first_of (search rules, grind (arith, common_steps)) in
-    rw (sym c.self.view_is) (found_u64 c.self.inside.left.now c.in_ok-front.rest.now c.u64_of.result c.u64_of.type_inv parts)
+    let parts : c.self.inside.left.now ≡ to_be_bytes w64 c.u64_of.result ++ c.in_ok-prefix.rest.now = first_of (search rules, grind (arith, common_steps)) in
+    rw (sym c.self.view_is) (found_u64 c.self.inside.left.now c.in_ok-prefix.rest.now c.u64_of.result c.u64_of.type_inv parts)

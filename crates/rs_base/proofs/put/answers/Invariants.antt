@@ -1,7 +1,0 @@
-use Rattle.std.proofs.Common.{◌≡◌, ◌++◌, take}
-use Rattle.std.specs.Prelude.{flat_map}
-use Rattle.rs_base.specs.Printing.{printed_answer}
-use Rattle.rs_base.proofs.put.answers.Given as goal
-
-abbrev pub invariant-loop-each : goal.invariant-loop-each
-invariant-loop-each l = l.out ≡ l.fn.out ++ flat_map printed_answer (take l.each-index l.answers)

@@ -1,7 +1,0 @@
-use Rattle.std.proofs.Common.{◌≡◌, ◌++◌, take}
-use Rattle.std.specs.Prelude.{flat_map}
-use Rattle.rs_base.specs.Printing.{further_value}
-use Rattle.rs_base.proofs.put.further_values.Given as goal
-
-abbrev pub invariant-loop-next : goal.invariant-loop-next
-invariant-loop-next l = l.out ≡ l.fn.out ++ flat_map further_value (take l.next-index l.row)

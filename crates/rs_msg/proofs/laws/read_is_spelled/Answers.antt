@@ -1,5 +1,0 @@
-use Rattle.rs_msg.proofs.Whole.{message_read}
-use Rattle.rs_msg.proofs.laws.read_is_spelled.Goals as goal
-
-pub returns : goal.returns
-returns c = message_read

@@ -1,9 +1,0 @@
-use Rattle.rs_parse.specs.Read.{behind_at}
-use Rattle.rs_parse.specs.Separator.{is_separator}
-use Rattle.rs_parse.proofs.Loops.{series_more}
-use Rattle.rs_parse.proofs.list.listed.Goals as goal
-
-pub loop-preserved : goal.loop-preserved
-loop-preserved g c =
-    series_more (is_separator c.args.separator) (behind_at (is_separator c.args.separator) g.T.ListItem.item_at) _ _ c.args.most c.loop.counter _ _ _ _ _
-    c.loop-test.true c.goes_on.ensures c.if-not-goes_on.false c.in_ok-behind.ensures c.in_ok-push-2.ensures.ok c.loop.invariant

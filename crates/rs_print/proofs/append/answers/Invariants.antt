@@ -1,0 +1,7 @@
+use Rattle.std.proofs.Common.{◌≡◌, ◌++◌, take}
+use Rattle.std.specs.Prelude.{flat_map}
+use Rattle.rs_print.specs.Replies.{printed_answer}
+use Rattle.rs_print.proofs.append.answers.Given as goal
+
+abbrev pub invariant-loop-each : goal.invariant-loop-each
+invariant-loop-each l = l.out ≡ l.fn.out ++ flat_map printed_answer (take l.each-index l.answers)

@@ -1,0 +1,178 @@
+//! Accepted asks.
+
+ghost use Rattle.std.specs.Prelude.{◌≡◌, ◌+◌, ◌<◌, IfOk, IfErr, OnOk, OnErr, Some, None, min};
+ghost use Rattle.rs_mean.specs.Changes.{changed};
+ghost use Rattle.rs_site.specs.Asking as spec;
+ghost use Rattle.rs_site.specs.State.{next_txn};
+ghost use Rattle.rs_site.specs.Statement.{statement_of, offset_replied};
+
+use crate::outs::{Decided, Outs, commits, no_outs, reply_with};
+use crate::session::Session;
+use crate::site::Site;
+use rs_base::{Bytes, NoMemory, Origin, Peer, Reply, Txn};
+use rs_mean::{Change, Effect, Execution, Outcome, Stmt};
+use rs_parse::{ParseFault, parse};
+use std::alloc::Global;
+
+/// Returns the reply that reports an outcome.
+fn reply_of(outcome: Outcome) -> Reply
+    ensures { result ≡ spec.reply_of outcome }
+{
+    match outcome {
+        Ok(answers) => Reply::Done(answers),
+        Err(cause) => Reply::Denied(cause),
+    }
+}
+
+/// Returns the byte offset of a fault as replied, at most 2 ^ 32 - 1.
+fn reported(offset: usize) -> u32
+    ensures { result ≡ min offset 4294967295 }
+{
+    u32::try_from(offset).unwrap_or(u32::MAX)
+}
+
+/// Returns the supported statement of a text, or else the byte offset to reply.
+#[tactic(auto, unfolding(crate::specs::Statement::statement_of, crate::specs::Statement::offset_replied))]
+fn statement(alloc: Global, text: &[u8]) -> Result<Result<Stmt, u32>, NoMemory>
+    ensures statement { IfOk result (λ said. IfOk said (λ stmt. statement_of text.now ≡ Some stmt)) }
+    ensures none { IfOk result (λ said. OnErr said (statement_of text.now ≡ None)) }
+    ensures offset { IfOk result (λ said. IfErr said (λ offset. offset ≡ offset_replied text.now)) }
+{
+    match parse(alloc, text) {
+        Ok(stmt) => match Stmt::built(stmt) {
+            Some(stmt) => Ok(Ok(stmt)),
+            None => Ok(Err(0)),
+        },
+        Err(ParseFault::Syntax { place: offset }) => Ok(Err(reported(offset))),
+        Err(ParseFault::NoMemory) => Err(NoMemory),
+    }
+}
+
+impl Site {
+    /// Returns the next transaction, while the epoch has one left.
+    fn next_txn(&self) -> Txn
+        requires { self.now.begun < spec.last_number }
+        ensures { result ≡ next_txn self.now }
+    {
+        Txn {
+            site: self.me,
+            epoch: self.epoch,
+            number: self.begun + 1,
+        }
+    }
+
+    /// Stores that the request was accepted, and its reply.
+    fn remember(&mut self, origin: &Origin, reply: Reply) -> Result<(), NoMemory>
+        ensures ok { OnOk result (self.new ≡ spec.remembering self.old origin.now reply) }
+        ensures err { OnErr result (self.new ≡ self.old) }
+    {
+        let session = Session {
+            last: origin.number,
+            reply: Some(reply),
+        };
+        self.sessions.put(&origin.user, session)?;
+        Ok(())
+    }
+
+    /// Applies the change as the next transaction, and stores that the request was accepted, and its reply.
+    fn commit(&mut self, change: Change, origin: &Origin, reply: Reply) -> Result<(), NoMemory>
+        requires { self.old.begun < spec.last_number }
+        ensures ok { OnOk result (self.new ≡ record (spec.remembering self.old origin.now reply) { begun = self.old.begun + 1; database = changed change self.old.database }) }
+        ensures err { OnErr result (self.new ≡ self.old) }
+    {
+        let session = Session {
+            last: origin.number,
+            reply: Some(reply),
+        };
+        let before = self.sessions.put(&origin.user, session)?;
+        if let Err(fault) = self.database.apply(change) {
+            self.sessions.put_back(&origin.user, before);
+            return Err(fault);
+        }
+        self.begun += 1;
+        Ok(())
+    }
+
+    /// Executes the statement as the next transaction, and replies its outcome.
+    fn execute(
+        &mut self,
+        alloc: Global,
+        from: &Peer,
+        origin: &Origin,
+        text: Bytes,
+        stmt: Stmt,
+    ) -> Result<Outs, NoMemory>
+        requires { self.old.begun < spec.last_number }
+        ensures ok { IfOk result (λ outs. spec.executed self.old from.now origin.now text stmt ≡ (self.new, outs)) }
+        ensures err { OnErr result (self.new ≡ self.old) }
+    {
+        let execution = Execution {
+            txn: self.next_txn(),
+            user: origin.user,
+            site: origin.site,
+            stmt,
+        };
+        let Effect { change, outcome } = self.database.effect_of(alloc, &execution)?;
+        let reply = reply_of(outcome);
+        let kept = reply.copy(alloc)?;
+        let decided = Decided {
+            txn: self.next_txn(),
+            origin: *origin,
+            text,
+        };
+        let outs = commits(alloc, from, origin, reply, decided)?;
+        self.commit(change, origin, kept)?;
+        Ok(outs)
+    }
+
+    /// Accepts a statement. It is dropped if the epoch has no transaction left.
+    fn take_statement(
+        &mut self,
+        alloc: Global,
+        from: &Peer,
+        origin: &Origin,
+        text: Bytes,
+        stmt: Stmt,
+    ) -> Result<Outs, NoMemory>
+        ensures ok { IfOk result (λ outs. spec.accepted_as self.old from.now origin.now text (Some stmt) ≡ (self.new, outs)) }
+        ensures err { OnErr result (self.new ≡ self.old) }
+    {
+        if self.begun == u64::MAX {
+            return Ok(no_outs(alloc));
+        }
+        self.execute(alloc, from, origin, text, stmt)
+    }
+
+    /// Accepts a text without a supported statement, and replies this byte offset.
+    fn take_no_request(
+        &mut self,
+        alloc: Global,
+        from: &Peer,
+        origin: &Origin,
+        offset: u32,
+    ) -> Result<Outs, NoMemory>
+        ensures ok { IfOk result (λ outs. spec.no_request self.old from.now origin.now offset ≡ (self.new, outs)) }
+        ensures err { OnErr result (self.new ≡ self.old) }
+    {
+        let outs = reply_with(alloc, from, origin, 0, Reply::Syntax(offset))?;
+        self.remember(origin, Reply::Syntax(offset))?;
+        Ok(outs)
+    }
+
+    /// Accepts the user's next request.
+    pub(crate) fn take(
+        &mut self,
+        alloc: Global,
+        from: &Peer,
+        origin: &Origin,
+        text: Bytes,
+    ) -> Result<Outs, NoMemory>
+        ensures ok { IfOk result (λ outs. spec.accepted self.old from.now origin.now text ≡ (self.new, outs)) }
+        ensures err { OnErr result (self.new ≡ self.old) }
+    {
+        match statement(alloc, text.as_slice())? {
+            Ok(stmt) => self.take_statement(alloc, from, origin, text, stmt),
+            Err(offset) => self.take_no_request(alloc, from, origin, offset),
+        }
+    }
+}

@@ -1,0 +1,2 @@
+pub mod MemStreams
+pub mod Streams
