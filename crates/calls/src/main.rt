@@ -8,7 +8,6 @@ mod base;
 mod bind;
 mod eval;
 mod mean;
-mod print;
 mod rows;
 mod site;
 mod stream;
@@ -25,7 +24,6 @@ fn calls(alloc: Global) -> Result<Transcript> {
     let mut out = Transcript::new(alloc);
     base::calls(&mut out)?;
     stream::calls(&mut out)?;
-    print::calls(&mut out)?;
     rows::calls(&mut out)?;
     bind::calls(&mut out)?;
     eval::calls(&mut out)?;

@@ -204,17 +204,18 @@ fn part_of_long_line(alloc: Global) -> Result<Told> {
 }
 
 fn last_part(out: &mut Transcript) -> Result<()> {
+    let message = part_of_long_line(out.alloc)?
+        .message(out.alloc)?
+        .context("no message")?;
+    let Message::Reply(read) = message else {
+        bail!("another message");
+    };
     out.word("Told::message, last part =")?;
-    match part_of_long_line(out.alloc)?.message(out.alloc)? {
-        Some(Message::Reply(message)) => {
-            out.number(u64::from(message.part))?;
-            out.word("of")?;
-            out.number(u64::from(message.parts))?;
-            out.word("bytes")?;
-            out.number(message.bytes.len() as u64)?;
-        }
-        _ => out.word("another message")?,
-    }
+    out.number(u64::from(read.part))?;
+    out.word("of")?;
+    out.number(u64::from(read.parts))?;
+    out.word("bytes")?;
+    out.number(read.bytes.len() as u64)?;
     out.end()?;
     Ok(())
 }

@@ -10,7 +10,7 @@
 //! | `\{FIRST..LAST:TEXT\}` | the text for each of these numbers |
 //! | `\#` | the number of the innermost repeat |
 
-ghost use Rattle.std.specs.Prelude.{◌<◌};
+ghost use Rattle.std.specs.Prelude.{◌<◌, IfSome};
 
 use rs_base::ReadFault;
 use std::alloc::Global;

@@ -1,13 +1,15 @@
-//! The sizes of integers and rows.
+//! The sizes of integers, rows and bytes.
 
 use crate::arguments::{integer_and_text, integers};
 use crate::transcript::Transcript;
 use anyhow::Result;
-use rs_base::{NoMemory, Value, count_of, row_size};
+use rs_base::{Bytes, NoMemory, Value, count_of, row_size};
 
 pub fn calls(out: &mut Transcript) -> Result<()> {
     counts(out)?;
-    rows(out)
+    rows(out)?;
+    bytes(out)?;
+    Ok(())
 }
 
 fn counts(out: &mut Transcript) -> Result<(), NoMemory> {
@@ -38,4 +40,13 @@ fn rows(out: &mut Transcript) -> Result<()> {
         size(out, row.as_slice())?;
     }
     Ok(())
+}
+
+fn bytes(out: &mut Transcript) -> Result<(), NoMemory> {
+    let text = Bytes::from_slice(out.alloc, b"> 0 ")?;
+    out.word("Bytes::len of")?;
+    out.quoted(text.as_slice())?;
+    out.returned()?;
+    out.number(text.len() as u64)?;
+    out.end()
 }
