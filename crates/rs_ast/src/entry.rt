@@ -14,7 +14,7 @@ pub struct Column {
 /// The columns of a table.
 pub type Columns = Items<Column>;
 
-/// An index: its name, the ordinal of its column in the table, from 0, and the transaction that created it.
+/// An index: its name, the column index of its column in the table, and the transaction that created it.
 #[derive(Clone, Copy)]
 pub struct IndexOf {
     pub name: Ident,

@@ -37,7 +37,7 @@ pub enum Fault {
 /// Why a reader returned no value.
 #[derive(Clone, Copy, Debug, PartialEq, Eq, Error)]
 pub enum ReadFault {
-    #[error("what stands there has not the form")]
+    #[error("malformed")]
     Malformed,
     #[error("out of memory")]
     NoMemory,

@@ -119,7 +119,7 @@ TableIsMade = (db : Database) (execution : Execution) (written : NameText) (colu
     × (table_named (name_of db execution written) db ≡ None)
     × (table_named (name_of db execution written) (after db execution) ≡ Some (record { made = execution.txn; place = (name_of db execution written).birth; columns = columns; indexes = []; rows = [] }))
 
--- after a done DROP TABLE no table has its name, which one had before
+-- after a done DROP TABLE in a database with sorted names no table has its name, which one had before
 abbrev pub TableIsDropped : Type 0
 TableIsDropped = (db : Database) (execution : Execution) (written : NameText) (given : List Answer)
     → IsInOrder db → execution.stmt ≡ stmts.DropTable written → (meaning db execution).1 ≡ Ok given
@@ -195,7 +195,7 @@ SynonymIsMade = (db : Database) (execution : Execution) (synonym : List ℕ) (wr
     × (target_of (own_synonym execution synonym) db ≡ None)
     × (target_of (own_synonym execution synonym) (after db execution) ≡ Some (name_of db execution written))
 
--- after a done DROP SYNONYM the user's synonym at the asked site, which was there, is gone
+-- after a done DROP SYNONYM in a database with sorted synonyms the user's synonym at the asked site, which was there, is gone
 abbrev pub SynonymIsDropped : Type 0
 SynonymIsDropped = (db : Database) (execution : Execution) (synonym : List ℕ) (given : List Answer)
     → AreSynonymsInOrder db → execution.stmt ≡ stmts.DropSynonym synonym → (meaning db execution).1 ≡ Ok given
@@ -256,7 +256,8 @@ MakesFewColumns (stmts.CreateSynonym synonym written) = Unit {0}
 MakesFewColumns (stmts.DropSynonym synonym) = Unit {0}
 MakesFewColumns (stmts.Dml dml) = Unit {0}
 
--- each row of each table has a value for each column, of its kind, at first and after each execution
+-- each row of each table has a value for each column, of its kind, at first and after each execution that makes no table of
+-- more than 16 columns
 abbrev pub RowsStayTyped : Type 0
 RowsStayTyped =
     ((sites : ℕ) → EachTable IsTyped (empty sites))

@@ -48,7 +48,7 @@ pub fn table_is_made()
     ensures { TableIsMade }
 {}
 
-/// After a done DROP TABLE no table has its name, which one had before.
+/// After a done DROP TABLE no table has its name, which one had before, if the names were sorted.
 pub fn table_is_dropped()
     ensures { TableIsDropped }
 {}
@@ -84,7 +84,7 @@ pub fn synonym_is_made()
     ensures { SynonymIsMade }
 {}
 
-/// After a done DROP SYNONYM the user's synonym at the asked site, which was there, is gone.
+/// After a done DROP SYNONYM the user's synonym at the asked site, which was there, is gone, if synonyms were sorted.
 pub fn synonym_is_dropped()
     ensures { SynonymIsDropped }
 {}
@@ -105,8 +105,8 @@ pub fn indexes_stay_distinct()
     ensures { IndexesStayDistinct }
 {}
 
-/// Each row of each table has a value for each column, of its kind, at first and after each execution. No table has more
-/// than 16 columns, as no CREATE TABLE that is written has.
+/// Each row of each table has a value for each column, of its kind, at first and after each execution, if no CREATE TABLE
+/// has more than 16 columns, as none that is written has.
 pub fn rows_stay_typed()
     ensures { RowsStayTyped }
 {}

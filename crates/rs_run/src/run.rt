@@ -109,7 +109,7 @@ fn find_owed<S: Source>(alloc: Global, words: &[String], source: &mut S) -> Resu
 ///   they are refused was written, and the cause;
 /// - 3: the source failed, and nothing was written;
 /// - 4: the sink failed;
-/// - 5: an allocation failed.
+/// - 5: out of memory.
 ///
 /// With 4 and 5 a prefix of the text that was to be written may have been written.
 pub fn run<S: Source, K: Sink>(alloc: Global, words: &[String], source: &mut S, sink: &mut K) -> u8

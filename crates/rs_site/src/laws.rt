@@ -13,7 +13,8 @@ pub fn repeats_run_nothing()
     ensures { RepeatsRunNothing }
 {}
 
-/// An ask of the user's last request, in the site's epoch, gets the stored reply, and changes nothing.
+/// An ask for the first part of the user's last request, in the site's epoch, gets the stored reply, if there is one, and
+/// changes nothing.
 pub fn kept_reply_is_repeated()
     ensures { KeptReplyIsRepeated }
 {}
@@ -24,8 +25,9 @@ pub fn commits_are_meaning()
     ensures { CommitsAreMeaning }
 {}
 
-/// The next ask of a user, whose last one is answered, gets one reply, which is stored: that its text has no supported
-/// statement, or the outcome of its statement, which is committed with its text. This holds while the epoch has a transaction left.
+/// The next ask of a user for a first part, in the site's epoch, whose last one is answered, gets one reply, which is
+/// stored: that its text has no supported statement, or the outcome of its statement, which is committed with its text.
+/// This holds while the epoch has a transaction left.
 pub fn next_is_accepted()
     ensures { NextIsAccepted }
 {}

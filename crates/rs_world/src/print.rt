@@ -132,7 +132,7 @@ fn print_parts(report: &Report, out: &mut Bytes) -> Result<(), NoMemory>
     print_sites(report.sites.as_slice(), out)
 }
 
-/// Appends a report: the replies, the history, the number of runs, and each site with its tables.
+/// Prints a report: the replies, the history, the number of runs, and each site with its tables.
 pub fn print_report(alloc: Global, report: &Report) -> Result<Bytes, NoMemory>
     ensures { IfOk result (λ text. text ≡ spec.printed_report report.now) }
 {

@@ -94,8 +94,8 @@ impl World {
         })
     }
 
-    /// Returns the report of the world. It explains each valid and accepted list of events that led to the world, and each
-    /// ask of these is answered.
+    /// Returns the report of the world. It explains each valid and accepted list of events that led to the world, and if
+    /// they are fewer than 2 ^ 64 - 1, each ask of these is answered.
     pub fn into_report(self, alloc: Global) -> Result<Report, NoMemory>
         ensures value { IfOk result (λ report. report ≡ spec.report_of self) }
         ensures explains { IfOk result (λ report. (events : List Event) → IsValid events → IsTrue (are_accepted false events) → self ≡ spec.course events → Explains events report) }
