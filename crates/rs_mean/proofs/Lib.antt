@@ -1,19 +1,5 @@
 mod Counts
 pub mod Entries
-mod LawEffects
-mod LawIndexes
-mod LawKept
-mod LawKinds
-mod LawRows
-mod LawShown
-mod LawStatements
-mod LawStays
-mod LawSynonyms
-mod LawTables
-mod LawTests
-mod LawTouches
-mod LawTyped
-pub mod Lawful
 mod Matching
 pub mod Orders
 mod Selects

@@ -12,15 +12,3 @@ pub mod Options
 pub mod Loops
 pub mod Scans
 pub mod Splits
-pub mod TokenForms
-pub mod Respelling
-pub mod RespelledTerms
-pub mod RespelledSelect
-pub mod Respelled
-pub mod PrintedWords
-pub mod PrintedNumbers
-pub mod PrintedTexts
-pub mod PrintedSymbols
-pub mod PrintedTokens
-pub mod OnceLaws
-pub mod PrintedLaws

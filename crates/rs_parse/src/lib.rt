@@ -4,7 +4,6 @@
 mod changes;
 mod clauses;
 mod cursor;
-mod laws;
 mod list;
 mod names;
 mod parser;
@@ -19,7 +18,4 @@ mod token;
 mod token_split;
 mod tokenizer;
 
-pub use laws::{
-    fault_once, printed_is_read, spelled_has_no_fault, spelled_or_faulty, statement_once,
-};
 pub use parser::{ParseFault, parse};

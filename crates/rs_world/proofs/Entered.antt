@@ -25,7 +25,7 @@ use Rattle.rs_world.specs.States.{Accepts}
 use Rattle.rs_world.proofs.Kept.{last_origin, get_prefix}
 use Rattle.rs_world.proofs.Gets.{get_push, get_below}
 use Rattle.rs_world.proofs.Reports.{get_last}
-use Rattle.rs_mean.proofs.Lawful.{names_stay_in_order}
+use Rattle.law_mean.proofs.Lawful.{names_stay_in_order}
 
 -- ---- histories that grow
 

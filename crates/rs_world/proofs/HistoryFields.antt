@@ -8,7 +8,7 @@ use Rattle.rs_mean.specs.declared.built.Stmt.{Stmt}
 use Rattle.rs_site.specs.Statement.{statement_of}
 use Rattle.rs_mean.specs.Database.{Database, IsInOrder}
 use Rattle.rs_mean.specs.Meaning.{meaning}
-use Rattle.rs_mean.proofs.Lawful.{denied_changes_nothing as after_denied}
+use Rattle.law_mean.proofs.Lawful.{denied_changes_nothing as after_denied}
 use Rattle.rs_sched.specs.declared.event.Event.{Event}
 use Rattle.rs_site.specs.declared.outs.Decided.{Decided}
 use Rattle.rs_site.specs.Asking.{execution_of}

@@ -1,0 +1,5 @@
+use Rattle.law_mean.proofs.Lawful.{rows_are_changed}
+use Rattle.law_mean.proofs.laws.rows_are_changed.Goals as goal
+
+pub returns : goal.returns
+returns c = rows_are_changed

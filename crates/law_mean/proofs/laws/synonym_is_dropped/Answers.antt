@@ -1,0 +1,5 @@
+use Rattle.law_mean.proofs.Lawful.{synonym_is_dropped}
+use Rattle.law_mean.proofs.laws.synonym_is_dropped.Goals as goal
+
+pub returns : goal.returns
+returns c = synonym_is_dropped

@@ -1,0 +1,5 @@
+use Rattle.law_mean.proofs.Lawful.{table_is_dropped}
+use Rattle.law_mean.proofs.laws.table_is_dropped.Goals as goal
+
+pub returns : goal.returns
+returns c = table_is_dropped

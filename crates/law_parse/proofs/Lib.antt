@@ -1,0 +1,12 @@
+pub mod OnceLaws
+pub mod PrintedLaws
+pub mod PrintedNumbers
+pub mod PrintedSymbols
+pub mod PrintedTexts
+pub mod PrintedTokens
+pub mod PrintedWords
+pub mod Respelled
+pub mod RespelledSelect
+pub mod RespelledTerms
+pub mod Respelling
+pub mod TokenForms

@@ -1,5 +1,0 @@
-use Rattle.rs_mean.proofs.Lawful.{answers_are_typed}
-use Rattle.rs_mean.proofs.laws.answers_are_typed.Goals as goal
-
-pub returns : goal.returns
-returns c = answers_are_typed

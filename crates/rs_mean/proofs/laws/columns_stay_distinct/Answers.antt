@@ -1,5 +1,0 @@
-use Rattle.rs_mean.proofs.Lawful.{columns_stay_distinct}
-use Rattle.rs_mean.proofs.laws.columns_stay_distinct.Goals as goal
-
-pub returns : goal.returns
-returns c = columns_stay_distinct

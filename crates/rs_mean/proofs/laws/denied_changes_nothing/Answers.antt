@@ -1,5 +1,0 @@
-use Rattle.rs_mean.proofs.Lawful.{denied_changes_nothing}
-use Rattle.rs_mean.proofs.laws.denied_changes_nothing.Goals as goal
-
-pub returns : goal.returns
-returns c = denied_changes_nothing

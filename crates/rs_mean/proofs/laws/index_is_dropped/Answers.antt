@@ -1,5 +1,0 @@
-use Rattle.rs_mean.proofs.Lawful.{index_is_dropped}
-use Rattle.rs_mean.proofs.laws.index_is_dropped.Goals as goal
-
-pub returns : goal.returns
-returns c = index_is_dropped

@@ -1,5 +1,0 @@
-use Rattle.rs_mean.proofs.Lawful.{indexes_stay_distinct}
-use Rattle.rs_mean.proofs.laws.indexes_stay_distinct.Goals as goal
-
-pub returns : goal.returns
-returns c = indexes_stay_distinct

@@ -1,5 +1,0 @@
-use Rattle.rs_mean.proofs.Lawful.{other_synonyms_stay}
-use Rattle.rs_mean.proofs.laws.other_synonyms_stay.Goals as goal
-
-pub returns : goal.returns
-returns c = other_synonyms_stay

@@ -1,5 +1,0 @@
-use Rattle.rs_mean.proofs.Lawful.{rows_are_changed}
-use Rattle.rs_mean.proofs.laws.rows_are_changed.Goals as goal
-
-pub returns : goal.returns
-returns c = rows_are_changed

@@ -1,5 +1,0 @@
-use Rattle.rs_mean.proofs.Lawful.{rows_stay_typed}
-use Rattle.rs_mean.proofs.laws.rows_stay_typed.Goals as goal
-
-pub returns : goal.returns
-returns c = rows_stay_typed

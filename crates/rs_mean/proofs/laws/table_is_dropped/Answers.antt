@@ -1,5 +1,0 @@
-use Rattle.rs_mean.proofs.Lawful.{table_is_dropped}
-use Rattle.rs_mean.proofs.laws.table_is_dropped.Goals as goal
-
-pub returns : goal.returns
-returns c = table_is_dropped

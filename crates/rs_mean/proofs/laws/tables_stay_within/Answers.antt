@@ -1,5 +1,0 @@
-use Rattle.rs_mean.proofs.Lawful.{tables_stay_within}
-use Rattle.rs_mean.proofs.laws.tables_stay_within.Goals as goal
-
-pub returns : goal.returns
-returns c = tables_stay_within

@@ -1,5 +1,0 @@
-use Rattle.rs_parse.proofs.OnceLaws.{spelled_no_fault}
-use Rattle.rs_parse.proofs.laws.spelled_has_no_fault.Goals as goal
-
-pub returns : goal.returns
-returns c = spelled_no_fault

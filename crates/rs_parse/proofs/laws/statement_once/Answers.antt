@@ -1,5 +1,0 @@
-use Rattle.rs_parse.proofs.OnceLaws.{statement_once}
-use Rattle.rs_parse.proofs.laws.statement_once.Goals as goal
-
-pub returns : goal.returns
-returns c = statement_once
