@@ -2,7 +2,7 @@
 //! it refuses.
 
 ghost use Rattle.std.specs.Prelude.{◌≡◌, length};
-ghost use Rattle.rs_parse.specs.Read.{Reads, begins};
+ghost use Rattle.rs_parse.specs.Read.{Reads, begins, one_at};
 ghost use Rattle.rs_ast.specs.Token as tokens;
 ghost use Rattle.rs_parse.specs.Reader as spec;
 
@@ -46,55 +46,43 @@ impl<'a> Cursor<'a> {
     pub fn begins_with_word(&self, word: &[u8]) -> bool
         ensures { result ≡ begins (tokens.is_word word.now) self.now }
     {
-        match self.left {
-            [] => false,
-            [first, ..] => first.is_word(word),
-        }
+        self.left.first().is_some_and(|first| first.is_word(word))
     }
 
     pub fn begins_with_symbol(&self, symbol: Symbol) -> bool
         ensures { result ≡ begins (tokens.is_symbol symbol) self.now }
     {
-        match self.left {
-            [] => false,
-            [first, ..] => first.is_symbol(symbol),
-        }
+        self.left
+            .first()
+            .is_some_and(|first| first.is_symbol(symbol))
     }
 
     pub fn begins_with_ident(&self) -> bool
         ensures { result ≡ begins spec.is_ident_token self.now }
     {
-        match self.left {
-            [] => false,
-            [first, ..] => ident_of(first).is_some(),
-        }
+        self.left
+            .first()
+            .is_some_and(|first| ident_of(first).is_some())
     }
 
     pub fn begins_with_arith(&self) -> bool
         ensures { result ≡ begins spec.is_arith_token self.now }
     {
-        match self.left {
-            [] => false,
-            [first, ..] => arith_of(first).is_some(),
-        }
+        self.left
+            .first()
+            .is_some_and(|first| arith_of(first).is_some())
     }
 
     pub fn begins_with_literal(&self) -> bool
         ensures { result ≡ begins spec.begins_literal self.now }
     {
-        match self.left {
-            [] => false,
-            [first, ..] => first.is_symbol(Symbol::Minus) || is_unsigned(first),
-        }
+        self.left.first().is_some_and(|first| first.is_symbol(Symbol::Minus) || is_unsigned(first))
     }
 
     pub fn begins_with_dml(&self) -> bool
         ensures { result ≡ begins spec.begins_dml self.now }
     {
-        match self.left {
-            [] => false,
-            [first, ..] => is_dml(first),
-        }
+        self.left.first().is_some_and(is_dml)
     }
 
     /// Returns the statement, if no token follows it.
@@ -107,30 +95,27 @@ impl<'a> Cursor<'a> {
         }
     }
 
+    /// Advances past the first token, if there is one and it means a value, and returns the value.
+    fn next_if<T: Drop>(&mut self, meant: Option<T>) -> Result<T, ReadFault>
+        ensures { Reads (one_at (λ first. meant) self.old) result self.new }
+    {
+        let ([_, rest @ ..], Some(value)) = (self.left, meant) else {
+            return Err(ReadFault::Malformed);
+        };
+        self.left = rest;
+        Ok(value)
+    }
+
     pub fn expect_symbol(&mut self, symbol: Symbol) -> Result<(), ReadFault>
         ensures { Reads (spec.symbol_at symbol self.old) result self.new }
     {
-        let [first, rest @ ..] = self.left else {
-            return Err(ReadFault::Malformed);
-        };
-        if !first.is_symbol(symbol) {
-            return Err(ReadFault::Malformed);
-        }
-        self.left = rest;
-        Ok(())
+        self.next_if(self.begins_with_symbol(symbol).then_some(()))
     }
 
     pub fn expect_keyword(&mut self, word: &[u8]) -> Result<(), ReadFault>
         ensures { Reads (spec.word_at word.now self.old) result self.new }
     {
-        let [first, rest @ ..] = self.left else {
-            return Err(ReadFault::Malformed);
-        };
-        if !first.is_word(word) {
-            return Err(ReadFault::Malformed);
-        }
-        self.left = rest;
-        Ok(())
+        self.next_if(self.begins_with_word(word).then_some(()))
     }
 
     /// Reads an identifier: a word that isn't reserved.
@@ -138,70 +123,35 @@ impl<'a> Cursor<'a> {
     pub fn ident(&mut self) -> Result<Ident, ReadFault>
         ensures { Reads (spec.ident_at self.old) result self.new }
     {
-        let [first, rest @ ..] = self.left else {
-            return Err(ReadFault::Malformed);
-        };
-        let Some(ident) = ident_of(first) else {
-            return Err(ReadFault::Malformed);
-        };
-        self.left = rest;
-        Ok(ident)
+        self.next_if(self.left.first().and_then(ident_of))
     }
 
     #[tactic(auto, unfolding(crate::specs::Reader::site_at))]
     pub fn site(&mut self) -> Result<SiteNo, ReadFault>
         ensures { Reads (spec.site_at self.old) result self.new }
     {
-        let [first, rest @ ..] = self.left else {
-            return Err(ReadFault::Malformed);
-        };
-        let Some(site) = site_of(first) else {
-            return Err(ReadFault::Malformed);
-        };
-        self.left = rest;
-        Ok(site)
+        self.next_if(self.left.first().and_then(site_of))
     }
 
     #[tactic(auto, unfolding(crate::specs::Reader::kind_at))]
     pub fn kind(&mut self) -> Result<Kind, ReadFault>
         ensures { Reads (spec.kind_at self.old) result self.new }
     {
-        let [first, rest @ ..] = self.left else {
-            return Err(ReadFault::Malformed);
-        };
-        let Some(kind) = kind_of(first) else {
-            return Err(ReadFault::Malformed);
-        };
-        self.left = rest;
-        Ok(kind)
+        self.next_if(self.left.first().and_then(kind_of))
     }
 
     #[tactic(auto, unfolding(crate::specs::Reader::op_at))]
     pub fn op(&mut self) -> Result<Op, ReadFault>
         ensures { Reads (spec.op_at self.old) result self.new }
     {
-        let [first, rest @ ..] = self.left else {
-            return Err(ReadFault::Malformed);
-        };
-        let Some(op) = op_of(first) else {
-            return Err(ReadFault::Malformed);
-        };
-        self.left = rest;
-        Ok(op)
+        self.next_if(self.left.first().and_then(op_of))
     }
 
     #[tactic(auto, unfolding(crate::specs::Reader::arith_at))]
     pub fn arith(&mut self) -> Result<Arith, ReadFault>
         ensures { Reads (spec.arith_at self.old) result self.new }
     {
-        let [first, rest @ ..] = self.left else {
-            return Err(ReadFault::Malformed);
-        };
-        let Some(arith) = arith_of(first) else {
-            return Err(ReadFault::Malformed);
-        };
-        self.left = rest;
-        Ok(arith)
+        self.next_if(self.left.first().and_then(arith_of))
     }
 
     /// Reads the ordinal of a select item, below `2 ^ 32`.
@@ -209,14 +159,7 @@ impl<'a> Cursor<'a> {
     pub fn ordinal(&mut self) -> Result<u32, ReadFault>
         ensures { Reads (spec.ordinal_at self.old) result self.new }
     {
-        let [first, rest @ ..] = self.left else {
-            return Err(ReadFault::Malformed);
-        };
-        let Some(ordinal) = ordinal_of(first) else {
-            return Err(ReadFault::Malformed);
-        };
-        self.left = rest;
-        Ok(ordinal)
+        self.next_if(self.left.first().and_then(ordinal_of))
     }
 
     /// Reads the number after `-`, below `2 ^ 63`, and negates it.
@@ -224,14 +167,7 @@ impl<'a> Cursor<'a> {
     pub fn negated(&mut self) -> Result<Value, ReadFault>
         ensures { Reads (spec.negated_at self.old) result self.new }
     {
-        let [first, rest @ ..] = self.left else {
-            return Err(ReadFault::Malformed);
-        };
-        let Some(negated) = negated_of(first) else {
-            return Err(ReadFault::Malformed);
-        };
-        self.left = rest;
-        Ok(negated)
+        self.next_if(self.left.first().and_then(negated_of))
     }
 
     /// Reads a number without a sign, below `2 ^ 63`, or a text literal.
@@ -239,13 +175,10 @@ impl<'a> Cursor<'a> {
     pub fn unsigned(&mut self, alloc: Global) -> Result<Value, ReadFault>
         ensures { Reads (spec.unsigned_at self.old) result self.new }
     {
-        let [first, rest @ ..] = self.left else {
-            return Err(ReadFault::Malformed);
+        let meant = match self.left {
+            [] => None,
+            [first, ..] => unsigned_of(alloc, first)?,
         };
-        let Some(value) = unsigned_of(alloc, first)? else {
-            return Err(ReadFault::Malformed);
-        };
-        self.left = rest;
-        Ok(value)
+        self.next_if(meant)
     }
 }
