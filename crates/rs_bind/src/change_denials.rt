@@ -7,6 +7,7 @@ ghost use Rattle.rs_bind.specs.Scope as named;
 
 use crate::clause_denials::clauses_denial;
 use crate::columns::{column_kind, named_count, unqualified};
+use crate::first_denial::first_denial;
 use crate::kinds::kinds_fit;
 use crate::name_denials::{denial_if, param_denial};
 use crate::params::param_kind;
@@ -68,13 +69,7 @@ fn given_denial(params: &[Param], term: &Term) -> Option<Denial>
 fn givens_denial(params: &[Param], row: &[Term]) -> Option<Denial>
     ensures { result ≡ spec.first_denial (flat_map (spec.given_tests params.now) row.now) }
 {
-    for term in row {
-        let denial = given_denial(params, term);
-        if denial.is_some() {
-            return denial;
-        }
-    }
-    None
+    first_denial(row, |term| given_denial(params, term))
 }
 
 fn terms_denial(scope: &[ScopeColumn], params: &[Param], row: &[Term]) -> Option<Denial>
@@ -100,13 +95,7 @@ pub(crate) fn insert_denial(
 ) -> Option<Denial>
     ensures { result ≡ spec.first_denial (spec.insert_tests rows.now scope.now params.now) }
 {
-    for row in rows {
-        let denial = row_denial(scope, params, row);
-        if denial.is_some() {
-            return denial;
-        }
-    }
-    None
+    first_denial(rows, |row| row_denial(scope, params, row))
 }
 
 fn is_absent(scope: &[ScopeColumn], column: Ident) -> bool

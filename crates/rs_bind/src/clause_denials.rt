@@ -6,6 +6,7 @@ ghost use Rattle.rs_bind.specs.Scope as named;
 ghost use Rattle.rs_plan.specs.Kinds as kinds;
 
 use crate::columns::column_kind;
+use crate::first_denial::first_denial;
 use crate::kinds::kinds_fit;
 use crate::name_denials::{column_denial, denial_if, param_denial};
 use crate::params::param_kind;
@@ -54,13 +55,7 @@ fn cmp_denial(scope: &[ScopeColumn], params: &[Param], cmp: &Cmp) -> Option<Deni
 fn cmps_denial(scope: &[ScopeColumn], params: &[Param], cmps: &[Cmp]) -> Option<Denial>
     ensures { result ≡ spec.first_denial (flat_map (spec.cmp_tests scope.now params.now) cmps.now) }
 {
-    for cmp in cmps {
-        let denial = cmp_denial(scope, params, cmp);
-        if denial.is_some() {
-            return denial;
-        }
-    }
-    None
+    first_denial(cmps, |cmp| cmp_denial(scope, params, cmp))
 }
 
 fn clause_denial(scope: &[ScopeColumn], params: &[Param], clause: &Clause) -> Option<Denial>
@@ -77,11 +72,5 @@ pub(crate) fn clauses_denial(
 ) -> Option<Denial>
     ensures { result ≡ spec.first_denial (spec.clauses_tests scope.now params.now clauses.now) }
 {
-    for clause in clauses {
-        let denial = clause_denial(scope, params, clause);
-        if denial.is_some() {
-            return denial;
-        }
-    }
-    None
+    first_denial(clauses, |clause| clause_denial(scope, params, clause))
 }

@@ -7,6 +7,7 @@ mod clause_denials;
 mod clauses;
 mod columns;
 mod definitions;
+mod first_denial;
 mod grouping;
 mod heading;
 mod item_keys;

@@ -8,6 +8,7 @@ ghost use Rattle.rs_plan.specs.Kinds as kinds;
 
 use crate::clause_denials::clauses_denial;
 use crate::columns::column_kind;
+use crate::first_denial::first_denial;
 use crate::grouping::{is_grouped, shows_group};
 use crate::item_keys::names_items;
 use crate::kinds::kinds_fit;
@@ -46,13 +47,7 @@ fn item_denial(scope: &[ScopeColumn], item: &Item) -> Option<Denial>
 fn shown_denial(scope: &[ScopeColumn], shown: &[Item]) -> Option<Denial>
     ensures { result ≡ spec.first_denial (flat_map (spec.item_tests scope.now) shown.now) }
 {
-    for item in shown {
-        let denial = item_denial(scope, item);
-        if denial.is_some() {
-            return denial;
-        }
-    }
-    None
+    first_denial(shown, |item| item_denial(scope, item))
 }
 
 fn items_denial(scope: &[ScopeColumn], select: &Select) -> Option<Denial>
@@ -67,13 +62,7 @@ fn items_denial(scope: &[ScopeColumn], select: &Select) -> Option<Denial>
 fn columns_denial(scope: &[ScopeColumn], columns: &[ColRef]) -> Option<Denial>
     ensures { result ≡ spec.first_denial (flat_map (spec.column_tests scope.now) columns.now) }
 {
-    for written in columns {
-        let denial = column_denial(scope, written);
-        if denial.is_some() {
-            return denial;
-        }
-    }
-    None
+    first_denial(columns, |written| column_denial(scope, written))
 }
 
 fn key_denial(scope: &[ScopeColumn], key: &Key) -> Option<Denial>
@@ -88,13 +77,7 @@ fn key_denial(scope: &[ScopeColumn], key: &Key) -> Option<Denial>
 fn key_columns_denial(scope: &[ScopeColumn], order: &[Key]) -> Option<Denial>
     ensures { result ≡ spec.first_denial (flat_map (λ key. spec.key_tests scope.now key.by) order.now) }
 {
-    for key in order {
-        let denial = key_denial(scope, key);
-        if denial.is_some() {
-            return denial;
-        }
-    }
-    None
+    first_denial(order, |key| key_denial(scope, key))
 }
 
 fn order_denial(scope: &[ScopeColumn], select: &Select) -> Option<Denial>
