@@ -1,8 +1,8 @@
 -- The first denial of tests, one after the other.
-use Rattle.std.proofs.Common.{◌≡◌, ℕ, ◌+◌, ◌<◌, ◌≤◌, true, false, cond, List, [], ◌∷◌, ◌++◌, length, get_or, drop, Option, Some, None, is_some, refl, sym, ap, ◌∙◌}
+use Rattle.std.proofs.Common.{◌≡◌, ℕ, ◌+◌, ◌<◌, true, false, cond, List, [], ◌∷◌, ◌++◌, length, get_or, drop, Option, Some, None, is_some, refl, sym, ap, ◌∙◌}
 use Rattle.std.specs.Prelude.{flat_map, MatchOption}
 use Rattle.std.specs.Option.{option_or}
-use Rattle.std.proofs.lemmas.List.{at_drop_more, at_drop_all}
+use Rattle.std.proofs.lemmas.List.{at_drop_more}
 use Rattle.rs_base.specs.declared.reply.Denial.{Denial}
 use Rattle.rs_bind.specs.Denials.{Test, first_denial}
 
@@ -45,7 +45,3 @@ module _ {X : Type 0} (tests : X → List Test) where
       let at_x : first_of (get_or xs i x ∷ drop (i + 1) xs) ≡ first_of (x ∷ drop (i + 1) xs) = ap (λ y. first_of (y ∷ drop (i + 1) xs)) (sym here) in
       let this : first_of (x ∷ drop (i + 1) xs) ≡ Some cause = one_more x (drop (i + 1) xs) ∙ ap (λ (found : Option Denial). option_or found (first_of (drop (i + 1) xs))) (sym is) in
       sym (sym so_far ∙ more ∙ at_x ∙ this)
-
-  -- none of them denies
-  pub all_passed : (xs : List X) (i : ℕ) (total : Option Denial) → length xs ≤ i → first_of (drop i xs) ≡ total → None ≡ total
-  all_passed xs i total end so_far = sym (at_drop_all first_of xs i end) ∙ so_far

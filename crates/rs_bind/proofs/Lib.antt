@@ -8,7 +8,6 @@ pub mod OverScope
 pub mod OverShape
 pub mod OverTests
 pub mod Pairs
-pub mod Pieces
 pub mod Positions
 pub mod SetDenials
 pub mod Zipped

@@ -1,4 +1,5 @@
 pub mod Binding
+pub mod DenialOf
 pub mod Denials
 pub mod Entries
 pub mod Laws

@@ -80,12 +80,6 @@ fn terms_denial(scope: &[ScopeColumn], params: &[Param], row: &[Term]) -> Option
     ))
 }
 
-fn row_denial(scope: &[ScopeColumn], params: &[Param], row: &TermRow) -> Option<Denial>
-    ensures { result ≡ spec.first_denial (spec.row_tests scope.now params.now row.now) }
-{
-    terms_denial(scope, params, row.as_slice())
-}
-
 /// Returns the first denial of an INSERT's rows, if there is one: the number of their terms and their kinds, or a
 /// parameter. Linear in the rows, without an allocation.
 pub(crate) fn insert_denial(
@@ -95,7 +89,7 @@ pub(crate) fn insert_denial(
 ) -> Option<Denial>
     ensures { result ≡ spec.first_denial (spec.insert_tests rows.now scope.now params.now) }
 {
-    first_denial(rows, |row| row_denial(scope, params, row))
+    first_denial(rows, |row| terms_denial(scope, params, row.as_slice()))
 }
 
 fn is_absent(scope: &[ScopeColumn], column: Ident) -> bool

@@ -52,16 +52,10 @@ fn cmp_denial(scope: &[ScopeColumn], params: &[Param], cmp: &Cmp) -> Option<Deni
         .or_else(|| denial_if(!sides_fit(scope, params, cmp), Denial::WrongType))
 }
 
-fn cmps_denial(scope: &[ScopeColumn], params: &[Param], cmps: &[Cmp]) -> Option<Denial>
-    ensures { result ≡ spec.first_denial (flat_map (spec.cmp_tests scope.now params.now) cmps.now) }
-{
-    first_denial(cmps, |cmp| cmp_denial(scope, params, cmp))
-}
-
 fn clause_denial(scope: &[ScopeColumn], params: &[Param], clause: &Clause) -> Option<Denial>
     ensures { result ≡ spec.first_denial (flat_map (spec.cmp_tests scope.now params.now) clause.now.any) }
 {
-    cmps_denial(scope, params, clause.any.as_slice())
+    first_denial(clause.any.as_slice(), |cmp| cmp_denial(scope, params, cmp))
 }
 
 /// Returns the first denial of a predicate, if there is one.

@@ -1,7 +1,7 @@
 //! The first denial of several items.
 
-ghost use Rattle.std.specs.Prelude.{◌≡◌, List, Option, flat_map};
-ghost use Rattle.rs_base.specs.declared.reply.Denial.{Denial};
+ghost use Rattle.std.specs.Prelude.{◌≡◌, List, flat_map};
+ghost use Rattle.rs_bind.specs.DenialOf.{IsDenialBy};
 ghost use Rattle.rs_bind.specs.Denials as spec;
 
 use rs_base::Denial;
@@ -12,7 +12,7 @@ pub(crate) fn first_denial<T, F: Fn(&T) -> Option<Denial>>(
     denial_of: F,
 ) -> Option<Denial>
     requires { F.IsAlwaysCallable denial_of }
-    ensures { (tests : T → List spec.Test) → ((item : _) (found : _) → F.post denial_of item found → found ≡ spec.first_denial (tests item.now)) → result ≡ spec.first_denial (flat_map tests items.now) }
+    ensures { (tests : T → List spec.Test) → IsDenialBy tests (F.post denial_of) → result ≡ spec.first_denial (flat_map tests items.now) }
 {
     for item in items {
         let denial = denial_of(item);

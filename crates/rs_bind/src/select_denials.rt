@@ -74,16 +74,10 @@ fn key_denial(scope: &[ScopeColumn], key: &Key) -> Option<Denial>
     }
 }
 
-fn key_columns_denial(scope: &[ScopeColumn], order: &[Key]) -> Option<Denial>
-    ensures { result ≡ spec.first_denial (flat_map (λ key. spec.key_tests scope.now key.by) order.now) }
-{
-    first_denial(order, |key| key_denial(scope, key))
-}
-
 fn order_denial(scope: &[ScopeColumn], select: &Select) -> Option<Denial>
     ensures { result ≡ spec.first_denial (flat_map (λ key. spec.key_tests scope.now key.by) select.now.order) }
 {
-    key_columns_denial(scope, select.order.as_slice())
+    first_denial(select.order.as_slice(), |key| key_denial(scope, key))
 }
 
 /// Returns the first denial of a query's columns and comparisons, in the order of the text.
