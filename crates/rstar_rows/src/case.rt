@@ -8,7 +8,7 @@ use rs_stream::{MemSink, MemSource};
 use std::alloc::Global;
 
 /// A source, how it is run, and what has to come of it.
-#[derive(Debug, Drop)]
+#[derive(Drop)]
 pub struct Case {
     pub setup: Setup,
     pub source: Bytes,

@@ -3,14 +3,14 @@
 use rs_base::Bytes;
 
 /// The status of a run, and the text that it wrote.
-#[derive(Debug, Drop)]
+#[derive(Drop)]
 pub struct Outcome {
     pub status: u8,
     pub text: Bytes,
 }
 
 /// The first thing in which two outcomes differ.
-#[derive(Clone, Copy, Debug)]
+#[derive(Clone, Copy)]
 pub enum Difference<'a> {
     Status {
         wanted: u8,

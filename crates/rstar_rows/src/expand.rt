@@ -5,7 +5,7 @@ use rs_base::{Bytes, ReadFault, print_number};
 use std::alloc::Global;
 
 /// A repeat that is open.
-#[derive(Clone, Copy, Debug)]
+#[derive(Clone, Copy)]
 struct Repeat {
     /// The index of the first token of its text.
     start: usize,
@@ -15,7 +15,7 @@ struct Repeat {
 }
 
 /// The bytes that are written so far, and the repeats that are open.
-#[derive(Debug, Drop)]
+#[derive(Drop)]
 struct Expansion {
     bytes: Bytes,
     repeats: Vec<Repeat>,

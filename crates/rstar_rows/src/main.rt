@@ -20,7 +20,7 @@ use std::io;
 use std::rt::Files;
 
 /// How many cases there are, and how many of them differ.
-#[derive(Clone, Copy, Debug)]
+#[derive(Clone, Copy)]
 struct Tally {
     cases: u64,
     differing: u64,

@@ -16,7 +16,7 @@ use rs_base::ReadFault;
 use std::alloc::Global;
 
 /// A piece of the notation.
-#[derive(Clone, Copy, Debug, PartialEq, Eq)]
+#[derive(Clone, Copy)]
 pub enum Token {
     Byte(u8),
     /// The field of this index.

@@ -9,7 +9,7 @@ use std::alloc::{AllocError, Global};
 use std::str;
 
 /// How a case is run, and the status that it ends with.
-#[derive(Debug, Drop)]
+#[derive(Drop)]
 pub struct Setup {
     pub status: u8,
     /// The words of the command line.

@@ -11,7 +11,7 @@ use std::rt::Files;
 use std::{fs, str};
 
 /// The texts of a source and its report, with fields, and the lines that fill these.
-#[derive(Debug, Drop)]
+#[derive(Drop)]
 pub struct Template {
     schedule: String,
     /// The line of the setup, or nothing.
