@@ -7,11 +7,12 @@ use Rattle.std.proofs.lemmas.Bool.{cond-true}
 use Rattle.std.proofs.lemmas.List.Elements.{filter_agree}
 use Rattle.std.proofs.lemmas.List.Sorted.{IsPermutation-map, IsPermutation-refl, list_any-IsPermutation, sum_by-IsPermutation}
 use Rattle.std.proofs.lemmas.List.Sums.{sum_by-cons}
+use Rattle.rs_base.specs.declared.fault.OrNoMemory.{OrNoMemory}
+use Rattle.rs_base.specs.declared.fault.OrNoMemory.TheVariants as faults
 use Rattle.rs_base.specs.declared.value.Value.{Value}
 use Rattle.rs_ast.specs.declared.shape.Shape.{Shape}
 use Rattle.rs_ast.specs.declared.shape.ShapeItem.{ShapeItem}
-use Rattle.rs_answer.specs.declared.fault.AnswerFault.{AnswerFault}
-use Rattle.rs_answer.specs.declared.fault.AnswerFault.TheVariants as faults
+use Rattle.rs_answer.specs.declared.fault.Overflow.{Overflow}
 use Rattle.rs_answer.specs.Answer.{overflows, shown, same_row}
 use Rattle.rs_answer.specs.Given.{Gives, any_overflows, group_overflows, rows_of}
 use Rattle.rs_answer.specs.Groups.{once, group_values, group_cmp, same_group, members_of, grouped_by, groups_by, groups_of}
@@ -86,17 +87,17 @@ rows_permute items groups others same =
 
 -- ---- what groups give, as what the query shows
 
-shown_by : {T : Type 0} (rows : T → List (List Value)) (shape : Shape) (joined : List (List Value)) (groups : List (List (List Value))) (result : Result T AnswerFault)
+shown_by : {T : Type 0} (rows : T → List (List Value)) (shape : Shape) (joined : List (List Value)) (groups : List (List (List Value))) (result : Result T (OrNoMemory Overflow))
     → IsPermutation (groups_of shape joined) groups → Gives (any_overflows shape.items groups) (λ given. rows given ≡ rows_of shape.items groups) result
     → Gives (overflows shape joined) (λ given. IsPermutation (shown shape joined) (rows given)) result
 shown_by rows shape joined groups (Ok given) same gave = (
   list_any-IsPermutation (group_overflows shape.items) (groups_of shape joined) groups same ∙ gave.0,
   subst (λ now. IsPermutation (shown shape joined) now) (sym gave.1) (rows_permute shape.items (groups_of shape joined) groups same),
 )
-shown_by rows shape joined groups (Err faults.Overflow) same over = list_any-IsPermutation (group_overflows shape.items) (groups_of shape joined) groups same ∙ over
+shown_by rows shape joined groups (Err (faults.Fault overflow)) same over = list_any-IsPermutation (group_overflows shape.items) (groups_of shape joined) groups same ∙ over
 shown_by rows shape joined groups (Err faults.NoMemory) same gave = tt
 
-pub shown_from : {T : Type 0} (rows : T → List (List Value)) (shape : Shape) (joined : List (List Value)) (items : List ShapeItem) (groups : List (List (List Value))) (result : Result T AnswerFault)
+pub shown_from : {T : Type 0} (rows : T → List (List Value)) (shape : Shape) (joined : List (List Value)) (items : List ShapeItem) (groups : List (List (List Value))) (result : Result T (OrNoMemory Overflow))
     → items ≡ shape.items → IsPermutation (groups_of shape joined) groups → Gives (any_overflows items groups) (λ given. rows given ≡ rows_of items groups) result
     → Gives (overflows shape joined) (λ given. IsPermutation (shown shape joined) (rows given)) result
 shown_from rows shape joined items groups result e same gave =

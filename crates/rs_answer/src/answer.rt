@@ -5,7 +5,7 @@ ghost use Rattle.rs_answer.specs.Answer as spec;
 ghost use Rattle.rs_answer.specs.Given.{Gives};
 ghost use Rattle.rs_answer.specs.Sorting.{answer_cmp, sorted_by};
 
-use crate::fault::AnswerFault;
+use crate::fault::{AnswerFault, Overflow};
 use crate::groups::shown_rows;
 use crate::sorting::rows_in_order;
 use rs_ast::Shape;
@@ -29,7 +29,7 @@ pub fn answer_rows(
 {
     match sorted_rows(alloc, shape, joined) {
         Ok(rows) => Ok(Ok(rows)),
-        Err(AnswerFault::Overflow) => Ok(Err(Denial::Overflow)),
+        Err(AnswerFault::Fault(Overflow)) => Ok(Err(Denial::Overflow)),
         Err(AnswerFault::NoMemory) => Err(NoMemory),
     }
 }

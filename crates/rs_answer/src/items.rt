@@ -6,7 +6,7 @@ ghost use Rattle.rs_answer.specs.Best.{better_of};
 ghost use Rattle.rs_answer.specs.Given.{Gives, group_overflows};
 ghost use Rattle.rs_answer.specs.Items as spec;
 
-use crate::fault::AnswerFault;
+use crate::fault::{AnswerFault, Overflow};
 use rs_ast::ShapeItem;
 use rs_base::{NoMemory, Row, Value, with_room};
 use std::alloc::Global;
@@ -104,7 +104,7 @@ fn sum_value(column_index: u16, members: &[Row]) -> Result<Value, AnswerFault>
 {
     match i64::try_from(sum_at(column_index, members)) {
         Ok(sum) => Ok(Value::Int(sum)),
-        Err(_) => Err(AnswerFault::Overflow),
+        Err(_) => Err(AnswerFault::Fault(Overflow)),
     }
 }
 

@@ -97,3 +97,43 @@ impl From<Failed> for Fault {
         Fault::Failed
     }
 }
+
+/// A fault of the input, or an allocation failed.
+#[derive(Clone, Copy, Debug, PartialEq, Eq)]
+pub enum OrNoMemory<E> {
+    Fault(E),
+    NoMemory,
+}
+
+impl<E> From<NoMemory> for OrNoMemory<E> {
+    ghost use Rattle.std.specs.Prelude.{◌≡◌};
+    ghost use Rattle.rs_base.specs.declared.fault.OrNoMemory.TheVariants as faults;
+
+    ghost from_gives = { λ _ fault. fault ≡ faults.NoMemory };
+
+    fn from(_error: NoMemory) -> OrNoMemory<E> {
+        OrNoMemory::NoMemory
+    }
+}
+
+impl<E> From<AllocError> for OrNoMemory<E> {
+    ghost use Rattle.std.specs.Prelude.{◌≡◌};
+    ghost use Rattle.rs_base.specs.declared.fault.OrNoMemory.TheVariants as faults;
+
+    ghost from_gives = { λ _ fault. fault ≡ faults.NoMemory };
+
+    fn from(_error: AllocError) -> OrNoMemory<E> {
+        OrNoMemory::NoMemory
+    }
+}
+
+impl<E, T: Drop> From<AllocFailed<T>> for OrNoMemory<E> {
+    ghost use Rattle.std.specs.Prelude.{◌≡◌};
+    ghost use Rattle.rs_base.specs.declared.fault.OrNoMemory.TheVariants as faults;
+
+    ghost from_gives = { λ _ fault. fault ≡ faults.NoMemory };
+
+    fn from(_error: AllocFailed<T>) -> OrNoMemory<E> {
+        OrNoMemory::NoMemory
+    }
+}

@@ -19,7 +19,7 @@ mod txt;
 mod value;
 
 pub use bytes::Bytes;
-pub use fault::{Failed, Fault, NoMemory, ReadFault};
+pub use fault::{Failed, Fault, NoMemory, OrNoMemory, ReadFault};
 pub use ident::{Ident, is_name_byte};
 pub use lock::{HeldLocks, Mode, Resource};
 pub use name::{NameText, Swn};
