@@ -99,7 +99,7 @@ impl From<Failed> for Fault {
 }
 
 /// A fault of the input, or an allocation failed.
-#[derive(Clone, Copy, Debug, PartialEq, Eq)]
+#[derive(Clone, Copy)]
 pub enum OrNoMemory<E> {
     Fault(E),
     NoMemory,
