@@ -1,83 +1,59 @@
 //! Fields: how they are encoded, and bytes that encode none.
 
 use crate::escape::unescaped;
+use crate::words::Words;
 use rs_base::{Bytes, NoMemory, ReadFault};
 use rs_codec::{Fields, put_byte, put_count, put_int, put_text, put_u32, put_u64};
 use std::alloc::Global;
 
-/// A field with its value.
-#[derive(Drop)]
-enum Field {
-    Byte(u8),
-    U32(u32),
-    U64(u64),
-    Count(u64),
-    Int(i64),
-    Text(Bytes),
-}
-
-/// Reads the kind and the value of a field.
-fn read_field(alloc: Global, item: &str) -> Result<Field, ReadFault> {
-    let (kind, value) = item.split_once(' ').unwrap_or((item, ""));
-    let field = match kind {
-        "byte" => value.parse().ok().map(Field::Byte),
-        "u32" => value.parse().ok().map(Field::U32),
-        "u64" => value.parse().ok().map(Field::U64),
-        "count" => value.parse().ok().map(Field::Count),
-        "int" => value.parse().ok().map(Field::Int),
-        "text" => Some(Field::Text(unescaped(alloc, value)?)),
-        _ => None,
-    };
-    field.ok_or(ReadFault::Malformed)
-}
-
-/// Appends the encoding of a field.
-fn put(field: &Field, out: &mut Bytes) -> Result<(), NoMemory> {
-    match field {
-        Field::Byte(n) => put_byte(out, *n),
-        Field::U32(n) => put_u32(out, *n),
-        Field::U64(n) => put_u64(out, *n),
-        Field::Count(n) => put_count(out, *n),
-        Field::Int(n) => put_int(out, *n),
-        Field::Text(text) => put_text(out, text.as_slice()),
+/// Appends the encoding of a field of this kind and value.
+fn put(alloc: Global, kind: &str, value: &str, out: &mut Bytes) -> Result<(), ReadFault> {
+    let mut words = Words::new(value);
+    match kind {
+        "byte" => put_byte(out, value.parse().map_err(|_| ReadFault::Malformed)?)?,
+        "u32" => put_u32(out, words.small()?)?,
+        "u64" => put_u64(out, words.number()?)?,
+        "count" => put_count(out, words.number()?)?,
+        "int" => put_int(out, words.integer()?)?,
+        "text" => put_text(out, unescaped(alloc, value)?.as_slice())?,
+        _ => return Err(ReadFault::Malformed),
     }
+    Ok(())
 }
 
-/// Reports whether this field is read next.
-fn is_next(field: &Field, fields: &mut Fields<'_>) -> bool {
-    match field {
-        Field::Byte(n) => fields.take_byte() == Some(*n),
-        Field::U32(n) => fields.take_u32() == Some(*n),
-        Field::U64(n) => fields.take_u64() == Some(*n),
-        Field::Count(n) => fields.take_count() == Some(*n),
-        Field::Int(n) => fields.take_int() == Some(*n),
-        Field::Text(text) => fields.take_text() == Some(text.as_slice()),
-    }
-}
-
-/// Reports whether exactly these fields are read from the bytes.
-fn are_read(alloc: Global, items: &str, bytes: &[u8]) -> Result<bool, ReadFault> {
-    let mut fields = Fields::new(bytes);
-    for item in items.split(", ") {
-        if !is_next(&read_field(alloc, item)?, &mut fields) {
-            return Ok(false);
-        }
-    }
-    Ok(fields.rest().is_empty())
+/// Reports whether a field of this kind and value is read next.
+fn is_next(
+    alloc: Global,
+    kind: &str,
+    value: &str,
+    fields: &mut Fields<'_>,
+) -> Result<bool, NoMemory> {
+    Ok(match kind {
+        "byte" => fields.take_byte() == value.parse::<u8>().ok(),
+        "u32" => fields.take_u32() == value.parse::<u32>().ok(),
+        "u64" => fields.take_u64() == value.parse::<u64>().ok(),
+        "count" => fields.take_count() == value.parse::<u64>().ok(),
+        "int" => fields.take_int() == value.parse::<i64>().ok(),
+        _ => fields.take_text() == Some(unescaped(alloc, value)?.as_slice()),
+    })
 }
 
 /// Appends the encodings of the fields, from which they are read again.
 pub fn append_fields(alloc: Global, items: &str, out: &mut Bytes) -> Result<(), ReadFault> {
     let mut bytes = Bytes::new(alloc);
     for item in items.split(", ") {
-        let field = read_field(alloc, item)?;
-        put(&field, out)?;
-        put(&field, &mut bytes)?;
+        let (kind, value) = item.split_once(' ').unwrap_or((item, ""));
+        put(alloc, kind, value, &mut bytes)?;
     }
-    if !are_read(alloc, items, bytes.as_slice())? {
-        out.extend(b" (read otherwise)")?;
+    out.extend(bytes.as_slice())?;
+    let mut fields = Fields::new(bytes.as_slice());
+    for item in items.split(", ") {
+        let (kind, value) = item.split_once(' ').unwrap_or((item, ""));
+        if !is_next(alloc, kind, value, &mut fields)? {
+            out.extend(b" (read otherwise)")?;
+        }
     }
-    Ok(())
+    Ok(out.extend(fields.rest())?)
 }
 
 /// Reports whether no field of this kind is read next.

@@ -5,6 +5,7 @@ mod escape;
 mod fields;
 mod messages;
 mod names;
+mod orders;
 mod replies;
 mod schedules;
 mod texts;
@@ -37,8 +38,8 @@ impl Cases<'_> {
             "printed" => texts::append_printed(alloc, input, out)?,
             "names" => names::append_name(alloc, input, out)?,
             "resolved" => names::append_resolved(alloc, input, out)?,
-            "schedules" => schedules::append_schedule(alloc, input, out)?,
-            "lines" => schedules::append_lines(alloc, input, out)?,
+            "schedules" => schedules::append_schedule(alloc, input, true, out)?,
+            "lines" => schedules::append_schedule(alloc, input, false, out)?,
             "events" => schedules::append_events(alloc, input, out)?,
             "fields" => fields::append_fields(alloc, input, out)?,
             "refused" => fields::append_refused(alloc, input, out)?,

@@ -4,6 +4,7 @@ use crate::escape::unescaped;
 use crate::words::{Words, append_numbers};
 use rs_base::{Bytes, NoMemory, ReadFault};
 use rs_msg::{Ask, Message, ReplyPart, decode, encode};
+use rs_print::print_origin;
 use std::alloc::Global;
 
 /// Reads `USER EPOCH NUMBER PART TEXT`.
@@ -54,12 +55,8 @@ fn append_ask(alloc: Global, ask: &Ask, out: &mut Bytes) -> Result<(), NoMemory>
 
 /// Appends the fields of a part of a reply.
 fn append_reply(alloc: Global, reply: &ReplyPart, out: &mut Bytes) -> Result<(), NoMemory> {
-    let origin = &reply.origin;
-    out.extend(b"reply")?;
-    append_numbers(alloc, &[u64::from(origin.site.number())], out)?;
-    out.extend(b" ")?;
-    out.extend(origin.user.as_bytes())?;
-    append_numbers(alloc, &[u64::from(origin.epoch), origin.number], out)?;
+    out.extend(b"reply ")?;
+    print_origin(alloc, &reply.origin, out)?;
     append_numbers(alloc, &[u64::from(reply.part), u64::from(reply.parts)], out)?;
     out.extend(b" ")?;
     out.extend(reply.bytes.as_slice())

@@ -3,7 +3,7 @@
 use crate::values::read_row;
 use crate::words::Words;
 use rs_base::{
-    Answer, Answers, Bytes, Denial, Enlist, Lines, ReadFault, Reason, Reply, Resource, Rows, Swn,
+    Answer, Answers, Bytes, Denial, Lines, ReadFault, Reason, Reply, Resource, Rows, Swn,
 };
 use rs_name::parse_swn;
 use rs_print::print_reply;
@@ -60,23 +60,14 @@ fn read_resource(words: &mut Words<'_>) -> Result<Resource, ReadFault> {
     }
 }
 
-/// Reads `SITE RESOURCE SITE EPOCH NUMBER`, where the last three are the holder.
-fn read_lock_budget(words: &mut Words<'_>) -> Result<Reason, ReadFault> {
-    Ok(Reason::LockBudget {
-        site: words.site()?,
-        what: read_resource(words)?,
-        holder: Enlist {
-            site: words.site()?,
-            epoch: words.small()?,
-            number: words.number()?,
-        },
-    })
-}
-
 /// Reads the cause of a failure, and what belongs to it.
 fn read_reason(words: &mut Words<'_>) -> Result<Reason, ReadFault> {
     match words.next() {
-        "LockBudget" => read_lock_budget(words),
+        "LockBudget" => Ok(Reason::LockBudget {
+            site: words.site()?,
+            what: read_resource(words)?,
+            holder: words.enlist()?,
+        }),
         "NoAnswer" => Ok(Reason::NoAnswer {
             site: words.site()?,
         }),

@@ -2,9 +2,9 @@
 
 use crate::escape::unescaped;
 use crate::words::append_numbers;
-use rs_base::{Bytes, NoMemory, SiteNo};
+use rs_base::{Bytes, NoMemory};
 use rs_sched::{Event, EventLines, SchedFault, Why, parse_schedule, print_event};
-use std::alloc::Global;
+use std::alloc::{AllocError, Global};
 
 /// Gives the name of a cause.
 fn name_of(why: Why) -> &'static [u8] {
@@ -31,112 +31,82 @@ fn append_refusal(alloc: Global, fault: SchedFault, out: &mut Bytes) -> Result<(
     out.extend(why.text())
 }
 
-/// Appends the printed events, or the refusal.
-fn append_result(
-    alloc: Global,
-    printed: Result<Bytes, SchedFault>,
-    out: &mut Bytes,
-) -> Result<(), NoMemory> {
-    match printed {
-        Ok(text) => out.extend(text.as_slice()),
-        Err(fault) => append_refusal(alloc, fault, out),
-    }
-}
-
 /// Prints the events of a schedule.
-fn printed_schedule(alloc: Global, source: &[u8]) -> Result<Bytes, SchedFault> {
-    let mut out = Bytes::new(alloc);
+fn print_schedule(alloc: Global, source: &[u8], out: &mut Bytes) -> Result<(), SchedFault> {
     for event in parse_schedule(alloc, source)?.as_slice() {
-        print_event(alloc, event, &mut out).map_err(|_| SchedFault::NoMemory)?;
+        print_event(alloc, event, out).map_err(|_| SchedFault::NoMemory)?;
     }
-    Ok(out)
+    Ok(())
 }
 
 /// Prints the events of a schedule, which are read one by one.
-fn printed_lines(alloc: Global, source: &[u8]) -> Result<Bytes, SchedFault> {
-    let mut out = Bytes::new(alloc);
+fn print_lines(alloc: Global, source: &[u8], out: &mut Bytes) -> Result<(), SchedFault> {
     let mut lines = EventLines::new(source);
     for _ in 0..source.len() + 1 {
         let Some(event) = lines.next(alloc)? else {
             break;
         };
-        print_event(alloc, &event, &mut out).map_err(|_| SchedFault::NoMemory)?;
+        print_event(alloc, &event, out).map_err(|_| SchedFault::NoMemory)?;
     }
-    Ok(out)
+    Ok(())
 }
 
-/// Appends the printed events of a schedule, or its refusal.
-pub fn append_schedule(alloc: Global, input: &str, out: &mut Bytes) -> Result<(), NoMemory> {
-    let source = unescaped(alloc, input)?;
-    append_result(alloc, printed_schedule(alloc, source.as_slice()), out)
-}
-
-/// Appends the printed events of a schedule that is read event by event, or its refusal.
-pub fn append_lines(alloc: Global, input: &str, out: &mut Bytes) -> Result<(), NoMemory> {
-    let source = unescaped(alloc, input)?;
-    append_result(alloc, printed_lines(alloc, source.as_slice()), out)
-}
-
-/// Appends the kind of an event with its numbers.
-fn append_kind(
+/// Appends the printed events of a schedule that is read as a whole or event by event, or its refusal.
+pub fn append_schedule(
     alloc: Global,
-    kind: &[u8],
-    numbers: &[u64],
+    input: &str,
+    whole: bool,
     out: &mut Bytes,
 ) -> Result<(), NoMemory> {
-    out.extend(kind)?;
-    append_numbers(alloc, numbers, out)
+    let source = unescaped(alloc, input)?;
+    let mut printed = Bytes::new(alloc);
+    let outcome = if whole {
+        print_schedule(alloc, source.as_slice(), &mut printed)
+    } else {
+        print_lines(alloc, source.as_slice(), &mut printed)
+    };
+    match outcome {
+        Ok(()) => out.extend(printed.as_slice()),
+        Err(fault) => append_refusal(alloc, fault, out),
+    }
 }
 
-/// Gives the number of a site.
-fn site_number(site: &SiteNo) -> u64 {
-    u64::from(site.number())
+/// Gives an event, field by field, without its bytes.
+fn event_text(alloc: Global, event: &Event) -> Result<String, AllocError> {
+    match event {
+        Event::Sites(last) => format!(in alloc; "Sites {}", last.number()),
+        Event::Ask { origin: of, .. } => {
+            format!(in alloc; "Ask {} {} {} ", of.site.number(), of.epoch, of.number)
+        }
+        Event::Deliver(of) => format!(in alloc; "Deliver {of}"),
+        Event::Lose(of) => format!(in alloc; "Lose {of}"),
+        Event::Tick(at, ticks) => format!(in alloc; "Tick {} {ticks}", at.number()),
+        Event::Stop(at, writes, bytes) => {
+            format!(in alloc; "Stop {} {writes} {bytes}", at.number())
+        }
+        Event::Arm(at, call, writes, bytes) => {
+            format!(in alloc; "Arm {} {call} {writes} {bytes}", at.number())
+        }
+        Event::Restart(at) => format!(in alloc; "Restart {}", at.number()),
+        Event::Settle(None) => format!(in alloc; "Settle"),
+        Event::Settle(Some(most)) => format!(in alloc; "Settle {most}"),
+        Event::Noise(at, _) => format!(in alloc; "Noise {} ", at.number()),
+    }
 }
 
 /// Appends an event, field by field.
 fn append_event(alloc: Global, event: &Event, out: &mut Bytes) -> Result<(), NoMemory> {
+    out.extend(event_text(alloc, event)?.as_bytes())?;
     match event {
-        Event::Sites(last) => append_kind(alloc, b"Sites", &[site_number(last)], out),
         Event::Ask { origin, text } => {
-            let numbers = [
-                site_number(&origin.site),
-                u64::from(origin.epoch),
-                origin.number,
-            ];
-            append_kind(alloc, b"Ask", &numbers, out)?;
-            out.extend(b" ")?;
             out.extend(origin.user.as_bytes())?;
             out.extend(b" ")?;
-            out.extend(text.as_slice())
+            out.extend(text.as_slice())?;
         }
-        Event::Deliver(of) => append_kind(alloc, b"Deliver", &[*of], out),
-        Event::Lose(of) => append_kind(alloc, b"Lose", &[*of], out),
-        Event::Tick(at, ticks) => append_kind(
-            alloc,
-            b"Tick",
-            &[site_number(at), u64::from(*ticks)],
-            out,
-        ),
-        Event::Stop(at, writes, bytes) => {
-            append_kind(alloc, b"Stop", &[site_number(at), *writes, *bytes], out)
-        }
-        Event::Arm(at, call, writes, bytes) => {
-            append_kind(
-                alloc,
-                b"Arm",
-                &[site_number(at), *call, *writes, *bytes],
-                out,
-            )
-        }
-        Event::Restart(at) => append_kind(alloc, b"Restart", &[site_number(at)], out),
-        Event::Settle(None) => append_kind(alloc, b"Settle", &[], out),
-        Event::Settle(Some(most)) => append_kind(alloc, b"Settle", &[*most], out),
-        Event::Noise(at, bytes) => {
-            append_kind(alloc, b"Noise", &[site_number(at)], out)?;
-            out.extend(b" ")?;
-            out.extend(bytes.as_slice())
-        }
+        Event::Noise(_, bytes) => out.extend(bytes.as_slice())?,
+        _ => {}
     }
+    out.extend(b"; ")
 }
 
 /// Appends the events of a schedule, field by field.
@@ -147,7 +117,6 @@ pub fn append_events(alloc: Global, input: &str, out: &mut Bytes) -> Result<(), 
     };
     for event in events.as_slice() {
         append_event(alloc, event, out)?;
-        out.extend(b"; ")?;
     }
     Ok(())
 }

@@ -26,38 +26,23 @@ pub fn append_fault(alloc: Global, input: &str, out: &mut Bytes) -> Result<(), N
     }
 }
 
-/// Reports whether a request can end here, or `None` if its continuations are not at fault where it ends.
-fn can_end(alloc: Global, text: &[u8]) -> Result<Option<bool>, NoMemory> {
+/// Appends the length of a cut that is a request, or `?` if its continuations are not at fault where it ends.
+fn append_cut(alloc: Global, text: &[u8], out: &mut Bytes) -> Result<(), NoMemory> {
     let mut blank = Bytes::from_slice(alloc, text)?;
     blank.extend(b"\r\n\t ")?;
-    let end = Some(text.len());
     let later = Some(blank.len());
     let word = fault_of(alloc, blank.as_slice(), b"Revoke 'x")?;
     let byte = fault_of(alloc, blank.as_slice(), b"! x")?;
-    let ends = (
-        fault_of(alloc, text, b"")?,
-        fault_of(alloc, blank.as_slice(), b"")?,
-    );
-    Ok(if word != later || byte != later {
-        None
-    } else if ends == (None, None) {
-        Some(true)
-    } else if ends == (end, later) {
-        Some(false)
+    let here = fault_of(alloc, text, b"")?;
+    let after = fault_of(alloc, blank.as_slice(), b"")?;
+    let continues = (word, byte) == (later, later);
+    if continues && (here, after) == (None, None) {
+        out.extend(b" ")?;
+        print_number(alloc, text.len() as u64, out)
+    } else if continues && (here, after) == (Some(text.len()), later) {
+        Ok(())
     } else {
-        None
-    })
-}
-
-/// Appends the length of a cut that is a request, or `?` if its continuations are at fault elsewhere.
-fn append_cut(alloc: Global, text: &[u8], out: &mut Bytes) -> Result<(), NoMemory> {
-    match can_end(alloc, text)? {
-        None => out.extend(b" ?"),
-        Some(true) => {
-            out.extend(b" ")?;
-            print_number(alloc, text.len() as u64, out)
-        }
-        Some(false) => Ok(()),
+        out.extend(b" ?")
     }
 }
 

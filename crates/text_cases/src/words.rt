@@ -1,6 +1,6 @@
 //! The words of a line, read one after the other.
 
-use rs_base::{Bytes, Ident, NoMemory, Origin, ReadFault, SiteNo, print_number};
+use rs_base::{Bytes, Enlist, Ident, NoMemory, Origin, ReadFault, SiteNo, Swn, Txn, print_number};
 use std::alloc::Global;
 
 /// The words that are left, separated by one blank each.
@@ -34,6 +34,10 @@ impl<'a> Words<'a> {
         self.next().parse().map_err(|_| ReadFault::Malformed)
     }
 
+    pub fn integer(&mut self) -> Result<i64, ReadFault> {
+        self.next().parse().map_err(|_| ReadFault::Malformed)
+    }
+
     /// Reads a site, or `None` for a word that is none.
     pub fn any_site(&mut self) -> Option<SiteNo> {
         SiteNo::new(self.next().parse().ok()?)
@@ -59,6 +63,34 @@ impl<'a> Words<'a> {
             user: self.ident()?,
             epoch: self.small()?,
             number: self.number()?,
+        })
+    }
+
+    /// Reads `SITE EPOCH NUMBER`.
+    pub fn txn(&mut self) -> Result<Txn, ReadFault> {
+        Ok(Txn {
+            site: self.site()?,
+            epoch: self.small()?,
+            number: self.number()?,
+        })
+    }
+
+    /// Reads `SITE EPOCH NUMBER`.
+    pub fn enlist(&mut self) -> Result<Enlist, ReadFault> {
+        Ok(Enlist {
+            site: self.site()?,
+            epoch: self.small()?,
+            number: self.number()?,
+        })
+    }
+
+    /// Reads `CREATOR SITE OBJECT SITE`.
+    pub fn swn(&mut self) -> Result<Swn, ReadFault> {
+        Ok(Swn {
+            creator: self.ident()?,
+            creator_site: self.site()?,
+            object: self.ident()?,
+            birth: self.site()?,
         })
     }
 }
