@@ -106,13 +106,13 @@ fn parts<R: AllocGlobal + Print>(rt: &R) -> Result<()> {
 /// Prints the message of a part of a reply to ann's third request, as it is read from its bytes, and the first of the
 /// part's bytes.
 fn message<R: AllocGlobal + Print>(rt: &R, part: u32, reply: Reply) -> Result<()> {
-    let part = Told {
+    let sent = Told {
         to: Peer::Client(7),
         origin: origin(3)?,
         part,
         reply,
     };
-    let Some(message) = part.message(rt.alloc())? else {
+    let Some(message) = sent.message(rt.alloc())? else {
         println!(rt; "Told::message, part {part} = none")?;
         return Ok(());
     };
