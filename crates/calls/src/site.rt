@@ -123,11 +123,8 @@ fn message<R: AllocGlobal + Print>(rt: &R, part: u32, reply: Reply) -> Result<()
     };
     let user = text_of(read.origin.user.as_bytes());
     let start = text_of(read.bytes.as_slice().get(..24).unwrap_or(&[]));
-    let (number, parts, len) = (read.origin.number, read.parts, read.bytes.len());
-    print!(rt;
-        "Told::message = {user} {number} part {} of {parts}, ",
-        read.part
-    )?;
-    println!(rt; "{len} bytes, '{start}'")?;
+    let (number, part, parts) = (read.origin.number, read.part, read.parts);
+    print!(rt; "Told::message = {user} {number} part {part} of {parts}, ")?;
+    println!(rt; "{} bytes, '{start}'", read.bytes.len())?;
     Ok(())
 }

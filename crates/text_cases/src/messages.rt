@@ -1,7 +1,7 @@
 //! Messages: how they are encoded, and what datagrams say.
 
 use crate::escape::unescaped;
-use crate::words::{Words, append_numbers};
+use crate::words::Words;
 use rs_base::{Bytes, NoMemory, ReadFault};
 use rs_msg::{Ask, Message, ReplyPart, decode, encode};
 use rs_print::print_origin;
@@ -47,9 +47,8 @@ pub fn append_encoded(alloc: Global, input: &str, out: &mut Bytes) -> Result<(),
 fn append_ask(alloc: Global, ask: &Ask, out: &mut Bytes) -> Result<(), NoMemory> {
     out.extend(b"ask ")?;
     out.extend(ask.user.as_bytes())?;
-    let numbers = [u64::from(ask.epoch), ask.number, u64::from(ask.part)];
-    append_numbers(alloc, &numbers, out)?;
-    out.extend(b" ")?;
+    let numbers = format!(in alloc; " {} {} {} ", ask.epoch, ask.number, ask.part)?;
+    out.extend(numbers.as_bytes())?;
     out.extend(ask.text.as_slice())
 }
 
@@ -57,8 +56,7 @@ fn append_ask(alloc: Global, ask: &Ask, out: &mut Bytes) -> Result<(), NoMemory>
 fn append_reply(alloc: Global, reply: &ReplyPart, out: &mut Bytes) -> Result<(), NoMemory> {
     out.extend(b"reply ")?;
     print_origin(alloc, &reply.origin, out)?;
-    append_numbers(alloc, &[u64::from(reply.part), u64::from(reply.parts)], out)?;
-    out.extend(b" ")?;
+    out.extend(format!(in alloc; " {} {} ", reply.part, reply.parts)?.as_bytes())?;
     out.extend(reply.bytes.as_slice())
 }
 

@@ -1,19 +1,10 @@
 //! Names: system-wide names, and what written names stand for.
 
 use crate::escape::unescaped;
-use crate::words::{Words, append_numbers};
+use crate::words::Words;
 use rs_base::{Bytes, NameText, NoMemory, ReadFault, Swn};
 use rs_name::{parse_swn, print_swn, resolve};
 use std::alloc::Global;
-
-/// Appends the four parts of a name.
-fn append_parts(alloc: Global, name: &Swn, out: &mut Bytes) -> Result<(), NoMemory> {
-    out.extend(name.creator.as_bytes())?;
-    append_numbers(alloc, &[u64::from(name.creator_site.number())], out)?;
-    out.extend(b" ")?;
-    out.extend(name.object.as_bytes())?;
-    append_numbers(alloc, &[u64::from(name.birth.number())], out)
-}
 
 /// Appends the four parts of the name that this text is, or `none`.
 pub fn append_name(alloc: Global, input: &str, out: &mut Bytes) -> Result<(), NoMemory> {
@@ -21,7 +12,10 @@ pub fn append_name(alloc: Global, input: &str, out: &mut Bytes) -> Result<(), No
     let Some(name) = parse_swn(text.as_slice()) else {
         return out.extend(b"none");
     };
-    append_parts(alloc, &name, out)
+    out.extend(name.creator.as_bytes())?;
+    out.extend(format!(in alloc; " {} ", name.creator_site.number())?.as_bytes())?;
+    out.extend(name.object.as_bytes())?;
+    out.extend(format!(in alloc; " {}", name.birth.number())?.as_bytes())
 }
 
 /// Reads `CREATOR SITE OBJECT BIRTH USER SITE SYNONYM`, where `-` is a part that is not written.

@@ -3,7 +3,7 @@
 use crate::values::read_row;
 use crate::words::Words;
 use rs_base::{
-    Answer, Answers, Bytes, Denial, Lines, ReadFault, Reason, Reply, Resource, Rows, Swn,
+    Answer, Answers, Bytes, Denial, ReadFault, Reason, Reply, Resource, Rows, Swn, one_item,
 };
 use rs_name::parse_swn;
 use rs_print::print_reply;
@@ -33,15 +33,6 @@ fn read_answers(alloc: Global, line: &str) -> Result<Answers, ReadFault> {
         answers.push(read_answer(alloc, word)?)?;
     }
     Ok(answers)
-}
-
-/// Reads a denial by its name.
-fn read_denial(word: &str) -> Result<Denial, ReadFault> {
-    match word {
-        "NoTable" => Ok(Denial::NoTable),
-        "TableFull" => Ok(Denial::TableFull),
-        _ => Err(ReadFault::Malformed),
-    }
 }
 
 /// Reads a system-wide name.
@@ -78,20 +69,20 @@ fn read_reason(words: &mut Words<'_>) -> Result<Reason, ReadFault> {
     }
 }
 
-/// Reads one line that is shown.
-fn read_lines(alloc: Global, line: &str) -> Result<Lines, ReadFault> {
-    let mut lines = Lines::new(alloc);
-    lines.push(Bytes::from_slice(alloc, line.as_bytes())?)?;
-    Ok(lines)
-}
-
 /// Reads the class of a reply, and what belongs to it.
 fn read_reply(alloc: Global, words: &mut Words<'_>) -> Result<Reply, ReadFault> {
     match words.next() {
         "Done" => Ok(Reply::Done(read_answers(alloc, words.rest())?)),
-        "Denied" => Ok(Reply::Denied(read_denial(words.next())?)),
+        "Denied" => match words.next() {
+            "NoTable" => Ok(Reply::Denied(Denial::NoTable)),
+            "TableFull" => Ok(Reply::Denied(Denial::TableFull)),
+            _ => Err(ReadFault::Malformed),
+        },
         "Failed" => Ok(Reply::Failed(read_reason(words)?)),
-        "Shown" => Ok(Reply::Shown(read_lines(alloc, words.rest())?)),
+        "Shown" => {
+            let line = Bytes::from_slice(alloc, words.rest().as_bytes())?;
+            Ok(Reply::Shown(one_item(alloc, line)?))
+        }
         "Syntax" => Ok(Reply::Syntax(words.small()?)),
         "OldEpoch" => Ok(Reply::OldEpoch(words.small()?)),
         "OldRequest" => Ok(Reply::OldRequest(words.number()?)),

@@ -1,7 +1,6 @@
 //! Schedules: what they are refused for, and their events.
 
 use crate::escape::unescaped;
-use crate::words::append_numbers;
 use rs_base::{Bytes, NoMemory};
 use rs_sched::{Event, EventLines, SchedFault, Why, parse_schedule, print_event};
 use std::alloc::{AllocError, Global};
@@ -23,9 +22,7 @@ fn append_refusal(alloc: Global, fault: SchedFault, out: &mut Bytes) -> Result<(
     let SchedFault::BadLine { line, why } = fault else {
         return Err(NoMemory);
     };
-    out.extend(b"line")?;
-    append_numbers(alloc, &[line], out)?;
-    out.extend(b" ")?;
+    out.extend(format!(in alloc; "line {line} ")?.as_bytes())?;
     out.extend(name_of(why))?;
     out.extend(b": ")?;
     out.extend(why.text())

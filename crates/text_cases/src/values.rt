@@ -102,9 +102,9 @@ pub fn append_value(alloc: Global, input: &str, out: &mut Bytes) -> Result<(), R
         "txn" => print_txn(alloc, &words.txn()?, out)?,
         "swn" => print_swn(alloc, &words.swn()?, out)?,
         "origin" => print_origin(alloc, &words.origin()?, out)?,
-        "order" => append_order(alloc, &mut words, out)?,
+        "order" => append_order(alloc, words.rest(), out)?,
         "allows" => append_allowed(words.rest(), out)?,
-        "compute" => append_computed(alloc, &mut words, out)?,
+        "compute" => append_computed(alloc, words.rest(), out)?,
         kind => append_row(alloc, kind, words.rest(), out)?,
     }
     Ok(())

@@ -1,7 +1,6 @@
 //! The words of a line, read one after the other.
 
-use rs_base::{Bytes, Enlist, Ident, NoMemory, Origin, ReadFault, SiteNo, Swn, Txn, print_number};
-use std::alloc::Global;
+use rs_base::{Enlist, Ident, Origin, ReadFault, SiteNo, Swn, Txn};
 
 /// The words that are left, separated by one blank each.
 #[derive(Drop)]
@@ -93,13 +92,4 @@ impl<'a> Words<'a> {
             birth: self.site()?,
         })
     }
-}
-
-/// Appends the numbers, each after a blank.
-pub fn append_numbers(alloc: Global, numbers: &[u64], out: &mut Bytes) -> Result<(), NoMemory> {
-    for n in numbers {
-        out.extend(b" ")?;
-        print_number(alloc, *n, out)?;
-    }
-    Ok(())
 }
