@@ -2,13 +2,13 @@
 
 use anyhow::{Context, Result, bail};
 use rs_ast::{Dml, Stmt};
-use rs_base::{Bytes, Ident, NameText, NoMemory, Origin, Row, Rows, SiteNo, Swn, Txt, Value};
+use rs_base::{Ident, NameText, NoMemory, Origin, Row, SiteNo, Swn, Txt, Value};
 use rs_parse::parse;
 use sqlite_items::Items;
 use std::alloc::Global;
 
-pub fn ident(text: &str) -> Result<Ident> {
-    Ident::new(text.as_bytes()).context("no identifier")
+pub fn ident(text: &[u8]) -> Result<Ident> {
+    Ident::new(text).context("no identifier")
 }
 
 pub fn site(number: u16) -> Result<SiteNo> {
@@ -16,18 +16,22 @@ pub fn site(number: u16) -> Result<SiteNo> {
 }
 
 /// Returns the name of an object of that user at the site.
-pub fn name(user: &str, at: u16, object: &str) -> Result<Swn> {
+pub fn name(user: &[u8], at: u16, object: &[u8]) -> Result<Swn> {
     Ok(NameText::plain(ident(object)?).resolve(ident(user)?, site(at)?))
 }
 
-/// Returns a request of ann at site 1, in epoch 1.
-pub fn origin(number: u64) -> Result<Origin> {
+/// Returns a request of the user at the site, in epoch 1.
+pub fn origin(at: u16, user: &[u8], number: u64) -> Result<Origin> {
     Ok(Origin {
-        site: site(1)?,
-        user: ident("ann")?,
+        site: site(at)?,
+        user: ident(user)?,
         epoch: 1,
         number,
     })
+}
+
+pub fn text(alloc: Global, bytes: &[u8]) -> Result<Value> {
+    Ok(Value::Text(Txt::new(alloc, bytes)?))
 }
 
 pub fn integers(alloc: Global, numbers: &[i64]) -> Result<Row, NoMemory> {
@@ -38,29 +42,16 @@ pub fn integers(alloc: Global, numbers: &[i64]) -> Result<Row, NoMemory> {
     Ok(row)
 }
 
-pub fn rows_of_integers(alloc: Global, numbers: &[&[i64]]) -> Result<Rows, NoMemory> {
-    let mut rows = Items::new(alloc);
-    for row in numbers {
-        rows.push(integers(alloc, row)?)?;
-    }
-    Ok(rows)
-}
-
 /// Returns a row of an integer and a text.
-pub fn integer_and_text(alloc: Global, number: i64, text: &str) -> Result<Row> {
+pub fn integer_and_text(alloc: Global, number: i64, bytes: &[u8]) -> Result<Row> {
     let mut row = integers(alloc, &[number])?;
-    row.push(Value::Text(Txt::new(alloc, text.as_bytes())?))?;
+    row.push(text(alloc, bytes)?)?;
     Ok(row)
 }
 
-/// Returns a byte that is repeated.
-pub fn repeated(alloc: Global, byte: u8, count: usize) -> Result<Bytes, NoMemory> {
-    Bytes::from_slice(alloc, vec![in alloc; byte; count]?.as_slice())
-}
-
 /// Returns the statement on rows that has this text.
-pub fn dml(alloc: Global, text: &str) -> Result<Dml> {
-    match parse(alloc, text.as_bytes())? {
+pub fn dml(alloc: Global, text: &[u8]) -> Result<Dml> {
+    match parse(alloc, text)? {
         Stmt::Dml(dml) => Ok(dml),
         _ => bail!("no statement on rows"),
     }

@@ -2,17 +2,21 @@
 
 ghost use Rattle.std.specs.Prelude.{◌≡◌, ◌≤◌, length, IfOk};
 
-use crate::arguments::{dml, ident, site};
-use crate::bound::print_outcome;
-use crate::statements::bound;
+mod shown;
+
+use crate::arguments::{dml, ident, name, site};
+use crate::transcript::Transcript;
 use anyhow::{Result, bail};
-use rs_ast::{Column, Dml, Entry};
+use rs_ast::{Clauses, ColDef, Column, Dml, Entry};
 use rs_base::{Denial, Ident, Kind, NameText, NoMemory, SiteNo, Swn, Txn, Value};
-use rs_bind::{as_position, bind};
+use rs_bind::{
+    Heading, Param, as_position, bind, bind_delete, bind_insert, bind_select, bind_update,
+};
 use rs_plan::Bound;
 use sqlite_items::Items;
 use std::alloc::Global;
 
+/// Statements on a table `t` of a text `t` and a number `n`, with the parameters `t` and `n`.
 const STATEMENTS: [&str; 8] = [
     "DELETE FROM t WHERE n = :n",
     "DELETE FROM t WHERE n = :p",
@@ -24,19 +28,74 @@ const STATEMENTS: [&str; 8] = [
     "SELECT t, MAX(n) FROM p WHERE n = :p GROUP BY t ORDER BY 2 DESC",
 ];
 
-pub fn calls<R: AllocGlobal + Print>(rt: &R) -> Result<()> {
+pub fn calls(out: &mut Transcript) -> Result<()> {
+    statements(out)?;
+    over_entries(out, "DELETE FROM t WHERE n = :n")?;
+    over_entries(out, "DELETE FROM t WHERE n = :p")?;
+    positions(out)?;
+    Ok(())
+}
+
+fn heading(alloc: Global) -> Result<Heading> {
+    let text = ColDef {
+        name: ident(b"t")?,
+        kind: Kind::Text,
+    };
+    let number = ColDef {
+        name: ident(b"n")?,
+        kind: Kind::Int,
+    };
+    Ok(Heading {
+        name: name(b"t", 1, b"t")?,
+        columns: Items::from_vec(Vec::from_array(alloc, [text, number])?),
+    })
+}
+
+/// Returns the parameter of this name, which has no value.
+fn param(text: &[u8]) -> Result<Param> {
+    Ok(Param {
+        name: ident(text)?,
+        kind: None,
+    })
+}
+
+/// Binds the names of the statement. A query names the table by a synonym.
+fn bound(alloc: Global, text: &str) -> Result<Result<Bound, Denial>> {
+    let heading = heading(alloc)?;
+    let params = [param(b"t")?, param(b"n")?];
+    let bound_or_denied = match dml(alloc, text.as_bytes())? {
+        Dml::Delete { clauses, .. } => bind_delete(alloc, clauses.as_slice(), &heading, &params)?,
+        Dml::Insert { rows, .. } => bind_insert(alloc, rows.as_slice(), &heading, &params)?,
+        Dml::Update { sets, clauses, .. } => bind_update(
+            alloc,
+            sets.as_slice(),
+            clauses.as_slice(),
+            &heading,
+            &params,
+        )?,
+        Dml::Select(query) => {
+            bind_select(alloc, &query, std::slice::from_ref(&heading), &params)?
+        }
+    };
+    Ok(bound_or_denied)
+}
+
+fn statements(out: &mut Transcript) -> Result<()> {
     for text in STATEMENTS {
-        println!(rt; "{text}")?;
-        print_outcome(rt, bound(rt.alloc(), Kind::Text, text)?)?;
-    }
-    for text in ["DELETE FROM t WHERE n = :n", "DELETE FROM t WHERE n = :p"] {
-        println!(rt; "bind {text}")?;
-        print_outcome(rt, bound_delete(rt.alloc(), text)?)?;
-    }
-    for position in [0, 255, 256] {
-        println!(rt; "as_position {position} = {}", as_position(position))?;
+        let bound_or_denied = bound(out.alloc, text)?;
+        out.word(text)?;
+        out.returned()?;
+        shown::bound_or_denied(out, &bound_or_denied)?;
     }
     Ok(())
+}
+
+/// Returns the predicate of a DELETE.
+fn clauses(alloc: Global, text: &str) -> Result<Clauses> {
+    match dml(alloc, text.as_bytes())? {
+        Dml::Delete { clauses, .. } => Ok(clauses),
+        _ => bail!("no DELETE"),
+    }
 }
 
 fn number(name: Ident) -> Column {
@@ -68,24 +127,43 @@ fn entry(alloc: Global, name: Swn, first: Ident, second: Ident) -> Result<Entry,
 }
 
 /// Binds a DELETE over the entry of its table, where the values of `t` and `n` are 7 and 8.
-fn bound_delete(alloc: Global, text: &str) -> Result<Result<Bound, Denial>> {
-    let Dml::Delete { clauses, .. } = dml(alloc, text)? else {
-        bail!("no DELETE");
-    };
-    let t = ident("t")?;
-    let n = ident("n")?;
+fn bound_delete(alloc: Global, clauses: Clauses) -> Result<Result<Bound, Denial>> {
+    let t = ident(b"t")?;
+    let n = ident(b"n")?;
     let name = NameText::plain(t).resolve(t, site(1)?);
     let entry = entry(alloc, name, t, n)?;
     let stmt = Dml::Delete {
         name: NameText::plain(t),
         clauses,
     };
-    Ok(bind(
+    let bound_or_denied = bind(
         alloc,
         &stmt,
         &[name],
         std::slice::from_ref(&entry),
         &[t, n],
         Some(&[Value::Int(7), Value::Int(8)]),
-    )?)
+    )?;
+    Ok(bound_or_denied)
+}
+
+fn over_entries(out: &mut Transcript, text: &str) -> Result<()> {
+    let clauses = clauses(out.alloc, text)?;
+    let bound_or_denied = bound_delete(out.alloc, clauses)?;
+    out.word("bind")?;
+    out.word(text)?;
+    out.returned()?;
+    shown::bound_or_denied(out, &bound_or_denied)?;
+    Ok(())
+}
+
+fn positions(out: &mut Transcript) -> Result<(), NoMemory> {
+    for position in [0, 255, 256] {
+        out.word("as_position")?;
+        out.number(position as u64)?;
+        out.returned()?;
+        out.number(u64::from(as_position(position)))?;
+        out.end()?;
+    }
+    Ok(())
 }

@@ -1,12 +1,11 @@
 //! Calls of rs_mean: statements over plain tables.
 
-use crate::arguments::{dml, ident, integer_and_text, name, rows_of_integers, site};
-use crate::shown;
+use crate::arguments::{dml, ident, integer_and_text, integers, name, origin, site};
+use crate::transcript::Transcript;
 use anyhow::Result;
 use rs_ast::{Column, Columns};
-use rs_base::{Kind, Rows};
+use rs_base::{Kind, Reply, Rows, Swn, one_item};
 use rs_mean::{PlainTable, PlainTables, answer_plain};
-use sqlite_items::Items;
 use std::alloc::Global;
 
 const STATEMENTS: [&str; 7] = [
@@ -19,53 +18,66 @@ const STATEMENTS: [&str; 7] = [
     "DELETE FROM ann@1.a@1 WHERE x = 1",
 ];
 
-pub fn calls<R: AllocGlobal + Print>(rt: &R) -> Result<()> {
+pub fn calls(out: &mut Transcript) -> Result<()> {
     for text in STATEMENTS {
-        answer(rt, text)?;
+        answer(out, text)?;
     }
     Ok(())
 }
 
-fn columns(alloc: Global, named: &[(&str, Kind)]) -> Result<Columns> {
-    let mut columns = Items::new(alloc);
-    for (name, kind) in named {
-        columns.push(Column {
-            name: ident(name)?,
-            kind: *kind,
-            distinct: 0,
-        })?;
-    }
-    Ok(columns)
+fn column(text: &[u8], kind: Kind) -> Result<Column> {
+    Ok(Column {
+        name: ident(text)?,
+        kind,
+        distinct: 0,
+    })
 }
 
-/// Returns ann's table `a (x)` at site 1 and cat's table `b (x, y)` at site 3, with three rows each.
-fn tables(alloc: Global) -> Result<PlainTables> {
-    let mut tables = Items::new(alloc);
-    tables.push(PlainTable {
-        name: name("ann", 1, "a")?,
-        columns: columns(alloc, &[("x", Kind::Int)])?,
-        rows: rows_of_integers(alloc, &[&[1], &[1], &[2]])?,
-    })?;
-    let mut rows = Rows::new(alloc);
-    for (number, text) in [(1, "p"), (2, "q"), (3, "r")] {
-        rows.push(integer_and_text(alloc, number, text)?)?;
+/// Returns a table without rows.
+fn table(alloc: Global, name: Swn, columns: Columns) -> PlainTable {
+    PlainTable {
+        name,
+        columns,
+        rows: Rows::new(alloc),
     }
-    tables.push(PlainTable {
-        name: name("cat", 3, "b")?,
-        columns: columns(alloc, &[("x", Kind::Int), ("y", Kind::Text)])?,
-        rows,
-    })?;
-    Ok(tables)
 }
 
-/// Prints what bob, who asks at site 2, is answered.
-fn answer<R: AllocGlobal + Print>(rt: &R, text: &str) -> Result<()> {
-    let alloc = rt.alloc();
-    let tables = tables(alloc)?;
-    let dml = dml(alloc, text)?;
-    println!(rt; "answer_plain {text}")?;
-    shown::answer(
-        rt,
-        answer_plain(alloc, tables.as_slice(), &dml, ident("bob")?, site(2)?)?,
-    )
+/// Returns ann's table `a (x)` at site 1, with three rows.
+fn first_table(alloc: Global) -> Result<PlainTable> {
+    let columns = one_item(alloc, column(b"x", Kind::Int)?)?;
+    let mut table = table(alloc, name(b"ann", 1, b"a")?, columns);
+    for number in [1, 1, 2] {
+        table.rows.push(integers(alloc, &[number])?)?;
+    }
+    Ok(table)
+}
+
+/// Returns cat's table `b (x, y)` at site 3, with three rows.
+fn second_table(alloc: Global) -> Result<PlainTable> {
+    let mut columns = one_item(alloc, column(b"x", Kind::Int)?)?;
+    columns.push(column(b"y", Kind::Text)?)?;
+    let mut table = table(alloc, name(b"cat", 3, b"b")?, columns);
+    table.rows.push(integer_and_text(alloc, 1, b"p")?)?;
+    table.rows.push(integer_and_text(alloc, 2, b"q")?)?;
+    table.rows.push(integer_and_text(alloc, 3, b"r")?)?;
+    Ok(table)
+}
+
+/// Shows what bob, who asks at site 2, is answered.
+fn answer(out: &mut Transcript, text: &str) -> Result<()> {
+    let alloc = out.alloc;
+    let mut tables = PlainTables::new(alloc);
+    tables.push(first_table(alloc)?)?;
+    tables.push(second_table(alloc)?)?;
+    let dml = dml(alloc, text.as_bytes())?;
+    let answered = answer_plain(alloc, tables.as_slice(), &dml, ident(b"bob")?, site(2)?)?;
+    let reply = match answered {
+        Ok(answer) => Reply::Done(one_item(alloc, answer)?),
+        Err(cause) => Reply::Denied(cause),
+    };
+    out.word("answer_plain")?;
+    out.word(text)?;
+    out.end()?;
+    out.reply(&origin(2, b"bob", 1)?, &reply)?;
+    Ok(())
 }

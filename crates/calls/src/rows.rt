@@ -1,64 +1,89 @@
 //! Calls of rs_rows.
 
 use crate::arguments::{integer_and_text, integers};
-use crate::shown;
+use crate::transcript::Transcript;
 use anyhow::Result;
-use rs_base::{Row, Value};
+use rs_base::{NoMemory, Row, Value};
 use rs_rows::{RowRun, StoredRows};
+use std::alloc::Global;
 
-pub fn calls<R: AllocGlobal + Print>(rt: &R) -> Result<()> {
-    pushed(rt)?;
-    copied(rt)?;
-    first_rows(rt, RowRun::empty(), 1)
-}
-
-/// Prints the number of rows and their bytes.
-fn sizes<R: Print>(rt: &R, call: &str, stored: &StoredRows) -> Result<()> {
-    let (rows, bytes, empty) = (stored.len(), stored.bytes(), stored.as_run().is_empty());
-    println!(rt; "StoredRows::{call} = {rows} rows of {bytes} bytes, is_empty {empty}")?;
+pub fn calls(out: &mut Transcript) -> Result<()> {
+    pushed(out)?;
+    copied(out)?;
+    empty(out)?;
     Ok(())
 }
 
-/// Prints the first rows of a run, and how many are left.
-fn first_rows<R: AllocGlobal + Print>(rt: &R, run: RowRun<'_>, count: usize) -> Result<()> {
+/// Writes the number of rows and their bytes.
+fn sizes(out: &mut Transcript, call: &str, stored: &StoredRows) -> Result<(), NoMemory> {
+    out.word(call)?;
+    out.returned()?;
+    out.number(stored.len() as u64)?;
+    out.number(stored.bytes())?;
+    out.word(if stored.as_run().is_empty() {
+        "empty"
+    } else {
+        "rows"
+    })?;
+    out.end()
+}
+
+/// Writes the first rows of a run, and how many are left.
+fn first_rows(out: &mut Transcript, run: RowRun<'_>, count: usize) -> Result<(), NoMemory> {
     let mut rest = run.view();
     for _ in 0..count {
-        print!(rt; "RowRun::split_first = ")?;
         match rest.split_first() {
             Some((row, others)) => {
-                shown::row(rt, row)?;
+                out.word("RowRun::split_first")?;
+                out.returned()?;
+                out.row(row)?;
                 rest = others;
             }
-            None => println!(rt; "none")?,
+            None => out.word("RowRun::split_first = none")?,
         }
     }
-    println!(rt; "left {}", rest.len())?;
-    Ok(())
+    out.word("left")?;
+    out.number(rest.len() as u64)?;
+    out.end()
 }
 
-fn pushed<R: AllocGlobal + Print>(rt: &R) -> Result<()> {
-    let alloc = rt.alloc();
-    let pair = integer_and_text(alloc, -5, "it's")?;
+fn pushed(out: &mut Transcript) -> Result<()> {
+    let alloc = out.alloc;
+    let pair = integer_and_text(alloc, -5, b"it's")?;
     let mut stored = StoredRows::new(alloc);
-    sizes(rt, "new", &stored)?;
+    sizes(out, "StoredRows::new", &stored)?;
     stored.push(alloc, pair.as_slice())?;
     stored.push(alloc, &[])?;
     stored.push(alloc, &[Value::Int(64)])?;
-    sizes(rt, "push", &stored)?;
-    first_rows(rt, stored.as_run(), 4)
+    sizes(out, "StoredRows::push", &stored)?;
+    first_rows(out, stored.as_run(), 4)?;
+    Ok(())
 }
 
-fn copied<R: AllocGlobal + Print>(rt: &R) -> Result<()> {
-    let alloc = rt.alloc();
-    let rows: [Row; 2] = [integer_and_text(alloc, -5, "it's")?, integers(alloc, &[])?];
-    let mut stored = StoredRows::copied(alloc, &rows)?;
-    sizes(rt, "copied", &stored)?;
-    let mut more = StoredRows::new(alloc);
+fn many_rows(alloc: Global) -> Result<StoredRows, NoMemory> {
+    let mut stored = StoredRows::new(alloc);
     for number in 0..65536 {
-        more.push(alloc, &[Value::Int(number)])?;
+        stored.push(alloc, &[Value::Int(number)])?;
     }
-    sizes(rt, "push", &more)?;
+    Ok(stored)
+}
+
+fn copied(out: &mut Transcript) -> Result<()> {
+    let rows: [Row; 2] = [
+        integer_and_text(out.alloc, -5, b"it's")?,
+        integers(out.alloc, &[])?,
+    ];
+    let mut stored = StoredRows::copied(out.alloc, &rows)?;
+    sizes(out, "StoredRows::copied", &stored)?;
+    let more = many_rows(out.alloc)?;
+    sizes(out, "StoredRows::push", &more)?;
     stored.append(more)?;
-    sizes(rt, "append", &stored)?;
-    first_rows(rt, stored.as_run(), 4)
+    sizes(out, "StoredRows::append", &stored)?;
+    first_rows(out, stored.as_run(), 4)?;
+    Ok(())
+}
+
+fn empty(out: &mut Transcript) -> Result<(), NoMemory> {
+    out.word("RowRun::empty")?;
+    first_rows(out, RowRun::empty(), 1)
 }

@@ -1,49 +1,41 @@
 //! Calls of rs_site.
 
-use crate::arguments::{ident, origin, repeated};
-use crate::shown::{self, text_of};
-use anyhow::{Result, bail, ensure};
+use crate::arguments::{ident, origin};
+use crate::transcript::Transcript;
+use anyhow::{Context, Result, bail, ensure};
 use rs_base::{Bytes, NoMemory, Peer, Reply, SiteNo, one_item};
 use rs_msg::{ASK_LIMIT, Ask, Message, decode, encode};
-use rs_site::{Input, Site, Told};
+use rs_site::{Input, Outs, Site, Told};
 use std::alloc::Global;
 
-const CREATE: &str = "CREATE TABLE t (a INT)";
+const CREATE: &[u8] = b"CREATE TABLE t (a INT)";
 
-const INSERT: &str = "INSERT INTO t VALUES (7)";
+const INSERT: &[u8] = b"INSERT INTO t VALUES (7)";
 
-/// Asks of ann: the epoch, the number, the part and the text.
-const ASKS: [(u32, u64, u32, &str); 9] = [
+const NO_REQUEST: &[u8] = b"no request";
+
+/// An ask of ann: the epoch, the number, the part and the text.
+type Asked<'a> = (u32, u64, u32, &'a [u8]);
+
+const ASKS: [Asked<'static>; 9] = [
     (1, 1, 0, CREATE),
     (1, 1, 0, INSERT),
     (1, 3, 0, CREATE),
     (2, 1, 0, CREATE),
     (1, 2, 0, INSERT),
     (1, 1, 0, CREATE),
-    (1, 2, 1, ""),
-    (1, 3, 0, "no request"),
-    (1, 3, 0, "no request"),
+    (1, 2, 1, b""),
+    (1, 3, 0, NO_REQUEST),
+    (1, 3, 0, NO_REQUEST),
 ];
 
-pub fn calls<R: AllocGlobal + Print>(rt: &R) -> Result<()> {
-    let mut site = opened(rt.alloc())?;
-    for (epoch, number, part, text) in ASKS {
-        println!(rt; "ask {epoch} {number} {part} '{text}'")?;
-        let asked = datagram(rt.alloc(), epoch, number, part, text.as_bytes())?;
-        step(rt, &mut site, &asked)?;
-    }
-    let tables = site.database().tables().len();
-    println!(rt; "Site::database, tables = {tables}")?;
-    parts(rt)?;
-    let mut site = opened(rt.alloc())?;
-    let noise = repeated(rt.alloc(), 0x52, 32_769)?;
-    println!(rt; "32769 bytes, and a tick")?;
-    step(rt, &mut site, &Input::Datagram(Peer::Client(7), noise))?;
-    step(rt, &mut site, &Input::Tick)?;
-    message(rt, 0, Reply::Syntax(0))?;
-    message(rt, 1, Reply::Syntax(0))?;
-    let line = repeated(rt.alloc(), b'x', 40_000)?;
-    message(rt, 1, Reply::Shown(one_item(rt.alloc(), line)?))
+pub fn calls(out: &mut Transcript) -> Result<()> {
+    asks(out)?;
+    parts(out)?;
+    noise(out)?;
+    first_part(out)?;
+    further_part(out)?;
+    last_part(out)
 }
 
 fn opened(alloc: Global) -> Result<Site, NoMemory> {
@@ -51,10 +43,11 @@ fn opened(alloc: Global) -> Result<Site, NoMemory> {
 }
 
 /// Returns the datagram of an ask of ann.
-fn datagram(alloc: Global, epoch: u32, number: u64, part: u32, text: &[u8]) -> Result<Input> {
+fn datagram(alloc: Global, asked: Asked<'_>) -> Result<Input> {
+    let (epoch, number, part, text) = asked;
     ensure!(text.len() <= ASK_LIMIT, "the text is too long");
     let ask = Ask {
-        user: ident("ann")?,
+        user: ident(b"ann")?,
         epoch,
         number,
         part,
@@ -65,66 +58,164 @@ fn datagram(alloc: Global, epoch: u32, number: u64, part: u32, text: &[u8]) -> R
     Ok(Input::Datagram(Peer::Client(7), bytes))
 }
 
-/// Steps the site, and prints the replies and the number of committed executions.
-fn step<R: AllocGlobal + Print>(rt: &R, site: &mut Site, input: &Input) -> Result<()> {
-    let outs = site.step(rt.alloc(), input)?;
+/// Writes the replies, and the number of committed executions.
+fn outs(out: &mut Transcript, outs: &Outs) -> Result<(), NoMemory> {
     for sent in outs.replies.as_slice() {
-        shown::reply(rt, &sent.origin, &sent.reply)?;
+        out.reply(&sent.origin, &sent.reply)?;
     }
-    println!(rt; "Site::step committed {}", outs.decided.len())?;
+    out.word("committed")?;
+    out.number(outs.decided.len() as u64)?;
+    out.end()
+}
+
+/// Steps the site by an ask.
+fn ask(out: &mut Transcript, site: &mut Site, asked: Asked<'_>) -> Result<()> {
+    let (epoch, number, part, text) = asked;
+    out.word("Site::step")?;
+    out.number(u64::from(epoch))?;
+    out.number(number)?;
+    out.number(u64::from(part))?;
+    out.quoted(text)?;
+    out.end()?;
+    let outcome = site.step(out.alloc, &datagram(out.alloc, asked)?)?;
+    outs(out, &outcome)?;
     Ok(())
+}
+
+fn asks(out: &mut Transcript) -> Result<()> {
+    let mut site = opened(out.alloc)?;
+    for asked in ASKS {
+        ask(out, &mut site, asked)?;
+    }
+    out.word("Site::database, tables")?;
+    out.returned()?;
+    out.number(site.database().tables().len() as u64)?;
+    out.end()?;
+    Ok(())
+}
+
+/// Returns an INSERT of 100 rows.
+fn insert_of_many(alloc: Global) -> Result<Bytes, NoMemory> {
+    let mut text = Bytes::from_slice(alloc, b"INSERT INTO t VALUES (1000000000)")?;
+    for _ in 1..100 {
+        text.extend(b", (1000000000)")?;
+    }
+    Ok(text)
 }
 
 /// Opens a site, and asks it for 10,000 rows of 11 printed bytes.
 fn with_long_reply(alloc: Global) -> Result<Site> {
     let mut site = opened(alloc)?;
-    let mut insert = Bytes::from_slice(alloc, b"INSERT INTO t VALUES (1000000000)")?;
-    for _ in 1..100 {
-        insert.extend(b", (1000000000)")?;
-    }
+    let insert = insert_of_many(alloc)?;
     let query = b"SELECT u.a FROM t u, t v".as_slice();
-    for (number, text) in [(1, CREATE.as_bytes()), (2, insert.as_slice()), (3, query)] {
-        let _replied = site.step(alloc, &datagram(alloc, 1, number, 0, text)?)?;
+    for (number, text) in [(1, CREATE), (2, insert.as_slice()), (3, query)] {
+        let _replied = site.step(alloc, &datagram(alloc, (1, number, 0, text))?)?;
     }
     Ok(site)
 }
 
 // A part has 30,000 bytes.
-fn parts<R: AllocGlobal + Print>(rt: &R) -> Result<()> {
-    let mut site = with_long_reply(rt.alloc())?;
+fn parts(out: &mut Transcript) -> Result<()> {
+    let mut site = with_long_reply(out.alloc)?;
     for part in [1, 3, 4] {
-        let outs = site.step(rt.alloc(), &datagram(rt.alloc(), 1, 3, part, b"")?)?;
-        print!(rt; "Site::step, part {part} =")?;
-        for sent in outs.replies.as_slice() {
-            print!(rt; " {}", sent.part)?;
+        let outcome = site.step(out.alloc, &datagram(out.alloc, (1, 3, part, b""))?)?;
+        out.word("Site::step, part")?;
+        out.number(u64::from(part))?;
+        out.returned()?;
+        for sent in outcome.replies.as_slice() {
+            out.number(u64::from(sent.part))?;
         }
-        println!(rt)?;
+        out.end()?;
     }
     Ok(())
 }
 
-/// Prints the message of a part of a reply to ann's third request, as it is read from its bytes, and the first of the
-/// part's bytes.
-fn message<R: AllocGlobal + Print>(rt: &R, part: u32, reply: Reply) -> Result<()> {
-    let sent = Told {
+fn long_noise(alloc: Global) -> Result<Input, NoMemory> {
+    let mut bytes = Bytes::new(alloc);
+    for _ in 0..32_769 {
+        bytes.push(0x52)?;
+    }
+    Ok(Input::Datagram(Peer::Client(7), bytes))
+}
+
+fn noise(out: &mut Transcript) -> Result<()> {
+    let mut site = opened(out.alloc)?;
+    let outcome = site.step(out.alloc, &long_noise(out.alloc)?)?;
+    out.word("Site::step, 32769 bytes,")?;
+    outs(out, &outcome)?;
+    let outcome = site.step(out.alloc, &Input::Tick)?;
+    out.word("Site::step, a tick,")?;
+    outs(out, &outcome)?;
+    Ok(())
+}
+
+/// Returns a part of the reply to ann's third request that its text is no request.
+fn reply_part(part: u32) -> Result<Told> {
+    Ok(Told {
         to: Peer::Client(7),
-        origin: origin(3)?,
+        origin: origin(1, b"ann", 3)?,
         part,
-        reply,
-    };
-    let Some(message) = sent.message(rt.alloc())? else {
-        println!(rt; "Told::message, part {part} = none")?;
-        return Ok(());
-    };
-    let mut bytes = Bytes::new(rt.alloc());
-    encode(rt.alloc(), &message, &mut bytes)?;
-    let Message::Reply(read) = decode(rt.alloc(), bytes.as_slice())? else {
+        reply: Reply::Syntax(0),
+    })
+}
+
+/// Shows the message of the first part, as it is read from its bytes.
+fn first_part(out: &mut Transcript) -> Result<()> {
+    let message = reply_part(0)?.message(out.alloc)?.context("no message")?;
+    let mut bytes = Bytes::new(out.alloc);
+    encode(out.alloc, &message, &mut bytes)?;
+    let Message::Reply(read) = decode(out.alloc, bytes.as_slice())? else {
         bail!("another message");
     };
-    let user = text_of(read.origin.user.as_bytes());
-    let start = text_of(read.bytes.as_slice().get(..24).unwrap_or(&[]));
-    let (number, part, parts) = (read.origin.number, read.part, read.parts);
-    print!(rt; "Told::message = {user} {number} part {part} of {parts}, ")?;
-    println!(rt; "{} bytes, '{start}'", read.bytes.len())?;
+    out.word("Told::message =")?;
+    out.bytes(read.origin.user.as_bytes())?;
+    out.number(read.origin.number)?;
+    out.word("part")?;
+    out.number(u64::from(read.part))?;
+    out.word("of")?;
+    out.number(u64::from(read.parts))?;
+    out.bytes(read.bytes.as_slice())?;
+    Ok(())
+}
+
+fn further_part(out: &mut Transcript) -> Result<()> {
+    out.word("Told::message, part 1")?;
+    out.returned()?;
+    out.word(match reply_part(1)?.message(out.alloc)? {
+        Some(_) => "a message",
+        None => "none",
+    })?;
+    out.end()?;
+    Ok(())
+}
+
+/// Returns the last part of a reply that shows a line of 40,000 bytes.
+fn part_of_long_line(alloc: Global) -> Result<Told> {
+    let mut line = Bytes::new(alloc);
+    for _ in 0..40_000 {
+        line.push(b'x')?;
+    }
+    Ok(Told {
+        to: Peer::Client(7),
+        origin: origin(1, b"ann", 3)?,
+        part: 1,
+        reply: Reply::Shown(one_item(alloc, line)?),
+    })
+}
+
+fn last_part(out: &mut Transcript) -> Result<()> {
+    let message = part_of_long_line(out.alloc)?
+        .message(out.alloc)?
+        .context("no message")?;
+    let Message::Reply(read) = message else {
+        bail!("another message");
+    };
+    out.word("Told::message, last part =")?;
+    out.number(u64::from(read.part))?;
+    out.word("of")?;
+    out.number(u64::from(read.parts))?;
+    out.word("bytes")?;
+    out.number(read.bytes.len() as u64)?;
+    out.end()?;
     Ok(())
 }

@@ -1,6 +1,6 @@
 //! Calls of rs_world: asks that no settle follows, which a replayed schedule doesn't have.
 
-use crate::shown::text_of;
+use crate::transcript::Transcript;
 use anyhow::Result;
 use rs_sched::parse_schedule;
 use rs_world::{World, print_report};
@@ -16,11 +16,13 @@ const SCHEDULE: &[u8] = b"sites 1\n\
     settle\n\
     ask 1 ann 1 2 SELECT * FROM t\n";
 
-pub fn calls<R: AllocGlobal + Print>(rt: &R) -> Result<()> {
-    let alloc = rt.alloc();
-    let events = parse_schedule(alloc, SCHEDULE)?;
-    let report = World::play(alloc, events.as_slice())?.into_report(alloc)?;
-    let text = print_report(alloc, &report)?;
-    print!(rt; "World::play\n{}", text_of(text.as_slice()))?;
+pub fn calls(out: &mut Transcript) -> Result<()> {
+    let events = parse_schedule(out.alloc, SCHEDULE)?;
+    let world = World::play(out.alloc, events.as_slice())?;
+    let report = world.into_report(out.alloc)?;
+    let text = print_report(out.alloc, &report)?;
+    out.word("World::play")?;
+    out.end()?;
+    out.bytes(text.as_slice())?;
     Ok(())
 }
