@@ -1,0 +1,27 @@
+//! Makes public calls that no replayed schedule and no table of texts reaches: streams and stored rows. It prints what they return, a
+//! line of words for each call.
+#![tactic(auto)]
+
+mod arguments;
+mod rows;
+mod stream;
+mod transcript;
+
+use anyhow::Result;
+use rs_stream::{StdSink, write_whole};
+use std::alloc::Global;
+use transcript::Transcript;
+
+/// Makes the calls.
+fn calls(alloc: Global) -> Result<Transcript> {
+    let mut out = Transcript::new(alloc);
+    stream::calls(&mut out)?;
+    rows::calls(&mut out)?;
+    Ok(out)
+}
+
+fn main(rt: HostRuntime) -> Result<()> {
+    let out = calls(rt.alloc())?;
+    write_whole(&mut StdSink::new(rt.stdout()), out.text())?;
+    Ok(())
+}
