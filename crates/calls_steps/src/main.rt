@@ -3,10 +3,8 @@
 #![tactic(auto)]
 
 mod arguments;
-mod mean;
 mod site;
 mod transcript;
-mod world;
 
 use anyhow::Result;
 use rs_stream::{StdSink, write_whole};
@@ -16,9 +14,7 @@ use transcript::Transcript;
 /// Makes the calls.
 fn calls(alloc: Global) -> Result<Transcript> {
     let mut out = Transcript::new(alloc);
-    mean::calls(&mut out)?;
     site::calls(&mut out)?;
-    world::calls(&mut out)?;
     Ok(out)
 }
 
