@@ -43,5 +43,5 @@ for name, text in hard_texts(4_096).items():
     half = asked(text)
     whole = asked(hard_texts(8_192)[name])
     print(f"8,192 bytes of {name}: {ASKS / whole.median:.0f} texts a second, {whole}")
-    bounds.ratio("times that of half as many bytes", whole.median, half.median, half.spread, 2.6)
+    bounds.ratio("times that of half as many bytes", whole.median, half.median, max(whole.spread, half.spread), 2.6)
 bounds.end()

@@ -89,9 +89,12 @@ class Bounds:
         self.broken = self.broken or not holds
 
     def ratio(self, what, whole, half, noise, bound):
-        """Whole to half, unless the half is within the noise of the runs."""
+        """Whole to half. Above the bound it is broken only beyond the noise, which the half has and the whole as well."""
         if half <= 3 * noise:
             print(f"  {what}: not measurable here: {half:.4f} s against a noise of {noise:.4f} s")
+            self.unmeasured = True
+        elif whole / half > bound >= (whole - noise) / (half + noise):
+            print(f"  {what}: {whole / half:.2f}, at most {bound}: not measurable here: within a noise of {noise:.4f} s")
             self.unmeasured = True
         else:
             self.at_most(what, whole / half, bound)

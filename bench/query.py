@@ -43,5 +43,5 @@ for name, text in (("GROUP BY", GROUP), ("UPDATE", UPDATE)):
     half, half_noise = cost_of([("t", 25_000)], text)
     whole, noise = cost_of([("t", 50_000)], text)
     print(f"{name} of 50,000 rows: {whole:.4f} s, give or take {noise:.4f} s; of 25,000 rows: {half:.4f} s")
-    bounds.ratio("times that of half as many rows", whole, half, half_noise, 2.6)
+    bounds.ratio("times that of half as many rows", whole, half, max(noise, half_noise), 2.6)
 bounds.end()

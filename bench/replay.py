@@ -23,7 +23,7 @@ for count in (10_000, 20_000, 40_000):
     size = len(runs.source)
     print(f"{count} asks, {size} bytes: {runs}, {2 * count / runs.median:.0f} events a second, peak {runs.kib} KiB")
     if before is not None:
-        bounds.ratio("times that of half as many asks", runs.median, before.median, before.spread, 2.6)
+        bounds.ratio("times that of half as many asks", runs.median, before.median, max(runs.spread, before.spread), 2.6)
     before = runs
 bounds.at_most("peak memory to the schedule's bytes", before.kib * 1024 / len(before.source), 20)
 bounds.end()
