@@ -5,7 +5,7 @@ use crate::transcript::Transcript;
 use anyhow::Result;
 use rs_ast::{Column, Columns};
 use rs_base::{Kind, Reply, Rows, Swn, one_item};
-use rs_mean::{PlainTable, PlainTables, answer_plain};
+use rs_plain::{PlainTable, PlainTables, answer_plain};
 use std::alloc::Global;
 
 const STATEMENTS: [&str; 7] = [

@@ -9,10 +9,9 @@ use crate::transcript::Transcript;
 use anyhow::{Result, bail};
 use rs_ast::{Clauses, ColDef, Column, Dml, Entry};
 use rs_base::{Denial, Ident, Kind, NameText, NoMemory, SiteNo, Swn, Txn, Value};
-use rs_bind::{
-    Heading, Param, as_position, bind, bind_delete, bind_insert, bind_select, bind_update,
-};
+use rs_bind::{bind, bind_delete, bind_insert, bind_select, bind_update};
 use rs_plan::Bound;
+use rs_scope::{Heading, Param, as_position};
 use sqlite_items::Items;
 use std::alloc::Global;
 

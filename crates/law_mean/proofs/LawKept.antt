@@ -30,8 +30,8 @@ use Rattle.rs_mean.specs.Columns.{has_name, names_differ}
 use Rattle.rs_mean.specs.Database.{Database, table_named, with_changed}
 use Rattle.law_mean.specs.Laws.{EachTable, IsWithin, HasDistinctIndexes}
 use Rattle.rs_rows.specs.Sizes.{rows_size}
-use Rattle.rs_mean.specs.Limits.{max_row_bytes, max_rows, max_table_bytes, fits_row, fits_rows}
-use Rattle.rs_mean.specs.RowChanges.{has_room, may_be_rows, other_rows}
+use Rattle.rs_eval.specs.Limits.{max_row_bytes, max_rows, max_table_bytes, fits_row, fits_rows}
+use Rattle.rs_eval.specs.RowChanges.{has_room, may_be_rows, other_rows}
 use Rattle.rs_mean.specs.RowStatements.{rows_of}
 use Rattle.rs_mean.specs.TableStatements.{indexes_of, has_index, is_indexed, without_index, is_other_index, new_table}
 use Rattle.law_mean.proofs.LawTests.{not_false, neither, both}

@@ -23,15 +23,16 @@ use Rattle.rs_ast.specs.declared.column.ColDef.{ColDef}
 use Rattle.rs_ast.specs.declared.column.ColRef.{ColRef}
 use Rattle.rs_plan.specs.Kinds.{same_kind, kinds_fit}
 use Rattle.rs_bind.specs.Binding.{bound_term, bound_rows, bound_set}
-use Rattle.rs_bind.specs.Denials.{Test, test, first_denial, term_fits, row_fits, given_tests, row_tests, insert_tests, term_tests, term_kind, more_tests, expr_fits, set_tests, sets_tests}
-use Rattle.rs_bind.specs.Scope.{as_position, columns_as, named_count, column_index_of, unqualified, column_kind}
-use Rattle.rs_bind.specs.declared.scope.ScopeColumn.{ScopeColumn}
+use Rattle.rs_bind.specs.Denials.{term_fits, row_fits, given_tests, row_tests, insert_tests, term_tests, term_kind, more_tests, expr_fits, set_tests, sets_tests}
+use Rattle.rs_scope.specs.Denials.{Test, test, first_denial}
+use Rattle.rs_scope.specs.Scope.{as_position, columns_as, named_count, column_index_of, unqualified, column_kind}
+use Rattle.rs_scope.specs.declared.scope.ScopeColumn.{ScopeColumn}
 use Rattle.rs_bind.proofs.OverScope.{kinds_in, kind_known, column_index_kind, column_index_within}
 use Rattle.rs_bind.proofs.OverTests.{both_pass}
 use Rattle.rs_eval.specs.Clauses.{holds}
 use Rattle.rs_eval.specs.Setting.{term_value, combined, set_value, is_stored, with_sets, row_set}
 use Rattle.rs_answer.specs.Kinds.{HasKinds}
-use Rattle.rs_mean.specs.RowChanges.{given_rows, updated_row, with_first, and_others, updated_rows}
+use Rattle.rs_eval.specs.RowChanges.{given_rows, updated_row, with_first, and_others, updated_rows}
 use Rattle.law_mean.proofs.LawTests.{passed, holds_if, both}
 
 -- kinds that are the same are equal

@@ -7,10 +7,10 @@ use Rattle.rs_ast.specs.declared.bound.BoundCmp.{BoundCmp}
 use Rattle.rs_ast.specs.declared.bound.BoundSet.{BoundSet}
 use Rattle.rs_ast.specs.declared.change.Term.TheVariants as terms
 use Rattle.rs_bind.specs.Binding.{bound_term, bound_rows}
-use Rattle.rs_bind.specs.declared.scope.ScopeColumn.{ScopeColumn}
+use Rattle.rs_scope.specs.declared.scope.ScopeColumn.{ScopeColumn}
 use Rattle.rs_eval.specs.Clauses.{holds}
 use Rattle.rs_eval.specs.Setting.{term_value}
-use Rattle.rs_mean.specs.RowChanges.{given_rows, updated_row, with_first, and_others, updated_rows, other_rows, matching_count}
+use Rattle.rs_eval.specs.RowChanges.{given_rows, updated_row, with_first, and_others, updated_rows, other_rows, matching_count}
 
 -- ---- INSERT
 

@@ -21,22 +21,25 @@ use Rattle.rs_ast.specs.declared.select.TableRef.{TableRef}
 use Rattle.rs_ast.specs.declared.shape.Shape.{Shape}
 use Rattle.rs_ast.specs.declared.shape.ShapeItem.{ShapeItem}
 use Rattle.rs_ast.specs.declared.shape.ShapeItem.TheVariants as shape_items
-use Rattle.rs_bind.specs.Binding.{shape_item, items_shown, bound_clauses, shape_of}
-use Rattle.rs_bind.specs.Denials.{Test, test, all_differ, first_denial, column_tests, item_tests, items_tests, key_tests, clauses_tests, names_tests, grouping_test, keys_tests, select_tests}
-use Rattle.rs_bind.specs.Scope.{as_u16, alias_of, aliases_of, columns_as, scope_column, query_scope, named_count, column_index_of, column_kind}
-use Rattle.rs_bind.specs.declared.heading.Heading.{Heading}
-use Rattle.rs_bind.specs.declared.scope.ScopeColumn.{ScopeColumn}
+use Rattle.rs_bind.specs.Binding.{shape_item, items_shown, shape_of}
+use Rattle.rs_scope.specs.Predicates.{bound_clauses}
+use Rattle.rs_bind.specs.Denials.{all_differ, item_tests, items_tests, key_tests, names_tests, grouping_test, keys_tests, select_tests}
+use Rattle.rs_scope.specs.Denials.{Test, test, first_denial, column_tests, clauses_tests}
+use Rattle.rs_scope.specs.Scope.{as_u16, alias_of, aliases_of, columns_as, scope_column, query_scope, named_count, column_index_of, column_kind}
+use Rattle.rs_scope.specs.declared.heading.Heading.{Heading}
+use Rattle.rs_scope.specs.declared.scope.ScopeColumn.{ScopeColumn}
 use Rattle.rs_bind.proofs.OverScope.{kinds_in, kind_known, column_index_kind}
 use Rattle.rs_bind.proofs.OverTests.{both_pass}
 use Rattle.rs_eval.specs.Clauses.{holds}
-use Rattle.rs_eval.specs.Joined.{cross_product, joined, joined_within, max_joined}
+use Rattle.rs_join.specs.Joined.{cross_product, joined, joined_within, max_joined}
 use Rattle.rs_answer.specs.Answer.{answer_of}
 use Rattle.rs_answer.specs.Kinds.{HasKinds, item_kind, AreKindsOf}
 use Rattle.rs_answer.proofs.Typed.{answers_have_kinds}
 use Rattle.rs_mean.specs.declared.table.Table.{Table}
 use Rattle.rs_mean.specs.Database.{Database, table_named}
 use Rattle.law_mean.specs.Laws.{EachTable, IsTyped, kind_shown, kinds_shown}
-use Rattle.rs_mean.specs.RowStatements.{rows_of, rows_in, heading_in, answer_from, selected}
+use Rattle.rs_mean.specs.RowStatements.{rows_of, rows_in, heading_in}
+use Rattle.rs_join.specs.Selected.{answer_from, selected}
 use Rattle.rs_mean.specs.TableStatements.{columns_of}
 use Rattle.law_mean.proofs.LawKept.{each_named}
 use Rattle.law_mean.proofs.LawKinds.{kinds_as, the_known}

@@ -18,12 +18,14 @@ use Rattle.rs_ast.specs.declared.select.Select.{Select}
 use Rattle.rs_ast.specs.declared.stmt.Dml.{Dml}
 use Rattle.rs_ast.specs.declared.stmt.Dml.TheVariants as dmls
 use Rattle.rs_plan.specs.declared.bound.Bound.TheVariants as bounds
-use Rattle.rs_bind.specs.Binding.{select_bound, bound_select, shape_of, bound_rows, bound_set, bound_clauses, insert_bound, update_bound, delete_bound}
+use Rattle.rs_bind.specs.Binding.{select_bound, bound_select, shape_of, bound_rows, bound_set, insert_bound, update_bound, delete_bound}
+use Rattle.rs_scope.specs.Predicates.{bound_clauses}
 use Rattle.rs_bind.specs.Binding as binding
-use Rattle.rs_bind.specs.Denials.{Test, test, first_denial, select_tests, insert_tests, update_tests, delete_tests, sets_tests, clauses_tests}
-use Rattle.rs_bind.specs.Scope.{query_scope, table_scope}
-use Rattle.rs_bind.specs.declared.heading.Heading.{Heading}
-use Rattle.rs_bind.specs.declared.scope.ScopeColumn.{ScopeColumn}
+use Rattle.rs_bind.specs.Denials.{select_tests, insert_tests, update_tests, delete_tests, sets_tests}
+use Rattle.rs_scope.specs.Denials.{Test, test, first_denial, clauses_tests}
+use Rattle.rs_scope.specs.Scope.{query_scope, table_scope}
+use Rattle.rs_scope.specs.declared.heading.Heading.{Heading}
+use Rattle.rs_scope.specs.declared.scope.ScopeColumn.{ScopeColumn}
 use Rattle.rs_bind.proofs.OverTests.{both_pass}
 use Rattle.rs_mean.specs.declared.built.Stmt.{Stmt}
 use Rattle.rs_mean.specs.declared.built.Stmt.TheVariants as stmts
@@ -35,8 +37,9 @@ use Rattle.rs_mean.specs.Database.{Database, table_named, target_of}
 use Rattle.rs_mean.specs.Effects.{done}
 use Rattle.rs_mean.specs.Meaning.{effect_of_stmt, effect_of, meaning}
 use Rattle.rs_mean.specs.Names.{name_of, own_synonym, site_test, table_tests}
-use Rattle.rs_mean.specs.RowChanges.{given_rows, has_room, inserted, updated_rows, may_be_rows, within_limits, updated, other_rows, matching_count}
-use Rattle.rs_mean.specs.RowStatements.{rows_in, heading_in, selected, answering, inserting, updating, once_bound, tables_in, select, insert, update, delete, effect_of_dml}
+use Rattle.rs_eval.specs.RowChanges.{given_rows, has_room, inserted, updated_rows, may_be_rows, within_limits, updated, other_rows, matching_count}
+use Rattle.rs_mean.specs.RowStatements.{rows_in, heading_in, answering, inserting, updating, once_bound, tables_in, select, insert, update, delete, effect_of_dml}
+use Rattle.rs_join.specs.Selected.{selected}
 use Rattle.rs_mean.specs.TableStatements.{create_tests, new_table, create_table, drop_table, columns_of, indexes_of, column_index, has_index, is_indexed, create_index_tests, new_index, create_index, drop_index_tests, without_index, drop_index, create_synonym_tests, create_synonym, drop_synonym_tests, drop_synonym}
 use Rattle.law_mean.proofs.LawTests.{passed, holds_if, absent_if, neither}
 use Rattle.law_mean.proofs.LawEffects.{IsSo, so_denied, so_done, so_unless}

@@ -1,7 +1,7 @@
 -- What follows from the answers of tests.
 use Rattle.std.proofs.Common.{◌≡◌, Bool, true, false, not, cond, ◌&&◌, ◌||◌, List, ◌∷◌, Option, Some, None, is_some, refl}
 use Rattle.rs_base.specs.declared.reply.Denial.{Denial}
-use Rattle.rs_bind.specs.Denials.{Test, first_denial}
+use Rattle.rs_scope.specs.Denials.{Test, first_denial}
 
 -- the first test didn't fail, and no later one did
 pub passed : (first : Test) (tests : List Test) → first_denial (first ∷ tests) ≡ None → (first.fails ≡ false) × (first_denial tests ≡ None)

@@ -13,16 +13,17 @@ use Rattle.rs_ast.specs.declared.change.Term.{Term}
 use Rattle.rs_ast.specs.declared.column.ColDef.{ColDef}
 use Rattle.rs_ast.specs.declared.entry.IndexOf.{IndexOf}
 use Rattle.rs_bind.specs.Binding.{bound_rows, bound_set}
-use Rattle.rs_bind.specs.Denials.{first_denial, insert_tests, sets_tests}
-use Rattle.rs_bind.specs.Scope.{scope_column, columns_as}
-use Rattle.rs_bind.specs.declared.scope.ScopeColumn.{ScopeColumn}
+use Rattle.rs_bind.specs.Denials.{insert_tests, sets_tests}
+use Rattle.rs_scope.specs.Denials.{first_denial}
+use Rattle.rs_scope.specs.Scope.{scope_column, columns_as}
+use Rattle.rs_scope.specs.declared.scope.ScopeColumn.{ScopeColumn}
 use Rattle.rs_bind.proofs.OverScope.{kinds_in}
 use Rattle.rs_eval.specs.Clauses.{holds}
 use Rattle.rs_answer.specs.Kinds.{HasKinds}
 use Rattle.rs_mean.specs.declared.table.Table.{Table}
 use Rattle.rs_mean.specs.Changes.{with_rows}
 use Rattle.law_mean.specs.Laws.{IsTyped}
-use Rattle.rs_mean.specs.RowChanges.{given_rows, updated_rows, other_rows}
+use Rattle.rs_eval.specs.RowChanges.{given_rows, updated_rows, other_rows}
 use Rattle.rs_mean.specs.RowStatements.{rows_of}
 use Rattle.rs_mean.specs.TableStatements.{columns_of, new_table}
 use Rattle.law_mean.proofs.LawKept.{KeepsIn}

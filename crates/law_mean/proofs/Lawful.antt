@@ -23,7 +23,7 @@ use Rattle.rs_mean.specs.Database.{Database, table_named, target_of}
 use Rattle.law_mean.specs.Laws.{AnswersAreTyped, DeniedChangesNothing, SelectChangesNothing, SitesStay, NamesStayInOrder, SynonymsStayInOrder, OthersStay, SynonymsStay, OtherSynonymsStay, IndexIsMade, IndexIsDropped, SynonymIsMade, SynonymIsDropped, TableIsMade, TableIsDropped, RowsAreAppended, RowsAreTakenOut, RowsAreChanged, EachTable, IsWithin, TablesStayWithin, HasDistinctColumns, ColumnsStayDistinct, HasDistinctIndexes, IndexesStayDistinct, IsTyped, RowsStayTyped, written_of, synonym_of}
 use Rattle.rs_mean.specs.Meaning.{effect_of, meaning}
 use Rattle.rs_mean.specs.Names.{name_of, own_synonym}
-use Rattle.rs_mean.specs.RowChanges.{other_rows, matching_count}
+use Rattle.rs_eval.specs.RowChanges.{other_rows, matching_count}
 use Rattle.rs_mean.specs.RowStatements.{rows_of}
 use Rattle.rs_mean.specs.TableStatements.{new_table, columns_of, indexes_of, column_index, has_index, is_indexed, new_index, without_index}
 use Rattle.rs_mean.proofs.Entries.{lookup_put, lookup_gone}

@@ -21,8 +21,8 @@ use Rattle.rs_ast.specs.declared.select.Item.TheVariants as items
 use Rattle.rs_ast.specs.declared.select.Select.{Select}
 use Rattle.rs_ast.specs.declared.stmt.Dml.{Dml}
 use Rattle.rs_ast.specs.declared.stmt.Dml.TheVariants as dmls
-use Rattle.rs_bind.specs.declared.scope.ScopeColumn.{ScopeColumn}
-use Rattle.rs_bind.specs.Scope.{column_kind, query_scope}
+use Rattle.rs_scope.specs.declared.scope.ScopeColumn.{ScopeColumn}
+use Rattle.rs_scope.specs.Scope.{column_kind, query_scope}
 use Rattle.rs_answer.specs.Kinds.{HasKinds, AreKindsOf}
 use Rattle.rs_mean.specs.declared.built.Stmt.{Stmt}
 use Rattle.rs_mean.specs.declared.built.Stmt.TheVariants as stmts
@@ -32,7 +32,7 @@ use Rattle.rs_mean.specs.declared.table.Table.{Table}
 use Rattle.rs_mean.specs.Changes.{with_rows}
 use Rattle.rs_mean.specs.Database.{Database, empty, table_named, IsInOrder, target_of, AreSynonymsInOrder}
 use Rattle.rs_rows.specs.Sizes.{rows_size}
-use Rattle.rs_mean.specs.Limits.{max_row_bytes, max_rows, max_table_bytes}
+use Rattle.rs_eval.specs.Limits.{max_row_bytes, max_rows, max_table_bytes}
 use Rattle.rs_mean.specs.Meaning.{meaning}
 use Rattle.rs_mean.specs.Names.{name_of, own_synonym}
 use Rattle.rs_mean.specs.RowStatements.{heading_in}

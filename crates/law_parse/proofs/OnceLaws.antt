@@ -5,11 +5,11 @@ use Rattle.std.proofs.lemmas.Bool.{false≢true}
 use Rattle.std.proofs.lemmas.List.{append-nil}
 use Rattle.std.proofs.lemmas.Option.{same_Some}
 use Rattle.rs_ast.specs.declared.stmt.Stmt.{Stmt}
-use Rattle.rs_ast.specs.declared.token.Token.{Token}
-use Rattle.rs_parse.specs.Tokens.{split_of}
+use Rattle.rs_token.specs.declared.token.Token.{Token}
+use Rattle.rs_token.specs.Tokens.{split_of}
 use Rattle.rs_parse.specs.Grammar.{IsRequest}
 use Rattle.rs_parse.specs.Parsing.{Spells, SomeBegins, IsOffending, IsFault, AtToken, NoToken, AtEnd, Parsed, Statement, FaultAt, parsed_of}
-use Rattle.rs_parse.proofs.ParseLaws.{parsed_spelled, spelled_parsed, fault_offset}
+use Rattle.rs_parse.proofs.ParseLaws.{parsed_spelled, unparsed_parsed, fault_offset}
 
 -- ---- statements
 
@@ -18,11 +18,11 @@ same_statement one other e = cc
 
 -- A text is that of at most one statement.
 pub statement_once : (text : List ℕ) (one other : Stmt) → Spells text one → Spells text other → one ≡ other
-statement_once text one other first second = same_statement one other (sym (spelled_parsed text one first) ∙ spelled_parsed text other second)
+statement_once text one other first second = same_statement one other (sym (unparsed_parsed text one first) ∙ unparsed_parsed text other second)
 
 -- Each text is that of a statement, or has a fault.
-pub spelled_or_faulty : (text : List ℕ) → ((stmt : Stmt) × Spells text stmt) ⊎ ((offset : ℕ) × IsFault text offset)
-spelled_or_faulty text = go (parsed_of text) refl
+pub unparsed_or_faulty : (text : List ℕ) → ((stmt : Stmt) × Spells text stmt) ⊎ ((offset : ℕ) × IsFault text offset)
+unparsed_or_faulty text = go (parsed_of text) refl
   where
     go : (parsed : Parsed) → parsed_of text ≡ parsed → ((stmt : Stmt) × Spells text stmt) ⊎ ((offset : ℕ) × IsFault text offset)
     go (Statement stmt) e = inl (stmt, parsed_spelled text stmt e)
@@ -91,7 +91,7 @@ fault_once text one other (AtEnd whole begun none at) (NoToken cut others there)
 fault_once text one other (AtEnd whole begun none at) (AtEnd again others never there) = at ∙ sym there
 
 -- The text of a statement has no fault.
-pub spelled_no_fault : (text : List ℕ) (stmt : Stmt) (offset : ℕ) → Spells text stmt → IsFault text offset → ⊥
-spelled_no_fault text stmt offset (whole, is) (AtToken number offending at) = not_all (split_of text).tokens number offending (request_begins stmt (split_of text).tokens is)
-spelled_no_fault text stmt offset (whole, is) (NoToken cut begun at) = false≢true (sym cut ∙ whole)
-spelled_no_fault text stmt offset (whole, is) (AtEnd again begun none at) = none stmt is
+pub unparsed_no_fault : (text : List ℕ) (stmt : Stmt) (offset : ℕ) → Spells text stmt → IsFault text offset → ⊥
+unparsed_no_fault text stmt offset (whole, is) (AtToken number offending at) = not_all (split_of text).tokens number offending (request_begins stmt (split_of text).tokens is)
+unparsed_no_fault text stmt offset (whole, is) (NoToken cut begun at) = false≢true (sym cut ∙ whole)
+unparsed_no_fault text stmt offset (whole, is) (AtEnd again begun none at) = none stmt is

@@ -3,10 +3,10 @@
 use Rattle.std.proofs.Common.{◌≡◌, ℕ, true, List, [], ◌∷◌, ◌++◌, refl, sym, subst, inl}
 use Rattle.std.proofs.lemmas.List.{append-nil}
 use Rattle.rs_ast.specs.declared.stmt.Stmt.{Stmt}
-use Rattle.rs_ast.specs.declared.token.Token.{Token}
-use Rattle.rs_ast.specs.Spelled.{spelled_stmt}
-use Rattle.rs_ast.specs.Printed.{printed_tokens, printed_stmt}
-use Rattle.rs_parse.specs.Tokens.{split_of}
+use Rattle.rs_token.specs.declared.token.Token.{Token}
+use Rattle.rs_unparse.specs.Unparsed.{unparsed_stmt}
+use Rattle.rs_unparse.specs.Printed.{printed_tokens, printed_stmt}
+use Rattle.rs_token.specs.Tokens.{split_of}
 use Rattle.rs_parse.specs.Grammar.{IsStmt, IsRequest}
 use Rattle.rs_parse.specs.Parsing.{Spells}
 use Rattle.law_parse.proofs.TokenForms.{AreFormed}
@@ -34,12 +34,12 @@ TokensAreFormed = (text : List ℕ) → AreFormed (split_of text).tokens
 
 -- the printed tokens of a statement that has formed tokens are a phrase of it
 abbrev pub StmtIsRespelled : Type 0
-StmtIsRespelled = (stmt : Stmt) (ts : List Token) → IsStmt stmt ts → AreFormed ts → IsStmt stmt (spelled_stmt stmt) × AreFormed (spelled_stmt stmt)
+StmtIsRespelled = (stmt : Stmt) (ts : List Token) → IsStmt stmt ts → AreFormed ts → IsStmt stmt (unparsed_stmt stmt) × AreFormed (unparsed_stmt stmt)
 
 -- The printed text of a statement that has a text is one of its texts.
 pub printed_is_read : PrintedIsSplit → TokensAreFormed → StmtIsRespelled → (text : List ℕ) (stmt : Stmt) → Spells text stmt → Spells (printed_stmt stmt) stmt
 printed_is_read split_of_printed tokens_formed stmt_respelled text stmt (whole, is) =
     let of_text = tokens_of stmt (split_of text).tokens is (tokens_formed text) in
     let again = stmt_respelled stmt of_text.0 of_text.1 of_text.2 in
-    let split = split_of_printed (spelled_stmt stmt) again.1 in
-    (split.1, subst (IsRequest stmt) (sym split.0) (stmt_requests stmt (spelled_stmt stmt) again.0))
+    let split = split_of_printed (unparsed_stmt stmt) again.1 in
+    (split.1, subst (IsRequest stmt) (sym split.0) (stmt_requests stmt (unparsed_stmt stmt) again.0))

@@ -4,11 +4,11 @@ use Rattle.std.specs.List.{fold, list_all, prefix_len}
 use Rattle.std.proofs.lemmas.Bool.{and_parts, and_from, and_left, or_from, leb-true, le-leb, lt-leb, cond-true}
 use Rattle.std.proofs.lemmas.Str.Parse.{IsNumeralModel, IsDigitsTest, FoldsDigits, numerals_by_fold}
 use Rattle.std.proofs.lemmas.Fmt.{digits_decimal, digits_value-decimal, length-decimal-le, decimal_nonempty}
-use Rattle.rs_ast.specs.declared.token.Token.{Token}
-use Rattle.rs_ast.specs.declared.token.Token.TheVariants as tokens
-use Rattle.rs_ast.proofs.Touching.{begins}
-use Rattle.rs_parse.specs.Tokens.{is_letter, is_digit, digits_value, number_at, token_at}
-use Rattle.rs_parse.specs.Scanning.{token_here}
+use Rattle.rs_token.specs.declared.token.Token.{Token}
+use Rattle.rs_token.specs.declared.token.Token.TheVariants as tokens
+use Rattle.rs_unparse.proofs.Touching.{begins}
+use Rattle.rs_token.specs.Tokens.{is_letter, is_digit, digits_value, number_at, token_at}
+use Rattle.rs_token.specs.Scanning.{token_here}
 use Rattle.law_parse.proofs.PrintedWords.{prefix_all}
 
 -- ---- digits

@@ -1,13 +1,13 @@
 -- A printed symbol is read again, if no byte follows that makes it a longer one.
 use Rattle.std.proofs.Common.{◌≡◌, ℕ, false, eqb, List, [], ◌∷◌, ◌++◌, Some, refl}
 use Rattle.std.proofs.lemmas.Bool.{or_parts}
-use Rattle.rs_ast.specs.declared.token.Symbol.{Symbol}
-use Rattle.rs_ast.specs.declared.token.Symbol.TheVariants as symbols
-use Rattle.rs_ast.specs.declared.token.Token.TheVariants as tokens
-use Rattle.rs_ast.specs.Printed.{printed_symbol}
-use Rattle.rs_ast.proofs.Touching.{begins, goes_on_symbol}
-use Rattle.rs_parse.specs.Tokens.{symbol_at, token_at}
-use Rattle.rs_parse.specs.Scanning.{token_here}
+use Rattle.rs_token.specs.declared.token.Symbol.{Symbol}
+use Rattle.rs_token.specs.declared.token.Symbol.TheVariants as symbols
+use Rattle.rs_token.specs.declared.token.Token.TheVariants as tokens
+use Rattle.rs_unparse.specs.Printed.{printed_symbol}
+use Rattle.rs_unparse.proofs.Touching.{begins, goes_on_symbol}
+use Rattle.rs_token.specs.Tokens.{symbol_at, token_at}
+use Rattle.rs_token.specs.Scanning.{token_here}
 
 less_again : (rest : List ℕ) → begins (goes_on_symbol symbols.Less) rest ≡ false → token_here (60 ∷ rest) ≡ Some (tokens.Symbol symbols.Less, rest)
 unfolding token_here token_at symbol_at

@@ -4,11 +4,11 @@ use Rattle.std.proofs.lemmas.Bool.{eqb-true, cond-true}
 use Rattle.rs_base.specs.Printing.{quoted_byte, printed_text}
 use Rattle.rs_base.specs.Reading.{◌>>=◌, push_first}
 use Rattle.rs_base.specs.Txt.{is_txt}
-use Rattle.rs_ast.specs.declared.token.Token.{Token}
-use Rattle.rs_ast.specs.declared.token.Token.TheVariants as tokens
-use Rattle.rs_ast.proofs.Touching.{begins}
-use Rattle.rs_parse.specs.Tokens.{quoted_at, text_at, token_at}
-use Rattle.rs_parse.specs.Scanning.{token_here}
+use Rattle.rs_token.specs.declared.token.Token.{Token}
+use Rattle.rs_token.specs.declared.token.Token.TheVariants as tokens
+use Rattle.rs_unparse.proofs.Touching.{begins}
+use Rattle.rs_token.specs.Tokens.{quoted_at, text_at, token_at}
+use Rattle.rs_token.specs.Scanning.{token_here}
 
 abbrev pub is_quote : ℕ → Bool
 is_quote b = eqb b 39

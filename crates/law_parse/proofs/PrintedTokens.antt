@@ -8,19 +8,19 @@ use Rattle.rs_base.specs.Ident.{is_name_byte, is_ident, is_letter as is_small_le
 use Rattle.rs_base.specs.Txt.{is_txt}
 use Rattle.rs_base.specs.Reading.{◌>>=◌}
 use Rattle.rs_base.proofs.Steps.{bind_some, chosen}
-use Rattle.rs_ast.specs.declared.token.Symbol.{Symbol}
-use Rattle.rs_ast.specs.declared.token.Symbol.TheVariants as symbols
-use Rattle.rs_ast.specs.declared.token.Token.{Token}
-use Rattle.rs_ast.specs.declared.token.Token.TheVariants as tokens
-use Rattle.rs_ast.specs.declared.ending.Ending.{Ending}
-use Rattle.rs_ast.specs.declared.ending.Ending.TheVariants as endings
-use Rattle.rs_ast.specs.Printed.{printed_token, ending_after, touches, printed_next, printed_after, printed_tokens}
-use Rattle.rs_ast.proofs.Touching.{begins, goes_on, goes_on_symbol, touching_apart, is_word_byte as is_run_byte}
-use Rattle.rs_parse.specs.declared.token_split.Split.{Split}
-use Rattle.rs_parse.specs.Tokens.{is_blank, is_letter, is_digit, is_word_byte, word_at, number_at, quoted_at, text_at, symbol_at, digits_value, token_at, put_first, taken_at, split_suffix, split_of}
-use Rattle.rs_parse.specs.Scanning.{token_here}
+use Rattle.rs_token.specs.declared.token.Symbol.{Symbol}
+use Rattle.rs_token.specs.declared.token.Symbol.TheVariants as symbols
+use Rattle.rs_token.specs.declared.token.Token.{Token}
+use Rattle.rs_token.specs.declared.token.Token.TheVariants as tokens
+use Rattle.rs_unparse.specs.declared.ending.Ending.{Ending}
+use Rattle.rs_unparse.specs.declared.ending.Ending.TheVariants as endings
+use Rattle.rs_unparse.specs.Printed.{printed_token, ending_after, touches, printed_next, printed_after, printed_tokens}
+use Rattle.rs_unparse.proofs.Touching.{begins, goes_on, goes_on_symbol, touching_apart, is_word_byte as is_run_byte}
+use Rattle.rs_token.specs.declared.token_split.Split.{Split}
+use Rattle.rs_token.specs.Tokens.{is_blank, is_letter, is_digit, is_word_byte, word_at, number_at, quoted_at, text_at, symbol_at, digits_value, token_at, put_first, taken_at, split_suffix, split_of}
+use Rattle.rs_token.specs.Scanning.{token_here}
 use Rattle.law_parse.proofs.TokenForms.{IsFormed, AreFormed}
-use Rattle.rs_parse.proofs.Scans.{symbol_token, same_suffix}
+use Rattle.rs_token.proofs.Scans.{symbol_token, same_suffix}
 use Rattle.law_parse.proofs.PrintedWords.{word_again}
 use Rattle.law_parse.proofs.PrintedNumbers.{number_again}
 use Rattle.law_parse.proofs.PrintedTexts.{text_again}

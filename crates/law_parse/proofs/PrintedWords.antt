@@ -4,13 +4,13 @@ use Rattle.std.specs.List.{list_all, prefix_len}
 use Rattle.std.specs.Char.{to_ascii_lowercase, to_ascii_uppercase}
 use Rattle.std.proofs.lemmas.Bool.{false≢true, true≢false, and_parts, and_from, and_right, or_from, lt-leb, ne_eqb, eqb-true, leb-true, cases_lt, agree_below, agree_below_at, cond-true}
 use Rattle.rs_base.specs.Ident.{is_name_byte, are_name_bytes, is_ident, is_letter as is_small_letter}
-use Rattle.rs_ast.specs.declared.token.Token.{Token}
-use Rattle.rs_ast.specs.declared.token.Token.TheVariants as tokens
-use Rattle.rs_ast.specs.Reserved.{is_reserved}
-use Rattle.rs_ast.specs.Printed.{printed_word}
-use Rattle.rs_ast.proofs.Touching.{begins}
-use Rattle.rs_parse.specs.Tokens.{is_letter, is_word_byte, word_at, token_at}
-use Rattle.rs_parse.specs.Scanning.{token_here}
+use Rattle.rs_token.specs.declared.token.Token.{Token}
+use Rattle.rs_token.specs.declared.token.Token.TheVariants as tokens
+use Rattle.rs_token.specs.Reserved.{is_reserved}
+use Rattle.rs_unparse.specs.Printed.{printed_word}
+use Rattle.rs_unparse.proofs.Touching.{begins}
+use Rattle.rs_token.specs.Tokens.{is_letter, is_word_byte, word_at, token_at}
+use Rattle.rs_token.specs.Scanning.{token_here}
 
 -- the number of bytes that pass, if all of the prefix do and the first byte after it doesn't
 pub prefix_all : (p : ℕ → Bool) (prefix rest : List ℕ) → list_all p prefix ≡ true → begins p rest ≡ false → prefix_len p (prefix ++ rest) ≡ length prefix

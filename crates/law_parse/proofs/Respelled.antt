@@ -7,10 +7,10 @@ use Rattle.rs_ast.specs.declared.stmt.Dml.{Dml}
 use Rattle.rs_ast.specs.declared.stmt.Dml.TheVariants as dmls
 use Rattle.rs_ast.specs.declared.stmt.Stmt.{Stmt}
 use Rattle.rs_ast.specs.declared.stmt.Stmt.TheVariants as stmts
-use Rattle.rs_ast.specs.declared.token.Symbol.TheVariants as symbols
-use Rattle.rs_ast.specs.declared.token.Token.{Token}
-use Rattle.rs_ast.specs.declared.token.Token.TheVariants as tokens
-use Rattle.rs_ast.specs.Spelled.{comma, spelled_list, spelled_tuple, spelled_ident, spelled_name, spelled_where, spelled_set, spelled_dml, spelled_step, spelled_steps, spelled_stmt}
+use Rattle.rs_token.specs.declared.token.Symbol.TheVariants as symbols
+use Rattle.rs_token.specs.declared.token.Token.{Token}
+use Rattle.rs_token.specs.declared.token.Token.TheVariants as tokens
+use Rattle.rs_unparse.specs.Unparsed.{comma, unparsed_list, unparsed_tuple, unparsed_ident, unparsed_name, unparsed_where, unparsed_set, unparsed_dml, unparsed_step, unparsed_steps, unparsed_stmt}
 use Rattle.rs_parse.specs.Grammar.{IsDml, IsDmlEnded, IsBody, IsStmt}
 use Rattle.law_parse.proofs.TokenForms.{AreFormed}
 use Rattle.law_parse.proofs.Respelling.{IsRespelled, word_respelled, symbol_respelled, ◌▹◌, bracketed_respelled, respelled_so, series_respelled, list_respelled, at_most_respelled, list_or_none_respelled}
@@ -19,16 +19,16 @@ use Rattle.law_parse.proofs.RespelledSelect.{where_respelled, select_respelled}
 
 -- ---- INSERT, UPDATE and DELETE
 
-update_respelled : (name : NameText) (sets : List Set) (clauses : List Clause) → IsRespelled (IsDml (dmls.Update name sets clauses)) (spelled_dml (dmls.Update name sets clauses))
-unfolding spelled_dml
+update_respelled : (name : NameText) (sets : List Set) (clauses : List Clause) → IsRespelled (IsDml (dmls.Update name sets clauses)) (unparsed_dml (dmls.Update name sets clauses))
+unfolding unparsed_dml
 update_respelled name sets clauses =
-    let changed = tokens.Word (codes "set") ∷ spelled_list comma spelled_set sets in
-    respelled_so (ap (λ (ts : List Token). tokens.Word (codes "update") ∷ ts) (append_assoc (spelled_name name) changed (spelled_where clauses)))
+    let changed = tokens.Word (codes "set") ∷ unparsed_list comma unparsed_set sets in
+    respelled_so (ap (λ (ts : List Token). tokens.Word (codes "update") ∷ ts) (append_assoc (unparsed_name name) changed (unparsed_where clauses)))
     (word_respelled (codes "update") ▹ name_respelled name
     ▹ word_respelled (codes "set") ▹ at_most_respelled 16 (list_respelled comma set_respelled) sets ▹ where_respelled clauses)
 
-dml_respelled : (dml : Dml) → IsRespelled (IsDml dml) (spelled_dml dml)
-unfolding spelled_dml
+dml_respelled : (dml : Dml) → IsRespelled (IsDml dml) (unparsed_dml dml)
+unfolding unparsed_dml
 dml_respelled (dmls.Select select) = select_respelled select
 dml_respelled (dmls.Insert name rows) =
     word_respelled (codes "insert") ▹ word_respelled (codes "into") ▹ name_respelled name ▹ word_respelled (codes "values") ▹ list_respelled comma tuple_respelled rows
@@ -37,21 +37,21 @@ dml_respelled (dmls.Delete name clauses) = word_respelled (codes "delete") ▹ w
 
 -- ---- programs
 
-step_respelled : (dml : Dml) → IsRespelled (IsDmlEnded dml) (spelled_step dml)
-unfolding spelled_step
+step_respelled : (dml : Dml) → IsRespelled (IsDmlEnded dml) (unparsed_step dml)
+unfolding unparsed_step
 step_respelled dml = dml_respelled dml ▹ symbol_respelled symbols.Semicolon
 
-body_respelled : (body : List Dml) → IsRespelled (IsBody body) (spelled_steps body)
-unfolding spelled_steps
+body_respelled : (body : List Dml) → IsRespelled (IsBody body) (unparsed_steps body)
+unfolding unparsed_steps
 body_respelled [] = record { respelled = λ ts is formed. absurd is }
 body_respelled (dml ∷ dmls) = at_most_respelled 8 (series_respelled step_respelled) (dml ∷ dmls)
 
-compile_respelled : (program : List ℕ) (params : List (List ℕ)) (body : List Dml) → IsRespelled (IsStmt (stmts.Compile program params body)) (spelled_stmt (stmts.Compile program params body))
-unfolding spelled_stmt spelled_tuple
+compile_respelled : (program : List ℕ) (params : List (List ℕ)) (body : List Dml) → IsRespelled (IsStmt (stmts.Compile program params body)) (unparsed_stmt (stmts.Compile program params body))
+unfolding unparsed_stmt unparsed_tuple
 compile_respelled program params body =
-    let separated_list = spelled_list comma spelled_ident params in
+    let separated_list = unparsed_list comma unparsed_ident params in
     let closed = tokens.Symbol symbols.Close ∷ [] in
-    let steps = tokens.Word (codes "as") ∷ spelled_steps body in
+    let steps = tokens.Word (codes "as") ∷ unparsed_steps body in
     let ended = tokens.Word (codes "end") ∷ [] in
     respelled_so (ap (λ (ts : List Token). tokens.Word (codes "compile") ∷ tokens.Word program ∷ tokens.Symbol symbols.Open ∷ ts)
     (append_assoc (separated_list ++ closed) steps ended ∙ append_assoc separated_list closed (steps ++ ended)))
@@ -61,8 +61,8 @@ compile_respelled program params body =
 
 -- ---- statements
 
-each_respelled : (stmt : Stmt) → IsRespelled (IsStmt stmt) (spelled_stmt stmt)
-unfolding spelled_stmt spelled_tuple
+each_respelled : (stmt : Stmt) → IsRespelled (IsStmt stmt) (unparsed_stmt stmt)
+unfolding unparsed_stmt unparsed_tuple
 each_respelled (stmts.CreateTable name columns) =
     word_respelled (codes "create") ▹ word_respelled (codes "table") ▹ name_respelled name ▹ bracketed_respelled (at_most_respelled 16 (list_respelled comma column_respelled) columns)
 each_respelled (stmts.DropTable name) = word_respelled (codes "drop") ▹ word_respelled (codes "table") ▹ name_respelled name
@@ -83,5 +83,5 @@ each_respelled stmts.ShowCache = word_respelled (codes "show") ▹ word_respelle
 each_respelled (stmts.Dml dml) = dml_respelled dml
 
 -- If tokens that a text may have are a phrase of a statement, so are its printed tokens, and a text may have them.
-pub stmt_respelled : (stmt : Stmt) (ts : List Token) → IsStmt stmt ts → AreFormed ts → IsStmt stmt (spelled_stmt stmt) × AreFormed (spelled_stmt stmt)
+pub stmt_respelled : (stmt : Stmt) (ts : List Token) → IsStmt stmt ts → AreFormed ts → IsStmt stmt (unparsed_stmt stmt) × AreFormed (unparsed_stmt stmt)
 stmt_respelled stmt ts is formed = (each_respelled stmt).respelled ts is formed

@@ -1,12 +1,12 @@
 -- Respellings: other tokens of the same phrase, and how they are combined.
 use Rattle.std.proofs.Common.{◌≡◌, ℕ, ◌≤◌, List, [], ◌∷◌, ◌++◌, length, refl, sym, subst}
 use Rattle.std.specs.Prelude.{flat_map}
-use Rattle.rs_ast.specs.declared.token.Symbol.{Symbol}
-use Rattle.rs_ast.specs.declared.token.Symbol.TheVariants as symbols
-use Rattle.rs_ast.specs.declared.token.Token.{Token}
-use Rattle.rs_ast.specs.declared.token.Token.TheVariants as tokens
-use Rattle.rs_ast.specs.Spelled.{spelled_further, spelled_list, comma, between_brackets}
-use Rattle.rs_parse.specs.Phrases.{Phrase, Is, Both, Spell, IsSeries, After, IsList, AtMost}
+use Rattle.rs_token.specs.declared.token.Symbol.{Symbol}
+use Rattle.rs_token.specs.declared.token.Symbol.TheVariants as symbols
+use Rattle.rs_token.specs.declared.token.Token.{Token}
+use Rattle.rs_token.specs.declared.token.Token.TheVariants as tokens
+use Rattle.rs_unparse.specs.Unparsed.{unparsed_after, unparsed_list, comma, between_brackets}
+use Rattle.rs_parse.specs.Phrases.{Phrase, Is, Both, Sequence, IsSeries, After, IsList, AtMost}
 use Rattle.rs_parse.specs.Grammar.{Keyword, IsSymbol, IsCommaListOrNone}
 use Rattle.law_parse.proofs.TokenForms.{AreFormed}
 
@@ -56,7 +56,7 @@ pub ◌▹◌ : {P Q : List Token → Type 0} {us vs : List Token} → IsRespell
 first ▹ second = both_respelled first second
 
 -- in parentheses
-pub bracketed_respelled : {P : List Token → Type 0} {us : List Token} → IsRespelled P us → IsRespelled (Spell (IsSymbol symbols.Open ∷ P ∷ IsSymbol symbols.Close ∷ [])) (between_brackets us)
+pub bracketed_respelled : {P : List Token → Type 0} {us : List Token} → IsRespelled P us → IsRespelled (Sequence (IsSymbol symbols.Open ∷ P ∷ IsSymbol symbols.Close ∷ [])) (between_brackets us)
 bracketed_respelled inside = symbol_respelled symbols.Open ▹ inside ▹ symbol_respelled symbols.Close
 
 -- the same tokens, separated otherwise
@@ -78,12 +78,12 @@ series_respelled each [] = nothing_respelled
 series_respelled each (x ∷ xs) = each x ▹ series_respelled each xs
 
 further_respelled : {A : Type 0} {P : Phrase A} {spelled : A → List Token} (separator : Token) → ((x : A) → IsRespelled (P x) (spelled x))
-    → (x : A) → IsRespelled (After separator P x) (spelled_further separator spelled x)
+    → (x : A) → IsRespelled (After separator P x) (unparsed_after separator spelled x)
 further_respelled separator each x = token_respelled separator ▹ each x
 
 pub list_respelled : {A : Type 0} {P : Phrase A} {spelled : A → List Token} (separator : Token) → ((x : A) → IsRespelled (P x) (spelled x))
-    → (xs : List A) → IsRespelled (IsList separator P xs) (spelled_list separator spelled xs)
-unfolding spelled_list
+    → (xs : List A) → IsRespelled (IsList separator P xs) (unparsed_list separator spelled xs)
+unfolding unparsed_list
 list_respelled separator each [] = record { respelled = λ ts is formed. absurd is }
 list_respelled separator each (x ∷ xs) = each x ▹ series_respelled (further_respelled separator each) xs
 
@@ -92,7 +92,7 @@ pub at_most_respelled : {A : Type 0} {P : Phrase (List A)} {spelled : List A →
 at_most_respelled n each xs = kept_respelled (length xs ≤ n) (each xs)
 
 pub list_or_none_respelled : {A : Type 0} {P : Phrase A} {spelled : A → List Token} → ((x : A) → IsRespelled (P x) (spelled x))
-    → (xs : List A) → IsRespelled (IsCommaListOrNone P xs) (spelled_list comma spelled xs)
-unfolding spelled_list
+    → (xs : List A) → IsRespelled (IsCommaListOrNone P xs) (unparsed_list comma spelled xs)
+unfolding unparsed_list
 list_or_none_respelled each [] = nothing_respelled
 list_or_none_respelled each (x ∷ xs) = list_respelled comma each (x ∷ xs)

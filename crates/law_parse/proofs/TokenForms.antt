@@ -3,8 +3,8 @@ use Rattle.std.proofs.Common.{◌≡◌, ◌≤◌, true, List}
 use Rattle.std.specs.List.{AllByRecursion}
 use Rattle.rs_base.specs.Ident.{is_ident}
 use Rattle.rs_base.specs.Txt.{is_txt}
-use Rattle.rs_ast.specs.declared.token.Token.{Token}
-use Rattle.rs_ast.specs.declared.token.Token.TheVariants as tokens
+use Rattle.rs_token.specs.declared.token.Token.{Token}
+use Rattle.rs_token.specs.declared.token.Token.TheVariants as tokens
 
 abbrev pub IsFormed : Token → Type 0
 IsFormed (tokens.Word word) = is_ident word ≡ true

@@ -1,7 +1,7 @@
 -- The laws of texts.
 use Rattle.std.specs.Prelude.{◌≡◌, ℕ, List, ◌⊎◌}
 use Rattle.rs_ast.specs.declared.stmt.Stmt.{Stmt}
-use Rattle.rs_ast.specs.Printed.{printed_stmt}
+use Rattle.rs_unparse.specs.Printed.{printed_stmt}
 use Rattle.rs_parse.specs.Parsing.{Spells, IsFault}
 
 -- a text is that of at most one statement

@@ -3,7 +3,7 @@ use Rattle.std.proofs.Common.{◌≡◌, ℤ, pos, negsuc, true, false, arith, w
 use Rattle.std.specs.Int.RustNames.{FitsSigned}
 use Rattle.std.proofs.lemmas.Bool.Decides.{nat_tests}
 use Rattle.std.proofs.lemmas.Bool.{false_from_ne_true}
-use Rattle.rs_eval.specs.Integers.{is_i64}
+use Rattle.rs_base.specs.Integers.{is_i64}
 
 pub is_i64_from_fits : (z : ℤ) → FitsSigned w64 z → is_i64 z ≡ true
 unfolding is_i64

@@ -9,7 +9,7 @@ use Rattle.std.proofs.lemmas.Int.{ints}
 use Rattle.std.proofs.lemmas.List.Elements.{All-from_recursion}
 use Rattle.rs_base.specs.declared.value.Value.{Value}
 use Rattle.rs_base.specs.Value.{value_cmp}
-use Rattle.rs_eval.specs.Setting.{integer_of}
+use Rattle.rs_base.specs.Integers.{integer_of}
 use Rattle.rs_answer.specs.ItemLaws.{LeastIsLeast, GreatestIsGreatest, SumIsOfAnyOrder}
 use Rattle.rs_answer.specs.Items.{sum_of, lesser, greater}
 use Rattle.rs_answer.specs.Sorting.{put_in_order, sorted_by}

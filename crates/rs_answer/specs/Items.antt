@@ -6,8 +6,8 @@ use Rattle.rs_base.specs.declared.value.Value.TheVariants as values
 use Rattle.rs_base.specs.Value.{value_cmp}
 use Rattle.rs_ast.specs.declared.shape.ShapeItem.{ShapeItem}
 use Rattle.rs_ast.specs.declared.shape.ShapeItem.TheVariants as items
-use Rattle.rs_eval.specs.Integers.{is_i64}
-use Rattle.rs_eval.specs.Setting.{integer_of}
+use Rattle.rs_base.specs.Integers.{is_i64}
+use Rattle.rs_base.specs.Integers.{integer_of}
 
 -- the values of a column over the rows
 abbrev pub values_at : ℕ → List (List Value) → List Value

@@ -1,4 +1,3 @@
-pub mod FirstDenials
 pub mod OneCause
 pub mod Outcomes
 pub mod Over
@@ -8,6 +7,4 @@ pub mod OverScope
 pub mod OverShape
 pub mod OverTests
 pub mod Pairs
-pub mod Positions
 pub mod SetDenials
-pub mod Zipped

@@ -2,7 +2,7 @@
 use Rattle.std.proofs.Common.{◌≡◌, Bool, true, false, ◌&&◌, not, cond, List, [], ◌∷◌, map, Some, None, refl}
 use Rattle.std.specs.List.{list_all}
 use Rattle.rs_base.specs.declared.reply.Denial.{Denial}
-use Rattle.rs_bind.specs.Denials.{test, first_denial}
+use Rattle.rs_scope.specs.Denials.{test, first_denial}
 
 -- one test whether all pass serves as well as a test of each
 pub one_cause : {X : Type 0} (passes : X → Bool) (cause : Denial) (xs : List X)

@@ -8,7 +8,7 @@ use Rattle.rs_ast.specs.declared.entry.Entry.{Entry}
 use Rattle.rs_ast.specs.declared.stmt.Dml.{Dml}
 use Rattle.rs_plan.specs.declared.bound.Bound.{Bound}
 use Rattle.rs_plan.specs.Over.{AreEntriesOf, IsOver}
-use Rattle.rs_bind.specs.declared.scope.Param.{Param}
+use Rattle.rs_scope.specs.declared.scope.Param.{Param}
 use Rattle.rs_bind.specs.Binding.{bound_of}
 use Rattle.rs_bind.specs.Entries.{headings_of, table_count}
 use Rattle.rs_bind.proofs.Over.{bound_is_over}

@@ -19,14 +19,16 @@ use Rattle.rs_ast.specs.declared.stmt.Dml.TheVariants as dmls
 use Rattle.rs_plan.specs.declared.bound.Bound.{Bound}
 use Rattle.rs_plan.specs.declared.bound.Bound.TheVariants as bounds
 use Rattle.rs_plan.specs.Over.{kinds_of, clauses_fit, set_fits, row_fits, AreEntriesOf, IsOver, IsShapeOver, IsInsertOver, IsUpdateOver, IsDeleteOver}
-use Rattle.rs_bind.specs.declared.heading.Heading.{Heading}
-use Rattle.rs_bind.specs.declared.scope.Param.{Param}
-use Rattle.rs_bind.specs.declared.scope.ScopeColumn.{ScopeColumn}
-use Rattle.rs_bind.specs.Binding.{unless_denied, bound_select, bound_clauses, bound_rows, bound_set, shape_of, select_bound, insert_bound, update_bound, delete_bound}
-use Rattle.rs_bind.specs.Denials.{test, all_differ, column_tests, items_tests, key_tests, first_denial, names_tests, grouping_test, keys_tests, select_tests, insert_tests, sets_tests, clauses_tests, update_tests, delete_tests}
+use Rattle.rs_scope.specs.declared.heading.Heading.{Heading}
+use Rattle.rs_scope.specs.declared.scope.Param.{Param}
+use Rattle.rs_scope.specs.declared.scope.ScopeColumn.{ScopeColumn}
+use Rattle.rs_bind.specs.Binding.{unless_denied, bound_select, bound_rows, bound_set, shape_of, select_bound, insert_bound, update_bound, delete_bound}
+use Rattle.rs_scope.specs.Predicates.{bound_clauses}
+use Rattle.rs_bind.specs.Denials.{all_differ, items_tests, key_tests, names_tests, grouping_test, keys_tests, select_tests, insert_tests, sets_tests, update_tests, delete_tests}
+use Rattle.rs_scope.specs.Denials.{test, column_tests, first_denial, clauses_tests}
 use Rattle.rs_bind.specs.Entries.{defined, heading_of, headings_of}
 use Rattle.rs_bind.specs.Laws.{BoundIsOver}
-use Rattle.rs_bind.specs.Scope.{as_u16, aliases_of, query_scope, scope_column, table_scope}
+use Rattle.rs_scope.specs.Scope.{as_u16, aliases_of, query_scope, scope_column, table_scope}
 use Rattle.rs_bind.proofs.OverChanges.{rows_over, sets_over}
 use Rattle.rs_bind.proofs.OverClauses.{clauses_over}
 use Rattle.rs_bind.proofs.OverScope.{kinds_in, table_kinds, query_kinds, IsNarrow, kinds_are_few}

@@ -13,11 +13,11 @@ use Rattle.rs_ast.specs.declared.clause.Operand.TheVariants as operands
 use Rattle.rs_ast.specs.declared.column.ColRef.{ColRef}
 use Rattle.rs_plan.specs.Kinds.{kinds_fit}
 use Rattle.rs_plan.specs.Over.{side_kind, side_is_column, cmp_fits, clauses_fit}
-use Rattle.rs_bind.specs.declared.scope.Param.{Param}
-use Rattle.rs_bind.specs.declared.scope.ScopeColumn.{ScopeColumn}
-use Rattle.rs_bind.specs.Binding.{bound_side, bound_cmp, bound_clauses}
-use Rattle.rs_bind.specs.Denials.{test, first_denial, column_tests, operand_tests, operand_kind, cmp_tests, clauses_tests}
-use Rattle.rs_bind.specs.Scope.{column_index_of, column_kind}
+use Rattle.rs_scope.specs.declared.scope.Param.{Param}
+use Rattle.rs_scope.specs.declared.scope.ScopeColumn.{ScopeColumn}
+use Rattle.rs_scope.specs.Predicates.{bound_side, bound_cmp, bound_clauses}
+use Rattle.rs_scope.specs.Denials.{test, first_denial, column_tests, operand_tests, operand_kind, cmp_tests, clauses_tests}
+use Rattle.rs_scope.specs.Scope.{column_index_of, column_kind}
 use Rattle.rs_bind.proofs.OverScope.{kinds_in, column_there, column_index_kind}
 use Rattle.rs_bind.proofs.OverTests.{first_passes, both_pass, each_passes}
 

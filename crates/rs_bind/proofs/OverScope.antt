@@ -15,10 +15,10 @@ use Rattle.rs_ast.specs.declared.entry.Column.{Column}
 use Rattle.rs_ast.specs.declared.entry.Entry.{Entry}
 use Rattle.rs_ast.specs.declared.select.TableRef.{TableRef}
 use Rattle.rs_plan.specs.Over.{kinds_of, is_column_index}
-use Rattle.rs_bind.specs.declared.scope.ScopeColumn.{ScopeColumn}
-use Rattle.rs_bind.specs.Denials.{column_tests, first_denial, test}
+use Rattle.rs_scope.specs.declared.scope.ScopeColumn.{ScopeColumn}
+use Rattle.rs_scope.specs.Denials.{column_tests, first_denial, test}
 use Rattle.rs_bind.specs.Entries.{defined, heading_of, headings_of}
-use Rattle.rs_bind.specs.Scope.{columns_as, alias_of, query_scope, table_scope, is_named, named_count, column_index_of, column_kind}
+use Rattle.rs_scope.specs.Scope.{columns_as, alias_of, query_scope, table_scope, is_named, named_count, column_index_of, column_kind}
 use Rattle.rs_bind.proofs.OverTests.{first_passes}
 
 -- ---- the kinds of the columns

@@ -4,7 +4,7 @@ use Rattle.std.specs.Prelude.{flat_map}
 use Rattle.std.specs.List.{list_any, list_all}
 use Rattle.std.proofs.lemmas.Bool.{and_from, and_parts, or_cases, or_left, or_right}
 use Rattle.rs_base.specs.declared.reply.Denial.{Denial}
-use Rattle.rs_bind.specs.Denials.{Test, first_denial}
+use Rattle.rs_scope.specs.Denials.{Test, first_denial}
 
 -- ---- tests
 

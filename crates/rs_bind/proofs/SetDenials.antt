@@ -4,10 +4,11 @@ use Rattle.std.specs.Option.{option_or}
 use Rattle.std.proofs.lemmas.List.{drop_more, take_more, drop_all}
 use Rattle.rs_base.specs.declared.reply.Denial.{Denial}
 use Rattle.rs_ast.specs.declared.change.Set.{Set}
-use Rattle.rs_bind.specs.declared.scope.Param.{Param}
-use Rattle.rs_bind.specs.declared.scope.ScopeColumn.{ScopeColumn}
-use Rattle.rs_bind.specs.Denials.{first_denial, set_tests, sets_tests}
-use Rattle.rs_bind.proofs.FirstDenials.{first_denial-append}
+use Rattle.rs_scope.specs.declared.scope.Param.{Param}
+use Rattle.rs_scope.specs.declared.scope.ScopeColumn.{ScopeColumn}
+use Rattle.rs_bind.specs.Denials.{set_tests, sets_tests}
+use Rattle.rs_scope.specs.Denials.{first_denial}
+use Rattle.rs_scope.proofs.FirstDenials.{first_denial-append}
 
 module _ (scope : List ScopeColumn) (params : List Param) (sets : List Set) where
   -- the first denial from this assignment on

@@ -2,19 +2,13 @@
 use Rattle.std.specs.Prelude.{ℕ, ◌-◌, ◌==◌, Bool, false, List, [], ◌∷◌, map, length, Option, Some, None, option_map, Result, Ok, Err}
 use Rattle.std.specs.List.{position_or_len, range_with_len}
 use Rattle.rs_base.specs.declared.reply.Denial.{Denial}
-use Rattle.rs_ast.specs.declared.bound.BoundCmp.{BoundCmp}
 use Rattle.rs_ast.specs.declared.bound.BoundSet.{BoundSet}
-use Rattle.rs_ast.specs.declared.bound.BoundSide.{BoundSide}
-use Rattle.rs_ast.specs.declared.bound.BoundSide.TheVariants as sides
 use Rattle.rs_ast.specs.declared.bound.BoundTerm.{BoundTerm}
 use Rattle.rs_ast.specs.declared.bound.BoundTerm.TheVariants as bound_terms
 use Rattle.rs_ast.specs.declared.change.Set.{Set}
 use Rattle.rs_ast.specs.declared.change.Term.{Term}
 use Rattle.rs_ast.specs.declared.change.Term.TheVariants as terms
 use Rattle.rs_ast.specs.declared.clause.Clause.{Clause}
-use Rattle.rs_ast.specs.declared.clause.Cmp.{Cmp}
-use Rattle.rs_ast.specs.declared.clause.Operand.{Operand}
-use Rattle.rs_ast.specs.declared.clause.Operand.TheVariants as operands
 use Rattle.rs_ast.specs.declared.select.Item.{Item}
 use Rattle.rs_ast.specs.declared.select.Item.TheVariants as items
 use Rattle.rs_ast.specs.declared.select.Key.{Key}
@@ -29,24 +23,13 @@ use Rattle.rs_ast.specs.declared.stmt.Dml.{Dml}
 use Rattle.rs_ast.specs.declared.stmt.Dml.TheVariants as dmls
 use Rattle.rs_plan.specs.declared.bound.Bound.{Bound}
 use Rattle.rs_plan.specs.declared.bound.Bound.TheVariants as bounds
-use Rattle.rs_bind.specs.declared.heading.Heading.{Heading}
-use Rattle.rs_bind.specs.declared.scope.Param.{Param}
-use Rattle.rs_bind.specs.declared.scope.ScopeColumn.{ScopeColumn}
-use Rattle.rs_bind.specs.Denials.{is_grouped, first_denial, select_tests, insert_tests, update_tests, delete_tests}
-use Rattle.rs_bind.specs.Scope.{as_u16, as_position, column_index_of, unqualified, param_index, aliases_of, query_scope, table_scope}
-
----- predicates
-
-abbrev pub bound_side : List ScopeColumn → List Param → Operand → BoundSide
-bound_side scope params (operands.Col written) = sides.Place (column_index_of scope written)
-bound_side scope params (operands.Lit value) = sides.Lit value
-bound_side scope params (operands.Param name) = sides.Param (param_index params name)
-
-abbrev pub bound_cmp : List ScopeColumn → List Param → Cmp → BoundCmp
-bound_cmp scope params cmp = record { left = column_index_of scope cmp.left; op = cmp.op; right = bound_side scope params cmp.right }
-
-abbrev pub bound_clauses : List ScopeColumn → List Param → List Clause → List (List BoundCmp)
-bound_clauses scope params clauses = map (λ clause. map (bound_cmp scope params) clause.any) clauses
+use Rattle.rs_scope.specs.declared.heading.Heading.{Heading}
+use Rattle.rs_scope.specs.declared.scope.Param.{Param}
+use Rattle.rs_scope.specs.declared.scope.ScopeColumn.{ScopeColumn}
+use Rattle.rs_bind.specs.Denials.{is_grouped, select_tests, insert_tests, update_tests, delete_tests}
+use Rattle.rs_scope.specs.Denials.{first_denial}
+use Rattle.rs_scope.specs.Scope.{as_u16, as_position, column_index_of, unqualified, param_index, aliases_of, query_scope, table_scope}
+use Rattle.rs_scope.specs.Predicates.{bound_clauses}
 
 -- ---- SELECT
 

@@ -1,9 +1,8 @@
 -- The tests of a statement on rows, in their order: the first that fails denies it. Here are those that look at names and
 -- kinds; that the tables exist is tested before, and their rows after.
-use Rattle.std.specs.Prelude.{ℕ, Bool, true, false, ◌&&◌, ◌||◌, not, ◌==◌, nat_lt, List, [], ◌∷◌, ◌++◌, map, flat_map, length, bytes_eq, Option, Some, None, if◌then◌else◌}
+use Rattle.std.specs.Prelude.{ℕ, Bool, true, false, ◌&&◌, ◌||◌, not, ◌==◌, nat_lt, List, [], ◌∷◌, ◌++◌, map, flat_map, length, bytes_eq, Option, Some, None}
 use Rattle.std.specs.List.{list_any, list_all}
 use Rattle.std.specs.Cmp.Lexicographic.{pointwise}
-use Rattle.rs_base.specs.declared.reply.Denial.{Denial}
 use Rattle.rs_base.specs.declared.reply.Denial.TheVariants as denials
 use Rattle.rs_base.specs.declared.value.Kind.{Kind}
 use Rattle.rs_base.specs.declared.value.Kind.TheVariants as kinds
@@ -13,9 +12,6 @@ use Rattle.rs_ast.specs.declared.change.Set.{Set}
 use Rattle.rs_ast.specs.declared.change.Term.{Term}
 use Rattle.rs_ast.specs.declared.change.Term.TheVariants as terms
 use Rattle.rs_ast.specs.declared.clause.Clause.{Clause}
-use Rattle.rs_ast.specs.declared.clause.Cmp.{Cmp}
-use Rattle.rs_ast.specs.declared.clause.Operand.{Operand}
-use Rattle.rs_ast.specs.declared.clause.Operand.TheVariants as operands
 use Rattle.rs_ast.specs.declared.column.ColRef.{ColRef}
 use Rattle.rs_ast.specs.declared.select.Item.{Item}
 use Rattle.rs_ast.specs.declared.select.Item.TheVariants as items
@@ -24,55 +20,11 @@ use Rattle.rs_ast.specs.declared.select.KeyBy.TheVariants as keys
 use Rattle.rs_ast.specs.declared.select.Select.{Select}
 use Rattle.rs_plan.specs.Kinds.{kinds_fit}
 use Rattle.rs_plan.specs.Over.{is_filled}
-use Rattle.rs_bind.specs.declared.heading.Heading.{Heading}
-use Rattle.rs_bind.specs.declared.scope.Param.{Param}
-use Rattle.rs_bind.specs.declared.scope.ScopeColumn.{ScopeColumn}
-use Rattle.rs_bind.specs.Scope.{named_count, column_index_of, unqualified, column_kind, is_declared, param_kind, aliases_of, query_scope}
-
--- A test of a statement: whether it fails, and the cause of the denial if it does.
-pub record Test : Type 0 where
-  pub fails : Bool
-  pub cause : Denial
-
-abbrev pub test : Bool → Denial → Test
-test fails cause = record { fails = fails; cause = cause }
-
--- the cause of the first test that fails, if one does
-abbrev pub first_denial : List Test → Option Denial
-first_denial [] = None
-first_denial (first ∷ tests) = if first.fails then Some first.cause else first_denial tests
-
--- ---- columns and parameters
-
--- the column isn't there; two columns have the name
-abbrev pub column_tests : List ScopeColumn → ColRef → List Test
-column_tests scope written =
-    test (named_count scope written == 0) denials.NoColumn ∷ test (nat_lt 1 (named_count scope written)) denials.TwoColumns ∷ []
-
--- the parameter isn't declared
-abbrev pub param_test : List Param → List ℕ → Test
-param_test params name = test (not (is_declared params name)) denials.WrongParams
-
----- predicates
-
-abbrev pub operand_tests : List ScopeColumn → List Param → Operand → List Test
-operand_tests scope params (operands.Col written) = column_tests scope written
-operand_tests scope params (operands.Lit value) = []
-operand_tests scope params (operands.Param name) = param_test params name ∷ []
-
-abbrev pub operand_kind : List ScopeColumn → List Param → Operand → Option Kind
-operand_kind scope params (operands.Col written) = column_kind scope written
-operand_kind scope params (operands.Lit value) = Some (kind_of value)
-operand_kind scope params (operands.Param name) = param_kind params name
-
--- its left column, its right operand, and then whether the two have one kind
-abbrev pub cmp_tests : List ScopeColumn → List Param → Cmp → List Test
-cmp_tests scope params cmp =
-    column_tests scope cmp.left ++ operand_tests scope params cmp.right
-    ++ test (not (kinds_fit (column_kind scope cmp.left) (operand_kind scope params cmp.right))) denials.WrongType ∷ []
-
-abbrev pub clauses_tests : List ScopeColumn → List Param → List Clause → List Test
-clauses_tests scope params clauses = flat_map (λ clause. flat_map (cmp_tests scope params) clause.any) clauses
+use Rattle.rs_scope.specs.declared.heading.Heading.{Heading}
+use Rattle.rs_scope.specs.declared.scope.Param.{Param}
+use Rattle.rs_scope.specs.declared.scope.ScopeColumn.{ScopeColumn}
+use Rattle.rs_scope.specs.Scope.{named_count, column_index_of, unqualified, column_kind, param_kind, aliases_of, query_scope}
+use Rattle.rs_scope.specs.Denials.{Test, test, column_tests, param_test, clauses_tests}
 
 -- ---- SELECT
 

@@ -7,8 +7,8 @@ use Rattle.rs_ast.specs.declared.entry.Column.{Column}
 use Rattle.rs_ast.specs.declared.entry.Entry.{Entry}
 use Rattle.rs_ast.specs.declared.stmt.Dml.{Dml}
 use Rattle.rs_ast.specs.declared.stmt.Dml.TheVariants as dmls
-use Rattle.rs_bind.specs.declared.heading.Heading.{Heading}
-use Rattle.rs_bind.specs.declared.scope.Param.{Param}
+use Rattle.rs_scope.specs.declared.heading.Heading.{Heading}
+use Rattle.rs_scope.specs.declared.scope.Param.{Param}
 
 abbrev pub defined : Column → ColDef
 defined column = record { name = column.name; kind = column.kind }

@@ -3,17 +3,12 @@
 ghost use Rattle.std.specs.Prelude.{◌≡◌, ◌==◌, not, [], ◌∷◌, flat_map, bytes_eq};
 ghost use Rattle.std.specs.List.{list_all, list_any, zip};
 ghost use Rattle.rs_bind.specs.Denials as spec;
-ghost use Rattle.rs_bind.specs.Scope as named;
+ghost use Rattle.rs_scope.specs.Denials as denials;
+ghost use Rattle.rs_scope.specs.Scope as named;
 
-use crate::clause_denials::clauses_denial;
-use crate::columns::{column_kind, named_count, unqualified};
-use crate::first_denial::first_denial;
-use crate::kinds::kinds_fit;
-use crate::name_denials::{denial_if, param_denial};
-use crate::params::param_kind;
-use crate::scope::{Param, ScopeColumn};
 use rs_ast::{Clause, Expr, Set, Term, TermRow};
 use rs_base::{Denial, Ident, Kind};
+use rs_scope::{Param, ScopeColumn, clauses_denial, column_kind, denial_if, first_denial, kinds_fit, named_count, param_denial, param_kind, unqualified};
 
 fn given_kind(params: &[Param], term: &Term) -> Option<Kind>
     ensures { result ≡ spec.given_kind params.now term.now }
@@ -57,7 +52,7 @@ fn row_fits(scope: &[ScopeColumn], params: &[Param], row: &[Term]) -> bool
 }
 
 fn given_denial(params: &[Param], term: &Term) -> Option<Denial>
-    ensures { result ≡ spec.first_denial (spec.given_tests params.now term.now) }
+    ensures { result ≡ denials.first_denial (spec.given_tests params.now term.now) }
 {
     match term {
         Term::Col(_) => None,
@@ -67,13 +62,13 @@ fn given_denial(params: &[Param], term: &Term) -> Option<Denial>
 }
 
 fn givens_denial(params: &[Param], row: &[Term]) -> Option<Denial>
-    ensures { result ≡ spec.first_denial (flat_map (spec.given_tests params.now) row.now) }
+    ensures { result ≡ denials.first_denial (flat_map (spec.given_tests params.now) row.now) }
 {
     first_denial(row, |term| given_denial(params, term))
 }
 
 fn terms_denial(scope: &[ScopeColumn], params: &[Param], row: &[Term]) -> Option<Denial>
-    ensures { result ≡ spec.first_denial (spec.row_tests scope.now params.now row.now) }
+    ensures { result ≡ denials.first_denial (spec.row_tests scope.now params.now row.now) }
 {
     denial_if(!row_fits(scope, params, row), Denial::WrongType).or_else(|| givens_denial(
         params, row,
@@ -87,7 +82,7 @@ pub(crate) fn insert_denial(
     params: &[Param],
     rows: &[TermRow],
 ) -> Option<Denial>
-    ensures { result ≡ spec.first_denial (spec.insert_tests rows.now scope.now params.now) }
+    ensures { result ≡ denials.first_denial (spec.insert_tests rows.now scope.now params.now) }
 {
     first_denial(rows, |row| terms_denial(scope, params, row.as_slice()))
 }
@@ -99,7 +94,7 @@ fn is_absent(scope: &[ScopeColumn], column: Ident) -> bool
 }
 
 fn term_denial(scope: &[ScopeColumn], params: &[Param], term: &Term) -> Option<Denial>
-    ensures { result ≡ spec.first_denial (spec.term_tests scope.now params.now term.now) }
+    ensures { result ≡ denials.first_denial (spec.term_tests scope.now params.now term.now) }
 {
     match term {
         Term::Col(column) => denial_if(is_absent(scope, *column), Denial::NoColumn),
@@ -109,7 +104,7 @@ fn term_denial(scope: &[ScopeColumn], params: &[Param], term: &Term) -> Option<D
 }
 
 fn more_denial(scope: &[ScopeColumn], params: &[Param], expr: &Expr) -> Option<Denial>
-    ensures { result ≡ spec.first_denial (spec.more_tests scope.now params.now expr.now.more) }
+    ensures { result ≡ denials.first_denial (spec.more_tests scope.now params.now expr.now.more) }
 {
     match &expr.more {
         None => None,
@@ -156,7 +151,7 @@ fn is_set(before: &[Set], column: Ident) -> bool
 }
 
 fn set_column_denial(scope: &[ScopeColumn], before: &[Set], set: &Set) -> Option<Denial>
-    ensures { result ≡ spec.first_denial (spec.test (named.named_count scope.now (named.unqualified set.now.column) == 0) Denial.NoColumn ∷ spec.test (list_any (λ other. bytes_eq other.column set.now.column) before.now) Denial.TwoColumns ∷ []) }
+    ensures { result ≡ denials.first_denial (denials.test (named.named_count scope.now (named.unqualified set.now.column) == 0) Denial.NoColumn ∷ denials.test (list_any (λ other. bytes_eq other.column set.now.column) before.now) Denial.TwoColumns ∷ []) }
 {
     if is_absent(scope, set.column) {
         Some(Denial::NoColumn)
@@ -168,14 +163,14 @@ fn set_column_denial(scope: &[ScopeColumn], before: &[Set], set: &Set) -> Option
 }
 
 fn set_kind_denial(scope: &[ScopeColumn], params: &[Param], set: &Set) -> Option<Denial>
-    ensures { result ≡ spec.first_denial (spec.test (not (spec.expr_fits scope.now params.now (named.column_kind scope.now (named.unqualified set.now.column)) set.now.expr.first set.now.expr.more)) Denial.WrongType ∷ []) }
+    ensures { result ≡ denials.first_denial (denials.test (not (spec.expr_fits scope.now params.now (named.column_kind scope.now (named.unqualified set.now.column)) set.now.expr.first set.now.expr.more)) Denial.WrongType ∷ []) }
 {
     denial_if(!set_fits(scope, params, set), Denial::WrongType)
 }
 
 /// Returns the first denial of assignments: a column that isn't there, or is assigned before; its terms; their kinds.
 fn set_denial(scope: &[ScopeColumn], params: &[Param], before: &[Set], set: &Set) -> Option<Denial>
-    ensures { result ≡ spec.first_denial (spec.set_tests scope.now params.now before.now set.now) }
+    ensures { result ≡ denials.first_denial (spec.set_tests scope.now params.now before.now set.now) }
 {
     set_column_denial(scope, before, set)
         .or_else(|| term_denial(scope, params, &set.expr.first))
@@ -184,7 +179,7 @@ fn set_denial(scope: &[ScopeColumn], params: &[Param], before: &[Set], set: &Set
 }
 
 fn sets_denial(scope: &[ScopeColumn], params: &[Param], sets: &[Set]) -> Option<Denial>
-    ensures { result ≡ spec.first_denial (spec.sets_tests scope.now params.now [] sets.now) }
+    ensures { result ≡ denials.first_denial (spec.sets_tests scope.now params.now [] sets.now) }
 {
     for (at, set) in sets.iter().enumerate() {
         let denial = set_denial(scope, params, &sets[..at], set);
@@ -202,7 +197,7 @@ pub(crate) fn update_denial(
     sets: &[Set],
     clauses: &[Clause],
 ) -> Option<Denial>
-    ensures { result ≡ spec.first_denial (spec.update_tests sets.now clauses.now scope.now params.now) }
+    ensures { result ≡ denials.first_denial (spec.update_tests sets.now clauses.now scope.now params.now) }
 {
     sets_denial(scope, params, sets).or_else(|| clauses_denial(scope, params, clauses))
 }

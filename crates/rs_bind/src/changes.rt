@@ -4,15 +4,11 @@ ghost use Rattle.std.specs.Prelude.{◌≡◌, IfOk};
 ghost use Rattle.rs_bind.specs.Binding as spec;
 
 use crate::change_denials::{insert_denial, update_denial};
-use crate::clause_denials::clauses_denial;
-use crate::clauses::bound_clauses;
-use crate::heading::Heading;
-use crate::scope::Param;
-use crate::scopes::table_scope;
 use crate::terms::{bound_rows, bound_sets};
 use rs_ast::{Clause, Set, TermRow};
 use rs_base::{Denial, NoMemory};
 use rs_plan::Bound;
+use rs_scope::{Heading, Param, bound_clauses, clauses_denial, table_scope};
 use std::alloc::Global;
 
 /// Binds an INSERT into the table, or returns its denial: row by row, the number of its terms and their kinds, and then

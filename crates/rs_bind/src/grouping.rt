@@ -4,9 +4,8 @@ ghost use Rattle.std.specs.Prelude.{◌≡◌};
 ghost use Rattle.std.specs.List.{list_any, list_all};
 ghost use Rattle.rs_bind.specs.Denials as spec;
 
-use crate::columns::column_index_of;
-use crate::scope::ScopeColumn;
 use rs_ast::{ColRef, Item, Select};
+use rs_scope::{ScopeColumn, column_index_of};
 
 fn is_aggregate(item: &Item) -> bool
     ensures { result ≡ spec.is_aggregate item.now }

@@ -5,8 +5,8 @@ ghost use Rattle.std.specs.List.{list_any, list_all};
 ghost use Rattle.rs_bind.specs.Denials as spec;
 
 use crate::grouping::is_same_column;
-use crate::scope::ScopeColumn;
 use rs_ast::{ColRef, Item, Key, KeyBy, Select};
+use rs_scope::ScopeColumn;
 
 fn is_item_of(scope: &[ScopeColumn], written: &ColRef, item: &Item) -> bool
     ensures { result ≡ spec.is_item_of scope.now written.now item.now }

@@ -2,18 +2,15 @@
 
 ghost use Rattle.std.specs.Prelude.{◌≡◌, map, length, IfOk};
 ghost use Rattle.rs_bind.specs.Binding as spec;
-ghost use Rattle.rs_bind.specs.Scope.{as_u16 as u16_of};
+ghost use Rattle.rs_scope.specs.Predicates as predicates;
+ghost use Rattle.rs_scope.specs.Scope.{as_u16 as u16_of};
 
-use crate::clauses::bound_clauses;
-use crate::heading::Heading;
-use crate::numbers::as_u16;
-use crate::scope::{Param, ScopeColumn};
-use crate::scopes::{aliases_of, query_scope};
 use crate::select_denials::select_denial;
 use crate::shape::shape_of;
 use rs_ast::{Idents, Places, Select};
 use rs_base::{Denial, NoMemory, with_room};
 use rs_plan::{Bound, Swns};
+use rs_scope::{Heading, Param, ScopeColumn, aliases_of, as_u16, bound_clauses, query_scope};
 use std::alloc::Global;
 
 fn names_of(alloc: Global, headings: &[Heading]) -> Result<Swns, NoMemory>
@@ -45,7 +42,7 @@ fn bound_select(
     headings: &[Heading],
     params: &[Param],
 ) -> Result<Bound, NoMemory>
-    ensures { IfOk result (λ bound. bound ≡ Bound.Select (map (λ heading. heading.name) headings.now) aliases (map (λ heading. u16_of (length heading.columns)) headings.now) (spec.bound_clauses scope.now params.now select.now.clauses) (spec.shape_of scope.now select.now)) }
+    ensures { IfOk result (λ bound. bound ≡ Bound.Select (map (λ heading. heading.name) headings.now) aliases (map (λ heading. u16_of (length heading.columns)) headings.now) (predicates.bound_clauses scope.now params.now select.now.clauses) (spec.shape_of scope.now select.now)) }
 {
     Ok(Bound::Select {
         names: names_of(alloc, headings)?,

@@ -3,19 +3,15 @@
 ghost use Rattle.std.specs.Prelude.{◌≡◌, [], ◌∷◌, ◌++◌, not, flat_map, bytes_eq};
 ghost use Rattle.std.specs.List.{list_any};
 ghost use Rattle.rs_bind.specs.Denials as spec;
-ghost use Rattle.rs_bind.specs.Scope as named;
+ghost use Rattle.rs_scope.specs.Denials as denials;
+ghost use Rattle.rs_scope.specs.Scope as named;
 ghost use Rattle.rs_plan.specs.Kinds as kinds;
 
-use crate::clause_denials::clauses_denial;
-use crate::columns::column_kind;
-use crate::first_denial::first_denial;
 use crate::grouping::{is_grouped, shows_group};
 use crate::item_keys::names_items;
-use crate::kinds::kinds_fit;
-use crate::name_denials::{column_denial, denial_if};
-use crate::scope::{Param, ScopeColumn};
 use rs_ast::{ColRef, Item, Key, KeyBy, Select};
 use rs_base::{Denial, Ident, Kind};
+use rs_scope::{Param, ScopeColumn, clauses_denial, column_denial, column_kind, denial_if, first_denial, kinds_fit};
 
 fn sums_integers(scope: &[ScopeColumn], written: &ColRef) -> bool
     ensures { result ≡ kinds.kinds_fit (Some Kind.Int) (named.column_kind scope.now written.now) }
@@ -24,7 +20,7 @@ fn sums_integers(scope: &[ScopeColumn], written: &ColRef) -> bool
 }
 
 fn sum_denial(scope: &[ScopeColumn], written: &ColRef) -> Option<Denial>
-    ensures { result ≡ spec.first_denial (spec.item_tests scope.now (Item.Sum written.now)) }
+    ensures { result ≡ denials.first_denial (spec.item_tests scope.now (Item.Sum written.now)) }
 {
     column_denial(scope, written).or_else(|| denial_if(
         !sums_integers(scope, written),
@@ -33,7 +29,7 @@ fn sum_denial(scope: &[ScopeColumn], written: &ColRef) -> Option<Denial>
 }
 
 fn item_denial(scope: &[ScopeColumn], item: &Item) -> Option<Denial>
-    ensures { result ≡ spec.first_denial (spec.item_tests scope.now item.now) }
+    ensures { result ≡ denials.first_denial (spec.item_tests scope.now item.now) }
 {
     match item {
         Item::Col(written) => column_denial(scope, written),
@@ -45,13 +41,13 @@ fn item_denial(scope: &[ScopeColumn], item: &Item) -> Option<Denial>
 }
 
 fn shown_denial(scope: &[ScopeColumn], shown: &[Item]) -> Option<Denial>
-    ensures { result ≡ spec.first_denial (flat_map (spec.item_tests scope.now) shown.now) }
+    ensures { result ≡ denials.first_denial (flat_map (spec.item_tests scope.now) shown.now) }
 {
     first_denial(shown, |item| item_denial(scope, item))
 }
 
 fn items_denial(scope: &[ScopeColumn], select: &Select) -> Option<Denial>
-    ensures { result ≡ spec.first_denial (spec.items_tests scope.now select.now.items) }
+    ensures { result ≡ denials.first_denial (spec.items_tests scope.now select.now.items) }
 {
     match &select.items {
         None => None,
@@ -60,13 +56,13 @@ fn items_denial(scope: &[ScopeColumn], select: &Select) -> Option<Denial>
 }
 
 fn columns_denial(scope: &[ScopeColumn], columns: &[ColRef]) -> Option<Denial>
-    ensures { result ≡ spec.first_denial (flat_map (spec.column_tests scope.now) columns.now) }
+    ensures { result ≡ denials.first_denial (flat_map (denials.column_tests scope.now) columns.now) }
 {
     first_denial(columns, |written| column_denial(scope, written))
 }
 
 fn key_denial(scope: &[ScopeColumn], key: &Key) -> Option<Denial>
-    ensures { result ≡ spec.first_denial (spec.key_tests scope.now key.now.by) }
+    ensures { result ≡ denials.first_denial (spec.key_tests scope.now key.now.by) }
 {
     match &key.by {
         KeyBy::Col(written) => column_denial(scope, written),
@@ -75,14 +71,14 @@ fn key_denial(scope: &[ScopeColumn], key: &Key) -> Option<Denial>
 }
 
 fn order_denial(scope: &[ScopeColumn], select: &Select) -> Option<Denial>
-    ensures { result ≡ spec.first_denial (flat_map (λ key. spec.key_tests scope.now key.by) select.now.order) }
+    ensures { result ≡ denials.first_denial (flat_map (λ key. spec.key_tests scope.now key.by) select.now.order) }
 {
     first_denial(select.order.as_slice(), |key| key_denial(scope, key))
 }
 
 /// Returns the first denial of a query's columns and comparisons, in the order of the text.
 fn names_denial(scope: &[ScopeColumn], params: &[Param], select: &Select) -> Option<Denial>
-    ensures { result ≡ spec.first_denial (spec.names_tests scope.now params.now select.now) }
+    ensures { result ≡ denials.first_denial (spec.names_tests scope.now params.now select.now) }
 {
     items_denial(scope, select)
         .or_else(|| clauses_denial(scope, params, select.clauses.as_slice()))
@@ -107,7 +103,7 @@ fn all_differ(names: &[Ident]) -> bool
 }
 
 fn grouping_denial(scope: &[ScopeColumn], select: &Select) -> Option<Denial>
-    ensures { result ≡ spec.first_denial (spec.grouping_test scope.now select.now ∷ []) }
+    ensures { result ≡ denials.first_denial (spec.grouping_test scope.now select.now ∷ []) }
 {
     denial_if(
         is_grouped(select) && !shows_group(scope, select),
@@ -116,7 +112,7 @@ fn grouping_denial(scope: &[ScopeColumn], select: &Select) -> Option<Denial>
 }
 
 fn keys_denial(scope: &[ScopeColumn], select: &Select) -> Option<Denial>
-    ensures { result ≡ spec.first_denial (spec.keys_tests scope.now select.now) }
+    ensures { result ≡ denials.first_denial (spec.keys_tests scope.now select.now) }
 {
     denial_if(!names_items(scope, select), Denial::NoColumn)
 }
@@ -128,7 +124,7 @@ pub(crate) fn select_denial(
     params: &[Param],
     select: &Select,
 ) -> Option<Denial>
-    ensures { result ≡ spec.first_denial (spec.test (not (spec.all_differ aliases.now)) Denial.TwoColumns ∷ spec.names_tests scope.now params.now select.now ++ spec.grouping_test scope.now select.now ∷ spec.keys_tests scope.now select.now) }
+    ensures { result ≡ denials.first_denial (denials.test (not (spec.all_differ aliases.now)) Denial.TwoColumns ∷ spec.names_tests scope.now params.now select.now ++ spec.grouping_test scope.now select.now ∷ spec.keys_tests scope.now select.now) }
 {
     denial_if(!all_differ(aliases), Denial::TwoColumns)
         .or_else(|| names_denial(scope, params, select))

@@ -3,16 +3,12 @@
 ghost use Rattle.std.specs.Prelude.{◌≡◌, map, position, IfOk, None};
 ghost use Rattle.std.specs.List.{position_or_len};
 ghost use Rattle.rs_bind.specs.Binding as spec;
-ghost use Rattle.rs_bind.specs.Scope.{column_index_of as index_named};
+ghost use Rattle.rs_scope.specs.Scope.{column_index_of as index_named};
 
-use crate::columns::column_index_of;
 use crate::grouping::is_grouped;
-use crate::numbers::as_u16;
-use crate::scope::ScopeColumn;
-use rs_ast::{
-    ColRef, Item, Key, KeyBy, Places, Select, Shape, ShapeItem, ShapeItems, ShapeKey, ShapeKeys,
-};
+use rs_ast::{ColRef, Item, Key, KeyBy, Places, Select, Shape, ShapeItem, ShapeItems, ShapeKey, ShapeKeys};
 use rs_base::{NoMemory, with_room};
+use rs_scope::{ScopeColumn, as_u16, column_index_of};
 use std::alloc::Global;
 
 fn shape_item(scope: &[ScopeColumn], item: &Item) -> ShapeItem
@@ -96,7 +92,7 @@ fn position_of(shown: &[ShapeItem], column_index: u16) -> Option<usize>
 }
 
 /// Returns the first item that is the column of this index.
-#[tactic(auto, using(crate::proofs::Positions::position_or_end))]
+#[tactic(auto, using(rs_scope::proofs::Positions::position_or_end))]
 fn item_of(shown: &[ShapeItem], column_index: u16) -> usize
     ensures { result ≡ position_or_len (spec.shows_column column_index) shown.now }
 {

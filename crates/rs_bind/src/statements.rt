@@ -8,12 +8,11 @@ ghost use Rattle.rs_bind.specs.Entries as spec;
 
 use crate::changes::{bind_delete, bind_insert, bind_update};
 use crate::definitions::column_defs;
-use crate::heading::{Heading, Headings};
 use crate::queries::bind_select;
-use crate::scope::{Param, Params};
 use rs_ast::{Dml, Entry};
 use rs_base::{Denial, Ident, NoMemory, Swn, Value, with_room};
 use rs_plan::Bound;
+use rs_scope::{Heading, Headings, Param, Params};
 use std::alloc::Global;
 
 /// Returns the columns of an entry, as a statement sees them.

@@ -2,7 +2,7 @@
 use Rattle.std.proofs.Common.{◌<◌, ◌≤◌, ◌^◌, ℤ, pos, negsuc, Option, Some, None, IsTrue, SomeIff, FitsSigned, w64, leb, sym, ◌∙◌, arith, leb-true}
 use Rattle.std.proofs.lemmas.Bool.{le-leb}
 use Rattle.std.proofs.Math.Bool.{and-true}
-use Rattle.rs_eval.specs.Integers.{is_i64}
+use Rattle.rs_base.specs.Integers.{is_i64}
 
 pub fits_from_test : (z : ℤ) → IsTrue (is_i64 z) → FitsSigned w64 z
 unfolding is_i64

@@ -1,5 +1,4 @@
-pub mod Extensions
-pub mod Finding
 pub mod IntegerLaws
-pub mod Refuted
+mod Matching
 pub mod Sets
+mod UpdatedRows

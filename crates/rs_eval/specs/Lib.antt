@@ -1,7 +1,7 @@
 pub mod Clauses
-pub mod Extending
 pub mod Filling
 pub mod Integers
-pub mod Joined
-pub mod Refuting
+pub mod Limits
+pub mod RowChanges
 pub mod Setting
+pub mod Updating

@@ -9,18 +9,14 @@ use Rattle.rs_ast.specs.declared.bound.BoundSet.{BoundSet}
 use Rattle.rs_ast.specs.declared.bound.BoundTerm.{BoundTerm}
 use Rattle.rs_ast.specs.declared.bound.BoundTerm.TheVariants as terms
 use Rattle.rs_ast.specs.declared.change.Arith.{Arith}
-use Rattle.rs_eval.specs.Integers.{is_i64, computed}
+use Rattle.rs_base.specs.Integers.{is_i64, integer_of}
+use Rattle.rs_eval.specs.Integers.{computed}
 
 -- the value of a term; 0 for a column index or a parameter that has none
 abbrev pub term_value : List Value → List Value → BoundTerm → Value
 term_value given row (terms.Place column_index) = unwrap_or (slice_get row column_index) (values.Int (pos 0))
 term_value given row (terms.Lit value) = value
 term_value given row (terms.Param param) = unwrap_or (slice_get given param) (values.Int (pos 0))
-
--- the integer that a value is; 0 for a text
-abbrev pub integer_of : Value → ℤ
-integer_of (values.Int z) = z
-integer_of (values.Text text) = pos 0
 
 -- the value of the first term, or what is computed of both
 abbrev pub combined : Value → Option (Arith × Value) → Value

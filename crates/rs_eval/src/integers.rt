@@ -1,7 +1,8 @@
 //! Arithmetic on integers of 64 bits.
 
 ghost use Rattle.std.specs.Prelude.{IsTrue, SomeIff};
-ghost use Rattle.rs_eval.specs.Integers.{is_i64, computed};
+ghost use Rattle.rs_base.specs.Integers.{is_i64};
+ghost use Rattle.rs_eval.specs.Integers.{computed};
 
 use rs_ast::Arith;
 

@@ -1,15 +1,16 @@
-//! Evaluation of bound predicates, assignments and joins.
+//! Evaluation of bound predicates and assignments, and the changes of a table's rows.
 #![tactic(auto)]
 
 mod clauses;
 mod filling;
 mod integers;
-mod joined;
-mod refuting;
+mod limits;
+mod row_changes;
 mod setting;
 
 pub use clauses::{allows, holds};
 pub use filling::fill;
 pub use integers::compute;
-pub use joined::{MAX_JOINED, joined_rows};
+pub use limits::{MAX_ROW_BYTES, MAX_ROWS, MAX_TABLE_BYTES};
+pub use row_changes::{inserted, matching_count, other_rows, updated};
 pub use setting::{set_row, term_value};

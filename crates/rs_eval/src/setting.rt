@@ -2,6 +2,7 @@
 
 ghost use Rattle.std.specs.Prelude.{◌≡◌, IfOk, IsTrue, SomeIff, pos, slice_set, unwrap_or};
 ghost use Rattle.std.specs.Option.{option_copied};
+ghost use Rattle.rs_base.specs.Integers as numbers;
 ghost use Rattle.rs_eval.specs.Setting as spec;
 
 use crate::integers::compute;
@@ -36,7 +37,7 @@ pub fn term_value(
 }
 
 fn integer_of(value: &Value) -> i64
-    ensures { result ≡ spec.integer_of value.now }
+    ensures { result ≡ numbers.integer_of value.now }
 {
     match value {
         Value::Int(integer) => *integer,
@@ -45,7 +46,7 @@ fn integer_of(value: &Value) -> i64
 }
 
 fn integer_or_zero(value: Option<&Value>) -> i64
-    ensures { result ≡ spec.integer_of (unwrap_or (option_copied value.entry) (Value.Int (pos 0))) }
+    ensures { result ≡ numbers.integer_of (unwrap_or (option_copied value.entry) (Value.Int (pos 0))) }
 {
     match value {
         Some(value) => integer_of(value),
@@ -55,7 +56,7 @@ fn integer_or_zero(value: Option<&Value>) -> i64
 
 /// Returns the integer that the value of a term is, or 0.
 fn operand(values: &[Value], row: &[Value], term: &BoundTerm) -> i64
-    ensures { result ≡ spec.integer_of (spec.term_value values.now row.now term.now) }
+    ensures { result ≡ numbers.integer_of (spec.term_value values.now row.now term.now) }
 {
     match term {
         BoundTerm::Place(column_index) => integer_or_zero(row.get(usize::from(*column_index))),

@@ -1,7 +1,4 @@
-mod Counts
 pub mod Entries
-mod Matching
 pub mod Orders
-mod Selects
-mod UpdatedRows
+pub mod Selects
 mod Written

@@ -4,9 +4,10 @@ use Rattle.rs_base.specs.declared.reply.Denial.{Denial}
 use Rattle.rs_ast.specs.declared.select.Select.{Select}
 use Rattle.rs_plan.specs.declared.bound.Bound.{Bound}
 use Rattle.rs_bind.specs.Binding.{select_bound, bound_select, unless_denied}
-use Rattle.rs_bind.specs.Denials.{first_denial, select_tests}
-use Rattle.rs_bind.specs.declared.heading.Heading.{Heading}
-use Rattle.rs_bind.specs.declared.scope.Param.{Param}
+use Rattle.rs_bind.specs.Denials.{select_tests}
+use Rattle.rs_scope.specs.Denials.{first_denial}
+use Rattle.rs_scope.specs.declared.heading.Heading.{Heading}
+use Rattle.rs_scope.specs.declared.scope.Param.{Param}
 use Rattle.rs_mean.specs.Queries.{IsSelect}
 
 unless_denied-select : (answered : Option Denial) (given bound : Bound) → IsSelect given → Ok bound ≡ unless_denied answered given → IsSelect bound

@@ -4,7 +4,7 @@ use Rattle.rs_base.specs.declared.name.NameText.{NameText}
 use Rattle.rs_base.specs.declared.name.Swn.{Swn}
 use Rattle.rs_base.specs.declared.reply.Denial.TheVariants as denials
 use Rattle.rs_name.specs.Resolving.{resolved}
-use Rattle.rs_bind.specs.Denials.{Test, test}
+use Rattle.rs_scope.specs.Denials.{Test, test}
 use Rattle.rs_mean.specs.declared.execution.Execution.{Execution}
 use Rattle.rs_mean.specs.declared.synonym.Synonym.{Synonym}
 use Rattle.rs_mean.specs.Database.{Database, table_named, target_of}

@@ -10,16 +10,14 @@ use Rattle.rs_ast.specs.declared.change.Set.{Set}
 use Rattle.rs_ast.specs.declared.change.Term.{Term}
 use Rattle.rs_ast.specs.declared.clause.Clause.{Clause}
 use Rattle.rs_ast.specs.declared.select.Select.{Select}
-use Rattle.rs_ast.specs.declared.shape.Shape.{Shape}
 use Rattle.rs_ast.specs.declared.stmt.Dml.{Dml}
 use Rattle.rs_ast.specs.declared.stmt.Dml.TheVariants as dmls
 use Rattle.rs_plan.specs.declared.bound.Bound.{Bound}
 use Rattle.rs_plan.specs.declared.bound.Bound.TheVariants as bounds
 use Rattle.rs_bind.specs.Binding.{select_bound, insert_bound, update_bound, delete_bound}
-use Rattle.rs_bind.specs.Denials.{Test, first_denial}
-use Rattle.rs_bind.specs.declared.heading.Heading.{Heading}
-use Rattle.rs_eval.specs.Joined.{joined_within}
-use Rattle.rs_answer.specs.Answer.{answer_of}
+use Rattle.rs_scope.specs.Denials.{Test, first_denial}
+use Rattle.rs_scope.specs.declared.heading.Heading.{Heading}
+use Rattle.rs_join.specs.Selected.{selected}
 use Rattle.rs_mean.specs.declared.change.Change.TheVariants as changes
 use Rattle.rs_mean.specs.declared.change.Effect.{Effect}
 use Rattle.rs_mean.specs.declared.execution.Execution.{Execution}
@@ -27,7 +25,7 @@ use Rattle.rs_mean.specs.declared.table.Table.{Table}
 use Rattle.rs_mean.specs.Database.{Database, table_named}
 use Rattle.rs_mean.specs.Effects.{done, denied, unless_denied}
 use Rattle.rs_mean.specs.Names.{name_of, table_tests}
-use Rattle.rs_mean.specs.RowChanges.{inserted, updated, other_rows, matching_count}
+use Rattle.rs_eval.specs.RowChanges.{inserted, updated, other_rows, matching_count}
 use Rattle.rs_mean.specs.TableStatements.{columns_of}
 
 -- ---- tables of a database
@@ -43,15 +41,6 @@ abbrev pub heading_in : Database → Swn → Heading
 heading_in db name = record { name = name; columns = columns_of (table_named name db) }
 
 -- ---- bound statements
-
--- the joined rows, and the answer from them
-abbrev pub answer_from : Shape → Result (List (List Value)) Denial → Result (List (List Value)) Denial
-answer_from shape (Ok joined) = answer_of shape joined
-answer_from shape (Err cause) = Err cause
-
--- the rows that a query answers, TooManyRows or Overflow
-abbrev pub selected : List (List BoundCmp) → Shape → List (List (List Value)) → Result (List (List Value)) Denial
-selected clauses shape tables = answer_from shape (joined_within clauses tables)
 
 abbrev pub answering : Result (List (List Value)) Denial → Effect
 answering (Ok rows) = done changes.Nothing (answers.Rows rows)

@@ -7,8 +7,8 @@ use Rattle.rs_base.specs.declared.reply.Answer.TheVariants as answers
 use Rattle.rs_base.specs.declared.reply.Denial.TheVariants as denials
 use Rattle.rs_ast.specs.declared.column.ColDef.{ColDef}
 use Rattle.rs_ast.specs.declared.entry.IndexOf.{IndexOf}
-use Rattle.rs_bind.specs.Denials.{Test, test, first_denial}
-use Rattle.rs_bind.specs.Scope.{as_position}
+use Rattle.rs_scope.specs.Denials.{Test, test, first_denial}
+use Rattle.rs_scope.specs.Scope.{as_position}
 use Rattle.rs_mean.specs.declared.change.Effect.{Effect}
 use Rattle.rs_mean.specs.declared.change.Change.TheVariants as changes
 use Rattle.rs_mean.specs.declared.execution.Execution.{Execution}

@@ -1,7 +1,7 @@
 //! CREATE INDEX and DROP INDEX.
 
 ghost use Rattle.std.specs.Prelude.{◌≡◌, ◌++◌, [], ◌∷◌, position, bytes_eq, IfOk};
-ghost use Rattle.rs_bind.specs.Denials.{first_denial};
+ghost use Rattle.rs_scope.specs.Denials.{first_denial};
 ghost use Rattle.rs_mean.specs.Database.{table_named};
 ghost use Rattle.rs_mean.specs.TableStatements as spec;
 
@@ -10,7 +10,7 @@ use crate::columns::has_name;
 use crate::database::Database;
 use rs_ast::{ColDef, IndexOf, IndexOfs};
 use rs_base::{Answer, Denial, Ident, NoMemory, Swn, Txn, with_room};
-use rs_bind::as_position;
+use rs_scope::as_position;
 use std::alloc::Global;
 
 fn position_of(columns: &[ColDef], name: Ident) -> Option<usize>

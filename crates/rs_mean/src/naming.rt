@@ -1,7 +1,7 @@
 //! What the names in a statement refer to, and when one can't be used.
 
 ghost use Rattle.std.specs.Prelude.{◌≡◌, [], ◌∷◌};
-ghost use Rattle.rs_bind.specs.Denials.{first_denial};
+ghost use Rattle.rs_scope.specs.Denials.{first_denial};
 ghost use Rattle.rs_mean.specs.Names as spec;
 
 use crate::database::Database;

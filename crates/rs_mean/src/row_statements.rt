@@ -1,7 +1,7 @@
 //! Statements on rows.
 
 ghost use Rattle.std.specs.Prelude.{◌≡◌, [], ◌∷◌, flat_map, map, IfOk};
-ghost use Rattle.rs_bind.specs.Denials.{first_denial};
+ghost use Rattle.rs_scope.specs.Denials.{first_denial};
 ghost use Rattle.rs_mean.specs.Names.{name_of, table_tests};
 ghost use Rattle.rs_mean.specs.RowStatements as spec;
 
@@ -12,9 +12,10 @@ use crate::database::Database;
 use crate::execution::Execution;
 use rs_ast::{Clause, Dml, Select, Set, TableRef, TermRow};
 use rs_base::{Denial, NameText, NoMemory, Swn, with_room};
-use rs_bind::{Heading, Headings, bind_delete, bind_insert, bind_select, bind_update};
+use rs_bind::{bind_delete, bind_insert, bind_select, bind_update};
 use rs_plan::{Bound, Swns};
 use rs_rows::{RowRun, StoredRows};
+use rs_scope::{Heading, Headings};
 use std::alloc::Global;
 
 impl Database {

@@ -1,7 +1,7 @@
 //! CREATE SYNONYM and DROP SYNONYM.
 
 ghost use Rattle.std.specs.Prelude.{◌≡◌, IfOk};
-ghost use Rattle.rs_bind.specs.Denials.{first_denial};
+ghost use Rattle.rs_scope.specs.Denials.{first_denial};
 ghost use Rattle.rs_mean.specs.TableStatements as spec;
 
 use crate::change::{Change, Effect};

@@ -10,12 +10,12 @@ use Rattle.rs_ast.specs.declared.clause.Op.TheVariants as ops
 use Rattle.rs_ast.specs.declared.clause.Operand.{Operand}
 use Rattle.rs_ast.specs.declared.clause.Operand.TheVariants as operands
 use Rattle.rs_ast.specs.declared.column.ColRef.{ColRef}
-use Rattle.rs_ast.specs.declared.token.Symbol.{Symbol}
-use Rattle.rs_ast.specs.declared.token.Symbol.TheVariants as symbols
-use Rattle.rs_ast.specs.declared.token.Token.{Token}
-use Rattle.rs_ast.specs.declared.token.Token.TheVariants as tokens
-use Rattle.rs_ast.specs.Token.{is_symbol, is_word, same_symbol}
-use Rattle.rs_ast.proofs.TokenLaws.{is_symbol_self, is_word_self, is_word_is}
+use Rattle.rs_token.specs.declared.token.Symbol.{Symbol}
+use Rattle.rs_token.specs.declared.token.Symbol.TheVariants as symbols
+use Rattle.rs_token.specs.declared.token.Token.{Token}
+use Rattle.rs_token.specs.declared.token.Token.TheVariants as tokens
+use Rattle.rs_token.specs.Token.{is_symbol, is_word, same_symbol}
+use Rattle.rs_token.proofs.TokenLaws.{is_symbol_self, is_word_self, is_word_is}
 use Rattle.rs_parse.specs.Phrases.{Phrase, IsList}
 use Rattle.rs_parse.specs.Read.{begins, all_at}
 use Rattle.rs_parse.specs.Grammar.{IsColRef, IsColRefOf, IsLiteral, IsParam, IsOp, IsOperand, IsCmp, IsClause, IsWhere}

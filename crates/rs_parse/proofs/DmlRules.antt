@@ -6,11 +6,11 @@ use Rattle.rs_ast.specs.declared.change.Term.{Term}
 use Rattle.rs_ast.specs.declared.clause.Clause.{Clause}
 use Rattle.rs_ast.specs.declared.stmt.Dml.{Dml}
 use Rattle.rs_ast.specs.declared.stmt.Dml.TheVariants as dmls
-use Rattle.rs_ast.specs.declared.token.Symbol.TheVariants as symbols
-use Rattle.rs_ast.specs.declared.token.Token.{Token}
-use Rattle.rs_ast.specs.declared.token.Token.TheVariants as tokens
-use Rattle.rs_ast.specs.Token.{is_symbol, is_word, same_symbol}
-use Rattle.rs_ast.proofs.TokenLaws.{is_symbol_self, is_symbol_is}
+use Rattle.rs_token.specs.declared.token.Symbol.TheVariants as symbols
+use Rattle.rs_token.specs.declared.token.Token.{Token}
+use Rattle.rs_token.specs.declared.token.Token.TheVariants as tokens
+use Rattle.rs_token.specs.Token.{is_symbol, is_word, same_symbol}
+use Rattle.rs_token.proofs.TokenLaws.{is_symbol_self, is_symbol_is}
 use Rattle.rs_parse.specs.Phrases.{Phrase, IsSeries, AtMost}
 use Rattle.rs_parse.specs.Read.{begins, all_at}
 use Rattle.rs_parse.specs.Grammar.{IsName, IsTuple, IsSet, IsWhere, IsSelect, IsCommaList, IsDml, IsDmlEnded, IsBody}

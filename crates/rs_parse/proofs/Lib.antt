@@ -8,7 +8,4 @@ pub mod SelectRules
 pub mod DmlRules
 pub mod StmtRules
 pub mod ParseLaws
-pub mod Options
 pub mod Loops
-pub mod Scans
-pub mod Splits

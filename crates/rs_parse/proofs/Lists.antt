@@ -1,7 +1,7 @@
 -- Readers of lists: items with a separator between each two.
 use Rattle.std.proofs.Common.{◌≡◌, ℕ, zero, suc, ◌+◌, ◌<◌, ◌≤◌, Bool, true, false, cond, ◌||◌, List, [], ◌∷◌, ◌++◌, length, refl, ap, subst, ◌∙◌, arith, inl, inr}
 use Rattle.std.proofs.lemmas.List.{length-append}
-use Rattle.rs_ast.specs.declared.token.Token.{Token}
+use Rattle.rs_token.specs.declared.token.Token.{Token}
 use Rattle.rs_parse.specs.Phrases.{Phrase, After, IsSeries, IsList, AtMost}
 use Rattle.rs_parse.specs.Read.{Read, Got, Fault, ◌>>=◌, begins, pass_at, series_at, suffix_at, separated_at, all_at}
 use Rattle.rs_parse.proofs.Readers.{IsReader, got_value, got-fault, got_both, fault_of_both, Then, Made, IsToken, never, begins_never, reads_token, reads_then, reads_as}

@@ -1,6 +1,6 @@
 -- The loop that reads a list: the items so far, then those that are read in the remaining iterations.
 use Rattle.std.proofs.Common.{◌≡◌, ℕ, zero, suc, ◌+◌, ◌-◌, ◌<◌, ◌≤◌, Bool, true, false, List, [], ◌∷◌, ◌++◌, append_assoc, refl, sym, ap, ◌∙◌, arith, rules}
-use Rattle.rs_ast.specs.declared.token.Token.{Token}
+use Rattle.rs_token.specs.declared.token.Token.{Token}
 use Rattle.rs_parse.specs.Read.{Read, Got, Fault, ◌>>=◌, begins, series_at}
 
 abbrev pub with_prefix : {A : Type 0} → List A → Read (List A) → Read (List A)

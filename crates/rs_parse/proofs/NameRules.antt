@@ -9,19 +9,19 @@ use Rattle.rs_base.specs.declared.value.Kind.TheVariants as kinds
 use Rattle.rs_base.specs.declared.name.NameText.{NameText}
 use Rattle.rs_ast.specs.declared.column.ColDef.{ColDef}
 use Rattle.rs_ast.specs.declared.column.ColRef.{ColRef}
-use Rattle.rs_ast.specs.declared.token.Symbol.{Symbol}
-use Rattle.rs_ast.specs.declared.token.Symbol.TheVariants as symbols
-use Rattle.rs_ast.specs.declared.token.Token.{Token}
-use Rattle.rs_ast.specs.declared.token.Token.TheVariants as tokens
-use Rattle.rs_ast.specs.Reserved.{is_reserved}
-use Rattle.rs_ast.specs.Token.{is_symbol, is_word, same_symbol}
-use Rattle.rs_ast.proofs.TokenLaws.{is_symbol_self, is_symbol_is, is_word_self, is_word_is}
+use Rattle.rs_token.specs.declared.token.Symbol.{Symbol}
+use Rattle.rs_token.specs.declared.token.Symbol.TheVariants as symbols
+use Rattle.rs_token.specs.declared.token.Token.{Token}
+use Rattle.rs_token.specs.declared.token.Token.TheVariants as tokens
+use Rattle.rs_token.specs.Reserved.{is_reserved}
+use Rattle.rs_token.specs.Token.{is_symbol, is_word, same_symbol}
+use Rattle.rs_token.proofs.TokenLaws.{is_symbol_self, is_symbol_is, is_word_self, is_word_is}
 use Rattle.rs_parse.specs.Phrases.{Phrase, Optional}
 use Rattle.rs_parse.specs.Read.{Got, begins, either_at}
 use Rattle.rs_parse.specs.Grammar.{IsIdent, IsSite, IsKind, IsAtSite, IsName, IsNameOf, IsColRef, IsColRefOf, IsColumn}
 use Rattle.rs_parse.specs.Reader.{word_at, symbol_at, ident_of, ident_at, site_of, site_at, kind_of, kind_at, at_site_at, optional_site_at, created_at, unqualified_name, name_at, column_of_at, unqualified_column, col_ref_at, column_at}
 use Rattle.std.proofs.lemmas.List.{append-nil}
-use Rattle.rs_parse.proofs.Options.{barred}
+use Rattle.rs_token.proofs.Options.{barred}
 use Rattle.rs_parse.proofs.Readers.{IsReader, One, Then, Made, Either, Empty, IsToken, never, or_left, or_right, gives_before, reads_one, reads_token, reads_optional, then_reads, suffix_reads, made_reads, either_reads, as_reads, before_reads, token_begins, empty_begins, prefix_is_all}
 
 -- ---- single tokens

@@ -7,17 +7,17 @@ use Rattle.std.proofs.lemmas.Bool.{false≢true}
 use Rattle.std.proofs.lemmas.List.{append-nil, length-append}
 use Rattle.std.proofs.lemmas.Option.{slice_get_cases}
 use Rattle.rs_ast.specs.declared.stmt.Stmt.{Stmt}
-use Rattle.rs_ast.specs.declared.token.Token.{Token}
+use Rattle.rs_token.specs.declared.token.Token.{Token}
 use Rattle.rs_parse.specs.declared.parser.ParseFault.{ParseFault}
 use Rattle.rs_parse.specs.declared.parser.ParseFault.TheVariants as faults
-use Rattle.rs_parse.specs.Tokens.{split_of}
+use Rattle.rs_token.specs.Tokens.{split_of}
 use Rattle.rs_parse.specs.Grammar.{IsRequest}
 use Rattle.rs_parse.specs.Read.{Read, Got, Fault, ◌>>=◌}
 use Rattle.rs_parse.specs.Reader.{request_at, at_end, request_of}
 use Rattle.rs_parse.specs.Parsing.{Spells, SomeBegins, IsOffending, IsFault, AtToken, NoToken, AtEnd, Parsed, Statement, FaultAt, offset_of, judged, parsed_of, ParseGives}
 use Rattle.rs_parse.proofs.Readers.{Finds, got_value, got_rest, fault_rest, got-fault, fault-got, got_both, fault_of_both, nil-cons, prefix_is_all}
 use Rattle.rs_parse.proofs.StmtRules.{request_reads}
-use Rattle.rs_parse.proofs.Splits.{length-starts, end_of_whole}
+use Rattle.rs_token.proofs.Splits.{length-starts, end_of_whole}
 
 -- ---- tokens
 
@@ -112,9 +112,9 @@ parsed_spelled text stmt e = go (request_of (split_of text).tokens) refl e
         (g.0, subst (λ (s : Stmt). IsRequest s (split_of text).tokens) g.1 (whole_found (split_of text).tokens found rest r))
     go (Fault rest) r e = absurd (false≢true (ap is_statement e))
 
-pub spelled_parsed : (text : List ℕ) (stmt : Stmt) → Spells text stmt → parsed_of text ≡ Statement stmt
+pub unparsed_parsed : (text : List ℕ) (stmt : Stmt) → Spells text stmt → parsed_of text ≡ Statement stmt
 unfolding parsed_of
-spelled_parsed text stmt (whole, is) =
+unparsed_parsed text stmt (whole, is) =
     ap (judged (split_of text)) (whole_again stmt (split_of text).tokens is) ∙ ap (λ (w : Bool). cond w (Statement stmt) (FaultAt (split_of text).end)) whole
 
 offset_at : (text : List ℕ) (offset : ℕ) (f : FaultOf (split_of text).tokens []) → (split_of text).end ≡ offset → IsFault text offset
@@ -178,7 +178,7 @@ parse_found text (Ok stmt) exact = parsed_spelled text stmt exact
 parse_found text (Err fault) exact = tt
 
 pub parse_only : (text : List ℕ) (result : Result Stmt ParseFault) → ParseGives result (parsed_of text) → (stmt : Stmt) → Spells text stmt → ParseGives result (Statement stmt)
-parse_only text result exact stmt is = subst (ParseGives result) (spelled_parsed text stmt is) exact
+parse_only text result exact stmt is = subst (ParseGives result) (unparsed_parsed text stmt is) exact
 
 pub parse_fault : (text : List ℕ) (result : Result Stmt ParseFault) → ParseGives result (parsed_of text) → (offset : ℕ) → result ≡ Err (faults.Syntax offset) → IsFault text offset
 parse_fault text result exact offset e = fault_offset text offset (subst (λ (r : Result Stmt ParseFault). ParseGives r (parsed_of text)) e exact)

@@ -2,7 +2,7 @@
 use Rattle.std.proofs.Common.{◌≡◌, Bool, true, false, if◌then◌else◌, ◌||◌, List, [], ◌∷◌, ◌++◌, Option, Some, None, refl, sym, ap, subst, ◌∙◌, append_assoc, ◌⊎◌, inl, inr}
 use Rattle.std.proofs.lemmas.List.{append-nil}
 use Rattle.std.proofs.lemmas.Bool.{false≢true}
-use Rattle.rs_ast.specs.declared.token.Token.{Token}
+use Rattle.rs_token.specs.declared.token.Token.{Token}
 use Rattle.rs_parse.specs.Phrases.{Phrase, Is, Optional}
 use Rattle.rs_parse.specs.Read.{Read, Got, Fault, ◌>>=◌, got_one, one_at, begins, either_at, where_so, passed, pass_at, optional_at}
 

@@ -14,12 +14,12 @@ use Rattle.rs_ast.specs.declared.select.KeyBy.{KeyBy}
 use Rattle.rs_ast.specs.declared.select.KeyBy.TheVariants as keys
 use Rattle.rs_ast.specs.declared.select.Select.{Select}
 use Rattle.rs_ast.specs.declared.select.TableRef.{TableRef}
-use Rattle.rs_ast.specs.declared.token.Symbol.TheVariants as symbols
-use Rattle.rs_ast.specs.declared.token.Token.{Token}
-use Rattle.rs_ast.specs.declared.token.Token.TheVariants as tokens
-use Rattle.rs_ast.specs.Reserved.{is_reserved}
-use Rattle.rs_ast.specs.Token.{is_symbol, is_word, same_symbol}
-use Rattle.rs_ast.proofs.TokenLaws.{is_symbol_self}
+use Rattle.rs_token.specs.declared.token.Symbol.TheVariants as symbols
+use Rattle.rs_token.specs.declared.token.Token.{Token}
+use Rattle.rs_token.specs.declared.token.Token.TheVariants as tokens
+use Rattle.rs_token.specs.Reserved.{is_reserved}
+use Rattle.rs_token.specs.Token.{is_symbol, is_word, same_symbol}
+use Rattle.rs_token.proofs.TokenLaws.{is_symbol_self}
 use Rattle.rs_parse.specs.Phrases.{Phrase, Is, Optional, AtMost}
 use Rattle.rs_parse.specs.Read.{Got, ◌>>=◌, begins, either_at, optional_at}
 use Rattle.rs_parse.specs.Grammar.{IsIdent, IsColRef, IsCommaList, IsOfColumn, IsItem, IsItems, IsDistinct, IsTableRef, IsGroup, IsKeyBy, IsDirection, IsKey, IsOrder, IsWhere, IsSelect}

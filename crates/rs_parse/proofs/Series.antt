@@ -1,6 +1,6 @@
 -- Readers of sequences of phrases.
 use Rattle.std.proofs.Common.{◌≡◌, ℕ, zero, suc, Bool, true, false, ◌||◌, List, [], ◌∷◌, ◌++◌, refl, ap, subst, ◌∙◌, arith, inl, inr}
-use Rattle.rs_ast.specs.declared.token.Token.{Token}
+use Rattle.rs_token.specs.declared.token.Token.{Token}
 use Rattle.rs_parse.specs.Phrases.{Phrase, IsSeries, AtMost}
 use Rattle.rs_parse.specs.Read.{Read, Got, ◌>>=◌, begins, series_at, more_at}
 use Rattle.rs_parse.proofs.Readers.{IsReader, Empty, Then, Either, Made, begins_fewer, or_left, or_right, give, gives_before, reads_then, reads_either, reads_as, reads_made}

@@ -9,11 +9,11 @@ use Rattle.rs_ast.specs.declared.column.ColDef.{ColDef}
 use Rattle.rs_ast.specs.declared.stmt.Dml.{Dml}
 use Rattle.rs_ast.specs.declared.stmt.Stmt.{Stmt}
 use Rattle.rs_ast.specs.declared.stmt.Stmt.TheVariants as stmts
-use Rattle.rs_ast.specs.declared.token.Symbol.TheVariants as symbols
-use Rattle.rs_ast.specs.declared.token.Token.{Token}
-use Rattle.rs_ast.specs.declared.token.Token.TheVariants as tokens
-use Rattle.rs_ast.specs.Token.{is_symbol, is_word, same_symbol}
-use Rattle.rs_ast.proofs.TokenLaws.{is_symbol_self}
+use Rattle.rs_token.specs.declared.token.Symbol.TheVariants as symbols
+use Rattle.rs_token.specs.declared.token.Token.{Token}
+use Rattle.rs_token.specs.declared.token.Token.TheVariants as tokens
+use Rattle.rs_token.specs.Token.{is_symbol, is_word, same_symbol}
+use Rattle.rs_token.proofs.TokenLaws.{is_symbol_self}
 use Rattle.rs_parse.specs.Phrases.{Phrase, AtMost}
 use Rattle.rs_parse.specs.Read.{Read, Got, ◌>>=◌, begins, either_at}
 use Rattle.rs_parse.specs.Grammar.{IsIdent, IsSite, IsName, IsColumn, IsLiteral, IsCommaList, IsCommaListOrNone, IsSelect, IsDml, IsBody, IsStmt, IsRequest}

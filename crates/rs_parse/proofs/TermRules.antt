@@ -11,12 +11,12 @@ use Rattle.rs_ast.specs.declared.change.Expr.{Expr}
 use Rattle.rs_ast.specs.declared.change.Set.{Set}
 use Rattle.rs_ast.specs.declared.change.Term.{Term}
 use Rattle.rs_ast.specs.declared.change.Term.TheVariants as terms
-use Rattle.rs_ast.specs.declared.token.Symbol.{Symbol}
-use Rattle.rs_ast.specs.declared.token.Symbol.TheVariants as symbols
-use Rattle.rs_ast.specs.declared.token.Token.{Token}
-use Rattle.rs_ast.specs.declared.token.Token.TheVariants as tokens
-use Rattle.rs_ast.specs.Token.{is_symbol, same_symbol}
-use Rattle.rs_ast.proofs.TokenLaws.{is_symbol_self, is_symbol_is}
+use Rattle.rs_token.specs.declared.token.Symbol.{Symbol}
+use Rattle.rs_token.specs.declared.token.Symbol.TheVariants as symbols
+use Rattle.rs_token.specs.declared.token.Token.{Token}
+use Rattle.rs_token.specs.declared.token.Token.TheVariants as tokens
+use Rattle.rs_token.specs.Token.{is_symbol, same_symbol}
+use Rattle.rs_token.proofs.TokenLaws.{is_symbol_self, is_symbol_is}
 use Rattle.rs_parse.specs.Phrases.{Phrase, Optional, AtMost}
 use Rattle.rs_parse.specs.Read.{Read, begins, optional_at}
 use Rattle.rs_parse.specs.Grammar.{IsIdent, IsLiteral, IsParam, IsTerm, IsVal, IsTuple, IsArith, IsMoreTerm, IsExpr, IsSet, IsCommaList}

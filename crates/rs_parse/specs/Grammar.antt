@@ -67,12 +67,12 @@ use Rattle.rs_ast.specs.declared.stmt.Dml.{Dml}
 use Rattle.rs_ast.specs.declared.stmt.Dml.TheVariants as dmls
 use Rattle.rs_ast.specs.declared.stmt.Stmt.{Stmt}
 use Rattle.rs_ast.specs.declared.stmt.Stmt.TheVariants as stmts
-use Rattle.rs_ast.specs.declared.token.Symbol.{Symbol}
-use Rattle.rs_ast.specs.declared.token.Symbol.TheVariants as symbols
-use Rattle.rs_ast.specs.declared.token.Token.{Token}
-use Rattle.rs_ast.specs.declared.token.Token.TheVariants as tokens
-use Rattle.rs_ast.specs.Reserved.{is_reserved}
-use Rattle.rs_parse.specs.Phrases.{Phrase, Is, Spell, Optional, IsSeries, IsList, AtMost}
+use Rattle.rs_token.specs.declared.token.Symbol.{Symbol}
+use Rattle.rs_token.specs.declared.token.Symbol.TheVariants as symbols
+use Rattle.rs_token.specs.declared.token.Token.{Token}
+use Rattle.rs_token.specs.declared.token.Token.TheVariants as tokens
+use Rattle.rs_token.specs.Reserved.{is_reserved}
+use Rattle.rs_parse.specs.Phrases.{Phrase, Is, Sequence, Optional, IsSeries, IsList, AtMost}
 
 -- ---- words, symbols and numbers
 
@@ -101,20 +101,20 @@ IsCommaListOrNone P (x ∷ xs) ts = IsCommaList P (x ∷ xs) ts
 -- ---- names and columns
 
 abbrev pub IsAtSite : Phrase ℕ
-IsAtSite site = Spell (IsSymbol symbols.At ∷ IsSite site ∷ [])
+IsAtSite site = Sequence (IsSymbol symbols.At ∷ IsSite site ∷ [])
 
 -- Without a dot the id is the object and the site its birth site; with one the first id and site are the creator.
 abbrev pub IsNameOf : Option (List ℕ) → NameText → List Token → Type 0
-IsNameOf None name ts = (name.creator_site ≡ None) × Spell (IsIdent name.object ∷ Optional IsAtSite name.birth ∷ []) ts
+IsNameOf None name ts = (name.creator_site ≡ None) × Sequence (IsIdent name.object ∷ Optional IsAtSite name.birth ∷ []) ts
 IsNameOf (Some creator) name ts =
-    Spell (IsIdent creator ∷ Optional IsAtSite name.creator_site ∷ IsSymbol symbols.Dot ∷ IsIdent name.object ∷ Optional IsAtSite name.birth ∷ []) ts
+    Sequence (IsIdent creator ∷ Optional IsAtSite name.creator_site ∷ IsSymbol symbols.Dot ∷ IsIdent name.object ∷ Optional IsAtSite name.birth ∷ []) ts
 
 abbrev pub IsName : Phrase NameText
 IsName name = IsNameOf name.creator name
 
 abbrev pub IsColRefOf : Option (List ℕ) → List ℕ → List Token → Type 0
 IsColRefOf None column = IsIdent column
-IsColRefOf (Some table) column = Spell (IsIdent table ∷ IsSymbol symbols.Dot ∷ IsIdent column ∷ [])
+IsColRefOf (Some table) column = Sequence (IsIdent table ∷ IsSymbol symbols.Dot ∷ IsIdent column ∷ [])
 
 abbrev pub IsColRef : Phrase ColRef
 IsColRef c = IsColRefOf c.table c.column
@@ -124,17 +124,17 @@ IsKind kinds.Int ts = Keyword (codes "int") ts ⊎ Keyword (codes "integer") ts
 IsKind kinds.Text ts = Keyword (codes "text") ts
 
 abbrev pub IsColumn : Phrase ColDef
-IsColumn column = Spell (IsIdent column.name ∷ IsKind column.kind ∷ [])
+IsColumn column = Sequence (IsIdent column.name ∷ IsKind column.kind ∷ [])
 
 -- ---- values and terms
 
 abbrev pub IsLiteral : Phrase Value
 IsLiteral (values.Int z) ts = (n : ℕ) × (n < 2 ^ 63)
-    × (((z ≡ pos n) × Is (tokens.Number n) ts) ⊎ ((z ≡ neg_ℤ (pos n)) × Spell (IsSymbol symbols.Minus ∷ Is (tokens.Number n) ∷ []) ts))
+    × (((z ≡ pos n) × Is (tokens.Number n) ts) ⊎ ((z ≡ neg_ℤ (pos n)) × Sequence (IsSymbol symbols.Minus ∷ Is (tokens.Number n) ∷ []) ts))
 IsLiteral (values.Text text) ts = Is (tokens.Text text) ts
 
 abbrev pub IsParam : Phrase (List ℕ)
-IsParam param = Spell (IsSymbol symbols.Colon ∷ IsIdent param ∷ [])
+IsParam param = Sequence (IsSymbol symbols.Colon ∷ IsIdent param ∷ [])
 
 abbrev pub IsTerm : Phrase Term
 IsTerm (terms.Col column) = IsIdent column
@@ -148,7 +148,7 @@ IsVal (terms.Lit value) ts = IsLiteral value ts
 IsVal (terms.Param param) ts = IsParam param ts
 
 abbrev pub IsTuple : Phrase (List Term)
-IsTuple row = Spell (IsSymbol symbols.Open ∷ AtMost 16 (IsCommaList IsVal) row ∷ IsSymbol symbols.Close ∷ [])
+IsTuple row = Sequence (IsSymbol symbols.Open ∷ AtMost 16 (IsCommaList IsVal) row ∷ IsSymbol symbols.Close ∷ [])
 
 abbrev pub IsArith : Phrase Arith
 IsArith ariths.Add = IsSymbol symbols.Plus
@@ -156,13 +156,13 @@ IsArith ariths.Sub = IsSymbol symbols.Minus
 IsArith ariths.Mul = IsSymbol symbols.Star
 
 abbrev pub IsMoreTerm : Phrase (Arith × Term)
-IsMoreTerm more = Spell (IsArith more.0 ∷ IsTerm more.1 ∷ [])
+IsMoreTerm more = Sequence (IsArith more.0 ∷ IsTerm more.1 ∷ [])
 
 abbrev pub IsExpr : Phrase Expr
-IsExpr expr = Spell (IsTerm expr.first ∷ Optional IsMoreTerm expr.more ∷ [])
+IsExpr expr = Sequence (IsTerm expr.first ∷ Optional IsMoreTerm expr.more ∷ [])
 
 abbrev pub IsSet : Phrase Set
-IsSet set = Spell (IsIdent set.column ∷ IsSymbol symbols.Equal ∷ IsExpr set.expr ∷ [])
+IsSet set = Sequence (IsIdent set.column ∷ IsSymbol symbols.Equal ∷ IsExpr set.expr ∷ [])
 
 -- ---- WHERE
 
@@ -180,26 +180,26 @@ IsOperand (operands.Lit value) = IsLiteral value
 IsOperand (operands.Param param) = IsParam param
 
 abbrev pub IsCmp : Phrase Cmp
-IsCmp cmp = Spell (IsColRef cmp.left ∷ IsOp cmp.op ∷ IsOperand cmp.right ∷ [])
+IsCmp cmp = Sequence (IsColRef cmp.left ∷ IsOp cmp.op ∷ IsOperand cmp.right ∷ [])
 
 -- one comparison, or a disjunction of comparisons in parentheses
 abbrev pub IsClause : Phrase Clause
 IsClause clause ts =
     ((cmp : Cmp) × (clause.any ≡ cmp ∷ []) × IsCmp cmp ts)
-    ⊎ Spell (IsSymbol symbols.Open ∷ IsList (tokens.Word (codes "or")) IsCmp clause.any ∷ IsSymbol symbols.Close ∷ []) ts
+    ⊎ Sequence (IsSymbol symbols.Open ∷ IsList (tokens.Word (codes "or")) IsCmp clause.any ∷ IsSymbol symbols.Close ∷ []) ts
 
 abbrev pub IsWhere : Phrase (List Clause)
 IsWhere [] ts = ts ≡ []
-IsWhere (clause ∷ clauses) ts = Spell (Keyword (codes "where") ∷ IsList (tokens.Word (codes "and")) IsClause (clause ∷ clauses) ∷ []) ts
+IsWhere (clause ∷ clauses) ts = Sequence (Keyword (codes "where") ∷ IsList (tokens.Word (codes "and")) IsClause (clause ∷ clauses) ∷ []) ts
 
 -- ---- queries
 
 abbrev pub IsOfColumn : List ℕ → ColRef → List Token → Type 0
-IsOfColumn word c = Spell (Keyword word ∷ IsSymbol symbols.Open ∷ IsColRef c ∷ IsSymbol symbols.Close ∷ [])
+IsOfColumn word c = Sequence (Keyword word ∷ IsSymbol symbols.Open ∷ IsColRef c ∷ IsSymbol symbols.Close ∷ [])
 
 abbrev pub IsItem : Phrase Item
 IsItem (items.Col c) = IsColRef c
-IsItem items.Count = Spell (Keyword (codes "count") ∷ IsSymbol symbols.Open ∷ IsSymbol symbols.Star ∷ IsSymbol symbols.Close ∷ [])
+IsItem items.Count = Sequence (Keyword (codes "count") ∷ IsSymbol symbols.Open ∷ IsSymbol symbols.Star ∷ IsSymbol symbols.Close ∷ [])
 IsItem (items.Sum c) = IsOfColumn (codes "sum") c
 IsItem (items.Min c) = IsOfColumn (codes "min") c
 IsItem (items.Max c) = IsOfColumn (codes "max") c
@@ -213,11 +213,11 @@ IsDistinct false ts = ts ≡ []
 IsDistinct true ts = Keyword (codes "distinct") ts
 
 abbrev pub IsTableRef : Phrase TableRef
-IsTableRef table = Spell (IsName table.name ∷ Optional IsIdent table.alias ∷ [])
+IsTableRef table = Sequence (IsName table.name ∷ Optional IsIdent table.alias ∷ [])
 
 abbrev pub IsGroup : Phrase (List ColRef)
 IsGroup [] ts = ts ≡ []
-IsGroup (c ∷ cs) ts = Spell (Keyword (codes "group") ∷ Keyword (codes "by") ∷ AtMost 16 (IsCommaList IsColRef) (c ∷ cs) ∷ []) ts
+IsGroup (c ∷ cs) ts = Sequence (Keyword (codes "group") ∷ Keyword (codes "by") ∷ AtMost 16 (IsCommaList IsColRef) (c ∷ cs) ∷ []) ts
 
 abbrev pub IsKeyBy : Phrase KeyBy
 IsKeyBy (keys.Col c) ts = IsColRef c ts
@@ -228,14 +228,14 @@ IsDirection false ts = (ts ≡ []) ⊎ Keyword (codes "asc") ts
 IsDirection true ts = Keyword (codes "desc") ts
 
 abbrev pub IsKey : Phrase Key
-IsKey key = Spell (IsKeyBy key.by ∷ IsDirection key.desc ∷ [])
+IsKey key = Sequence (IsKeyBy key.by ∷ IsDirection key.desc ∷ [])
 
 abbrev pub IsOrder : Phrase (List Key)
 IsOrder [] ts = ts ≡ []
-IsOrder (key ∷ keys) ts = Spell (Keyword (codes "order") ∷ Keyword (codes "by") ∷ AtMost 16 (IsCommaList IsKey) (key ∷ keys) ∷ []) ts
+IsOrder (key ∷ keys) ts = Sequence (Keyword (codes "order") ∷ Keyword (codes "by") ∷ AtMost 16 (IsCommaList IsKey) (key ∷ keys) ∷ []) ts
 
 abbrev pub IsSelect : Phrase Select
-IsSelect select = Spell (
+IsSelect select = Sequence (
     Keyword (codes "select") ∷ IsDistinct select.distinct ∷ IsItems select.items
     ∷ Keyword (codes "from") ∷ AtMost 6 (IsCommaList IsTableRef) select.from
     ∷ IsWhere select.clauses ∷ IsGroup select.group ∷ IsOrder select.order ∷ [])
@@ -244,13 +244,13 @@ IsSelect select = Spell (
 
 abbrev pub IsDml : Phrase Dml
 IsDml (dmls.Select select) = IsSelect select
-IsDml (dmls.Insert name rows) = Spell (Keyword (codes "insert") ∷ Keyword (codes "into") ∷ IsName name ∷ Keyword (codes "values") ∷ IsCommaList IsTuple rows ∷ [])
-IsDml (dmls.Update name sets clauses) = Spell (Keyword (codes "update") ∷ IsName name ∷ Keyword (codes "set") ∷ AtMost 16 (IsCommaList IsSet) sets ∷ IsWhere clauses ∷ [])
-IsDml (dmls.Delete name clauses) = Spell (Keyword (codes "delete") ∷ Keyword (codes "from") ∷ IsName name ∷ IsWhere clauses ∷ [])
+IsDml (dmls.Insert name rows) = Sequence (Keyword (codes "insert") ∷ Keyword (codes "into") ∷ IsName name ∷ Keyword (codes "values") ∷ IsCommaList IsTuple rows ∷ [])
+IsDml (dmls.Update name sets clauses) = Sequence (Keyword (codes "update") ∷ IsName name ∷ Keyword (codes "set") ∷ AtMost 16 (IsCommaList IsSet) sets ∷ IsWhere clauses ∷ [])
+IsDml (dmls.Delete name clauses) = Sequence (Keyword (codes "delete") ∷ Keyword (codes "from") ∷ IsName name ∷ IsWhere clauses ∷ [])
 
 -- a statement of a program, with its semicolon
 abbrev pub IsDmlEnded : Phrase Dml
-IsDmlEnded dml = Spell (IsDml dml ∷ IsSymbol symbols.Semicolon ∷ [])
+IsDmlEnded dml = Sequence (IsDml dml ∷ IsSymbol symbols.Semicolon ∷ [])
 
 -- one to eight statements of a program
 abbrev pub IsBody : Phrase (List Dml)
@@ -259,24 +259,24 @@ IsBody (dml ∷ dmls) ts = AtMost 8 (IsSeries IsDmlEnded) (dml ∷ dmls) ts
 
 abbrev pub IsStmt : Phrase Stmt
 IsStmt (stmts.CreateTable name columns) =
-    Spell (Keyword (codes "create") ∷ Keyword (codes "table") ∷ IsName name ∷ IsSymbol symbols.Open ∷ AtMost 16 (IsCommaList IsColumn) columns ∷ IsSymbol symbols.Close ∷ [])
-IsStmt (stmts.DropTable name) = Spell (Keyword (codes "drop") ∷ Keyword (codes "table") ∷ IsName name ∷ [])
+    Sequence (Keyword (codes "create") ∷ Keyword (codes "table") ∷ IsName name ∷ IsSymbol symbols.Open ∷ AtMost 16 (IsCommaList IsColumn) columns ∷ IsSymbol symbols.Close ∷ [])
+IsStmt (stmts.DropTable name) = Sequence (Keyword (codes "drop") ∷ Keyword (codes "table") ∷ IsName name ∷ [])
 IsStmt (stmts.CreateIndex index name column) =
-    Spell (Keyword (codes "create") ∷ Keyword (codes "index") ∷ IsIdent index ∷ Keyword (codes "on") ∷ IsName name ∷ IsSymbol symbols.Open ∷ IsIdent column ∷ IsSymbol symbols.Close ∷ [])
-IsStmt (stmts.DropIndex index name) = Spell (Keyword (codes "drop") ∷ Keyword (codes "index") ∷ IsIdent index ∷ Keyword (codes "on") ∷ IsName name ∷ [])
+    Sequence (Keyword (codes "create") ∷ Keyword (codes "index") ∷ IsIdent index ∷ Keyword (codes "on") ∷ IsName name ∷ IsSymbol symbols.Open ∷ IsIdent column ∷ IsSymbol symbols.Close ∷ [])
+IsStmt (stmts.DropIndex index name) = Sequence (Keyword (codes "drop") ∷ Keyword (codes "index") ∷ IsIdent index ∷ Keyword (codes "on") ∷ IsName name ∷ [])
 IsStmt (stmts.CreateSynonym synonym name) =
-    Spell (Keyword (codes "create") ∷ Keyword (codes "synonym") ∷ IsIdent synonym ∷ Keyword (codes "for") ∷ IsName name ∷ [])
-IsStmt (stmts.DropSynonym synonym) = Spell (Keyword (codes "drop") ∷ Keyword (codes "synonym") ∷ IsIdent synonym ∷ [])
-IsStmt (stmts.Migrate name to) = Spell (Keyword (codes "migrate") ∷ Keyword (codes "table") ∷ IsName name ∷ Keyword (codes "to") ∷ IsSite to ∷ [])
-IsStmt (stmts.Compile program params body) = Spell (
+    Sequence (Keyword (codes "create") ∷ Keyword (codes "synonym") ∷ IsIdent synonym ∷ Keyword (codes "for") ∷ IsName name ∷ [])
+IsStmt (stmts.DropSynonym synonym) = Sequence (Keyword (codes "drop") ∷ Keyword (codes "synonym") ∷ IsIdent synonym ∷ [])
+IsStmt (stmts.Migrate name to) = Sequence (Keyword (codes "migrate") ∷ Keyword (codes "table") ∷ IsName name ∷ Keyword (codes "to") ∷ IsSite to ∷ [])
+IsStmt (stmts.Compile program params body) = Sequence (
     Keyword (codes "compile") ∷ IsIdent program ∷ IsSymbol symbols.Open ∷ AtMost 16 (IsCommaListOrNone IsIdent) params ∷ IsSymbol symbols.Close
     ∷ Keyword (codes "as") ∷ IsBody body ∷ Keyword (codes "end") ∷ [])
-IsStmt (stmts.DropProgram program) = Spell (Keyword (codes "drop") ∷ Keyword (codes "program") ∷ IsIdent program ∷ [])
+IsStmt (stmts.DropProgram program) = Sequence (Keyword (codes "drop") ∷ Keyword (codes "program") ∷ IsIdent program ∷ [])
 IsStmt (stmts.Execute program given) =
-    Spell (Keyword (codes "execute") ∷ IsIdent program ∷ IsSymbol symbols.Open ∷ AtMost 16 (IsCommaListOrNone IsLiteral) given ∷ IsSymbol symbols.Close ∷ [])
-IsStmt (stmts.Explain select) = Spell (Keyword (codes "explain") ∷ IsSelect select ∷ [])
-IsStmt stmts.ShowSections = Spell (Keyword (codes "show") ∷ Keyword (codes "sections") ∷ [])
-IsStmt stmts.ShowCache = Spell (Keyword (codes "show") ∷ Keyword (codes "cache") ∷ [])
+    Sequence (Keyword (codes "execute") ∷ IsIdent program ∷ IsSymbol symbols.Open ∷ AtMost 16 (IsCommaListOrNone IsLiteral) given ∷ IsSymbol symbols.Close ∷ [])
+IsStmt (stmts.Explain select) = Sequence (Keyword (codes "explain") ∷ IsSelect select ∷ [])
+IsStmt stmts.ShowSections = Sequence (Keyword (codes "show") ∷ Keyword (codes "sections") ∷ [])
+IsStmt stmts.ShowCache = Sequence (Keyword (codes "show") ∷ Keyword (codes "cache") ∷ [])
 IsStmt (stmts.Dml dml) = IsDml dml
 
 -- an optional semicolon
@@ -284,4 +284,4 @@ abbrev pub IsEnd : List Token → Type 0
 IsEnd ts = (ts ≡ []) ⊎ IsSymbol symbols.Semicolon ts
 
 abbrev pub IsRequest : Phrase Stmt
-IsRequest stmt = Spell (IsStmt stmt ∷ IsEnd ∷ [])
+IsRequest stmt = Sequence (IsStmt stmt ∷ IsEnd ∷ [])

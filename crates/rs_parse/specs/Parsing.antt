@@ -2,11 +2,11 @@
 use Rattle.std.specs.Prelude.{◌≡◌, ℕ, ◌-◌, true, false, List, [], ◌∷◌, ◌++◌, length, Option, Some, None, unwrap_or, Result, Ok, Err, if◌then◌else◌}
 use Rattle.std.specs.List.{slice_get}
 use Rattle.rs_ast.specs.declared.stmt.Stmt.{Stmt}
-use Rattle.rs_ast.specs.declared.token.Token.{Token}
+use Rattle.rs_token.specs.declared.token.Token.{Token}
 use Rattle.rs_parse.specs.declared.parser.ParseFault.{ParseFault}
 use Rattle.rs_parse.specs.declared.parser.ParseFault.TheVariants as faults
-use Rattle.rs_parse.specs.declared.token_split.Split.{Split}
-use Rattle.rs_parse.specs.Tokens.{split_of}
+use Rattle.rs_token.specs.declared.token_split.Split.{Split}
+use Rattle.rs_token.specs.Tokens.{split_of}
 use Rattle.rs_parse.specs.Grammar.{IsRequest}
 use Rattle.rs_parse.specs.Read.{Read, Got, Fault}
 use Rattle.rs_parse.specs.Reader.{request_of}

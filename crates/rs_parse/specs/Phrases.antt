@@ -1,12 +1,12 @@
 -- Combinators for grammars. A phrase relates a value to the lists of tokens that derive it.
 --     Is t                 this one token
---     Spell [P, Q, ..]     a sequence of these phrases
+--     Sequence [P, Q, ..]     a sequence of these phrases
 --     Optional P           no token for `None`, a phrase for `Some`
 --     IsSeries P           a sequence of such phrases, or none
 --     IsList t P           one phrase or more, separated by this token
 --     AtMost n P           a list of at most n items
 use Rattle.std.specs.Prelude.{◌≡◌, ℕ, ◌≤◌, List, [], ◌∷◌, ◌++◌, length, Option, Some, None}
-use Rattle.rs_ast.specs.declared.token.Token.{Token}
+use Rattle.rs_token.specs.declared.token.Token.{Token}
 
 abbrev pub Phrase : Type 0 → Type 1
 Phrase A = A → List Token → Type 0
@@ -18,10 +18,10 @@ Is t ts = ts ≡ t ∷ []
 abbrev pub Both : (List Token → Type 0) → (List Token → Type 0) → List Token → Type 0
 Both P Q ts = (prefix suffix : List Token) × P prefix × Q suffix × (ts ≡ prefix ++ suffix)
 
-abbrev pub Spell : List (List Token → Type 0) → List Token → Type 0
-Spell [] ts = ts ≡ []
-Spell (P ∷ []) ts = P ts
-Spell (P ∷ Q ∷ Ps) ts = Both P (Spell (Q ∷ Ps)) ts
+abbrev pub Sequence : List (List Token → Type 0) → List Token → Type 0
+Sequence [] ts = ts ≡ []
+Sequence (P ∷ []) ts = P ts
+Sequence (P ∷ Q ∷ Ps) ts = Both P (Sequence (Q ∷ Ps)) ts
 
 abbrev pub Optional : {A : Type 0} → Phrase A → Phrase (Option A)
 Optional P None ts = ts ≡ []

@@ -1,8 +1,8 @@
 -- The separators of lists.
 use Rattle.std.specs.Prelude.{Bool, codes}
-use Rattle.rs_ast.specs.declared.token.Symbol.TheVariants as symbols
-use Rattle.rs_ast.specs.declared.token.Token.{Token}
-use Rattle.rs_ast.specs.Token.{is_symbol, is_word}
+use Rattle.rs_token.specs.declared.token.Symbol.TheVariants as symbols
+use Rattle.rs_token.specs.declared.token.Token.{Token}
+use Rattle.rs_token.specs.Token.{is_symbol, is_word}
 use Rattle.rs_parse.specs.declared.list.Separator.{Separator}
 use Rattle.rs_parse.specs.declared.list.Separator.TheVariants as separators
 

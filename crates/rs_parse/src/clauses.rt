@@ -7,8 +7,9 @@ use crate::cursor::Cursor;
 use crate::list::{ListItem, Separator, all};
 use crate::names::col_ref;
 use crate::terms::{literal, param};
-use rs_ast::{Clause, Clauses, Cmp, Operand, Symbol};
+use rs_ast::{Clause, Clauses, Cmp, Operand};
 use rs_base::ReadFault;
+use rs_token::Symbol;
 use sqlite_items::Items;
 use std::alloc::Global;
 

@@ -3,15 +3,16 @@
 
 ghost use Rattle.std.specs.Prelude.{◌≡◌, length};
 ghost use Rattle.rs_parse.specs.Read.{Reads, begins, one_at};
-ghost use Rattle.rs_ast.specs.Token as tokens;
+ghost use Rattle.rs_token.specs.Token as tokens;
 ghost use Rattle.rs_parse.specs.Reader as spec;
 
 use crate::token::{
     arith_of, ident_of, is_dml, is_unsigned, kind_of, negated_of, op_of, ordinal_of, site_of,
     unsigned_of,
 };
-use rs_ast::{Arith, Op, Stmt, Symbol, Token};
+use rs_ast::{Arith, Op, Stmt};
 use rs_base::{Ident, Kind, ReadFault, SiteNo, Value};
+use rs_token::{Symbol, Token};
 use std::alloc::Global;
 use std::marker::Model;
 
@@ -23,7 +24,7 @@ pub struct Cursor<'a> {
 
 impl<'a> Model for Cursor<'a> {
     ghost use Rattle.std.specs.Prelude.{List};
-    ghost use Rattle.rs_ast.specs.declared.token.Token.{Token};
+    ghost use Rattle.rs_token.specs.declared.token.Token.{Token};
 
     ghost Value = { List Token };
 

@@ -1,4 +1,4 @@
-//! The parser of statements: tokenizing a text, and parsing its tokens by recursive descent.
+//! The parser of statements, by recursive descent over the tokens of a text.
 #![tactic(auto)]
 
 mod changes;
@@ -9,13 +9,9 @@ mod names;
 mod parser;
 mod programs;
 mod queries;
-mod scanner;
 mod schema;
-mod span;
 mod statement;
 mod terms;
 mod token;
-mod token_split;
-mod tokenizer;
 
 pub use parser::{ParseFault, parse};

@@ -5,8 +5,8 @@ ghost use Rattle.rs_parse.specs.Read.{Reads, begins, pass_at, suffix_at, separat
 ghost use Rattle.rs_parse.specs.Separator as spec;
 
 use crate::cursor::Cursor;
-use rs_ast::Symbol;
 use rs_base::ReadFault;
+use rs_token::Symbol;
 use sqlite_items::Items;
 use std::alloc::Global;
 
@@ -21,7 +21,7 @@ pub enum Separator {
 /// An item of a list, with its reader.
 pub trait ListItem: Drop {
     ghost use Rattle.std.specs.Prelude.{List};
-    ghost use Rattle.rs_ast.specs.declared.token.Token.{Token};
+    ghost use Rattle.rs_token.specs.declared.token.Token.{Token};
     ghost use Rattle.rs_parse.specs.Read.{Read, Reads};
 
     ghost item_at: { List Token → Read Self };

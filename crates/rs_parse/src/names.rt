@@ -5,8 +5,9 @@ ghost use Rattle.rs_parse.specs.Reader as spec;
 
 use crate::cursor::Cursor;
 use crate::list::ListItem;
-use rs_ast::{ColDef, ColRef, Symbol};
+use rs_ast::{ColDef, ColRef};
 use rs_base::{Ident, NameText, ReadFault, SiteNo};
+use rs_token::Symbol;
 use std::alloc::Global;
 
 #[tactic(auto, unfolding(crate::specs::Reader::at_site_at))]

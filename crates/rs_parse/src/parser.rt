@@ -7,10 +7,9 @@ ghost use Rattle.rs_parse.specs.declared.parser.ParseFault.TheVariants as faults
 
 use crate::cursor::Cursor;
 use crate::statement::request;
-use crate::token_split::Split;
-use crate::tokenizer::split;
 use rs_ast::Stmt;
 use rs_base::{NoMemory, ReadFault};
+use rs_token::{Split, split};
 use std::alloc::Global;
 use thiserror::Error;
 

@@ -7,8 +7,9 @@ use crate::changes::dml;
 use crate::cursor::Cursor;
 use crate::list::{Separator, separated_list};
 use crate::queries::select;
-use rs_ast::{Dml, Dmls, Idents, Stmt, Symbol};
+use rs_ast::{Dml, Dmls, Idents, Stmt};
 use rs_base::{ReadFault, Row};
+use rs_token::Symbol;
 use sqlite_items::Items;
 use std::alloc::Global;
 

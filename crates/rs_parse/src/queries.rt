@@ -7,8 +7,9 @@ use crate::clauses::optional_clauses;
 use crate::cursor::Cursor;
 use crate::list::{ListItem, Separator, separated_list};
 use crate::names::{col_ref, name};
-use rs_ast::{ColRef, ColRefs, Item, Key, KeyBy, Keys, Select, SelectItems, Symbol, TableRef};
+use rs_ast::{ColRef, ColRefs, Item, Key, KeyBy, Keys, Select, SelectItems, TableRef};
 use rs_base::{Ident, ReadFault};
+use rs_token::Symbol;
 use sqlite_items::Items;
 use std::alloc::Global;
 

@@ -6,8 +6,9 @@ ghost use Rattle.rs_parse.specs.Reader as spec;
 use crate::cursor::Cursor;
 use crate::list::{Separator, separated_list};
 use crate::names::name;
-use rs_ast::{Stmt, Symbol};
+use rs_ast::Stmt;
 use rs_base::ReadFault;
+use rs_token::Symbol;
 use std::alloc::Global;
 
 #[tactic(auto, unfolding(crate::specs::Reader::create_table_at))]

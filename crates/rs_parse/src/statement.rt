@@ -7,8 +7,9 @@ use crate::changes::dml;
 use crate::cursor::Cursor;
 use crate::programs::{compile, execute, explain, show};
 use crate::schema::{create, drop_any, migrate};
-use rs_ast::{Stmt, Symbol};
+use rs_ast::Stmt;
 use rs_base::ReadFault;
+use rs_token::Symbol;
 use std::alloc::Global;
 
 #[tactic(auto, unfolding(crate::specs::Reader::stmt_at))]

@@ -5,8 +5,9 @@ ghost use Rattle.rs_parse.specs.Reader as spec;
 
 use crate::cursor::Cursor;
 use crate::list::{ListItem, Separator, separated_list};
-use rs_ast::{Arith, Expr, Set, Symbol, Term, TermRow};
+use rs_ast::{Arith, Expr, Set, Term, TermRow};
 use rs_base::{Ident, ReadFault, Value};
+use rs_token::Symbol;
 use std::alloc::Global;
 
 #[tactic(auto, unfolding(crate::specs::Reader::negative_at))]

@@ -3,8 +3,9 @@
 ghost use Rattle.std.specs.Prelude.{◌≡◌, IfOk, is_some};
 ghost use Rattle.rs_parse.specs.Reader as spec;
 
-use rs_ast::{Arith, Op, Symbol, Token, is_reserved};
+use rs_ast::{Arith, Op};
 use rs_base::{Ident, Kind, NoMemory, SiteNo, Value};
+use rs_token::{Symbol, Token, is_reserved};
 use std::alloc::Global;
 
 pub fn ident_of(token: &Token) -> Option<Ident>

@@ -2,7 +2,7 @@
 use Rattle.std.proofs.Common.{◌≡◌, ℕ, ◌≤◌, min, List, length, None, refl, subst, arith, inl, inr}
 use Rattle.rs_parse.specs.Parsing.{Parsed, Statement, FaultAt, parsed_of, IsFault, AtToken, NoToken, AtEnd}
 use Rattle.rs_parse.proofs.ParseLaws.{parsed_spelled, fault_offset}
-use Rattle.rs_parse.proofs.Splits.{start_within, end_within}
+use Rattle.rs_token.proofs.Splits.{start_within, end_within}
 use Rattle.rs_site.specs.Statement.{statement_said, statement_of, offset_said, offset_replied, SaysNothing}
 
 -- a fault is in the text or at its end

@@ -1,9 +1,9 @@
 //! Texts of requests: where they are at fault, where they can be cut, and how they are printed.
 
 use crate::escape::unescaped;
-use rs_ast::print_stmt;
 use rs_base::{Bytes, NoMemory, print_number};
 use rs_parse::{ParseFault, parse};
+use rs_unparse::print_stmt;
 use std::alloc::Global;
 
 /// Gives the byte offset of the fault of a text and some more, or `None` for a request.

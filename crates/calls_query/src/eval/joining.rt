@@ -5,7 +5,7 @@ use crate::transcript::Transcript;
 use anyhow::Result;
 use rs_ast::{BoundClause, BoundClauses};
 use rs_base::{NoMemory, Value};
-use rs_eval::joined_rows;
+use rs_join::joined_rows;
 use rs_rows::StoredRows;
 use sqlite_items::Items;
 use std::alloc::Global;

@@ -3,9 +3,10 @@ use Rattle.std.specs.Prelude.{bytes_eq}
 use Rattle.std.specs.List.{list_any}
 use Rattle.rs_base.specs.declared.reply.Denial.TheVariants as denials
 use Rattle.rs_ast.specs.declared.change.Set.{Set}
-use Rattle.rs_bind.specs.Denials.{test, term_tests, more_tests, expr_fits}
-use Rattle.rs_bind.specs.Scope.{named_count, unqualified, column_kind}
-use Rattle.rs_bind.proofs.FirstDenials.{first_or_other}
+use Rattle.rs_bind.specs.Denials.{term_tests, more_tests, expr_fits}
+use Rattle.rs_scope.specs.Denials.{test}
+use Rattle.rs_scope.specs.Scope.{named_count, unqualified, column_kind}
+use Rattle.rs_scope.proofs.FirstDenials.{first_or_other}
 use Rattle.rs_bind.proofs.change_denials.set_denial.Goals as goal
 
 pub returns : goal.returns

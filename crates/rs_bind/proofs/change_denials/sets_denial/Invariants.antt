@@ -1,5 +1,6 @@
 use Rattle.std.proofs.Common.{◌≡◌, []}
-use Rattle.rs_bind.specs.Denials.{first_denial, sets_tests}
+use Rattle.rs_bind.specs.Denials.{sets_tests}
+use Rattle.rs_scope.specs.Denials.{first_denial}
 use Rattle.rs_bind.proofs.SetDenials.{first_from}
 use Rattle.rs_bind.proofs.change_denials.sets_denial.Given as goal
 

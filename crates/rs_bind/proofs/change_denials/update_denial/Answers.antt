@@ -1,6 +1,7 @@
 use Rattle.std.proofs.Common.{[], rules}
-use Rattle.rs_bind.specs.Denials.{sets_tests, clauses_tests}
-use Rattle.rs_bind.proofs.FirstDenials.{first_or_other}
+use Rattle.rs_bind.specs.Denials.{sets_tests}
+use Rattle.rs_scope.specs.Denials.{clauses_tests}
+use Rattle.rs_scope.proofs.FirstDenials.{first_or_other}
 use Rattle.rs_bind.proofs.change_denials.update_denial.Goals as goal
 
 pub returns : goal.returns

@@ -1,5 +1,5 @@
 use Rattle.std.proofs.Common.{◌≡◌, map, take, length}
-use Rattle.rs_bind.specs.Scope.{as_u16}
+use Rattle.rs_scope.specs.Scope.{as_u16}
 use Rattle.rs_bind.proofs.queries.widths_of.Given as goal
 
 abbrev pub invariant-loop-heading : goal.invariant-loop-heading

@@ -1,7 +1,8 @@
 use Rattle.std.proofs.Common.{[], ◌∷◌, not, ap, ◌∙◌}
 use Rattle.rs_base.specs.declared.reply.Denial.TheVariants as denials
 use Rattle.rs_ast.specs.declared.select.Key.{Key}
-use Rattle.rs_bind.specs.Denials.{test, first_denial, names_item}
+use Rattle.rs_bind.specs.Denials.{names_item}
+use Rattle.rs_scope.specs.Denials.{test, first_denial}
 use Rattle.rs_bind.proofs.OneCause.{one_cause}
 use Rattle.rs_bind.proofs.select_denials.keys_denial.Goals as goal
 

@@ -1,8 +1,9 @@
 use Rattle.std.proofs.Common.{◌++◌, rules}
 use Rattle.std.specs.Prelude.{flat_map}
 use Rattle.rs_ast.specs.declared.select.Key.{Key}
-use Rattle.rs_bind.specs.Denials.{items_tests, clauses_tests, column_tests, key_tests}
-use Rattle.rs_bind.proofs.FirstDenials.{first_or_other}
+use Rattle.rs_bind.specs.Denials.{items_tests, key_tests}
+use Rattle.rs_scope.specs.Denials.{clauses_tests, column_tests}
+use Rattle.rs_scope.proofs.FirstDenials.{first_or_other}
 use Rattle.rs_bind.proofs.select_denials.names_denial.Goals as goal
 
 pub returns : goal.returns

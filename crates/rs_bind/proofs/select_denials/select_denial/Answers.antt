@@ -1,7 +1,8 @@
 use Rattle.std.proofs.Common.{[], ◌∷◌, ◌++◌, not, ap, ◌∙◌, append_assoc, rules}
 use Rattle.rs_base.specs.declared.reply.Denial.TheVariants as denials
-use Rattle.rs_bind.specs.Denials.{test, first_denial, all_differ, names_tests, grouping_test, keys_tests}
-use Rattle.rs_bind.proofs.FirstDenials.{first_or_other}
+use Rattle.rs_bind.specs.Denials.{all_differ, names_tests, grouping_test, keys_tests}
+use Rattle.rs_scope.specs.Denials.{test, first_denial}
+use Rattle.rs_scope.proofs.FirstDenials.{first_or_other}
 use Rattle.rs_bind.proofs.select_denials.select_denial.Goals as goal
 
 pub returns : goal.returns

@@ -1,5 +1,5 @@
 use Rattle.std.proofs.Common.{◌≡◌, map, take}
-use Rattle.rs_bind.specs.Scope.{column_index_of}
+use Rattle.rs_scope.specs.Scope.{column_index_of}
 use Rattle.rs_bind.proofs.shape.column_indexes.Given as goal
 
 abbrev pub invariant-loop-written : goal.invariant-loop-written

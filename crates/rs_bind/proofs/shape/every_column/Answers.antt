@@ -2,7 +2,7 @@ use Rattle.std.proofs.Common.{arith}
 use Rattle.std.proofs.lemmas.Grind.{common_steps}
 use Rattle.std.proofs.lemmas.List.FromFn.{map-range_with_len_more}
 use Rattle.rs_ast.specs.declared.shape.ShapeItem.TheVariants as items
-use Rattle.rs_bind.specs.Scope.{as_u16}
+use Rattle.rs_scope.specs.Scope.{as_u16}
 use Rattle.rs_bind.proofs.shape.every_column.Goals as goal
 
 pub loop-column_index-preserved : goal.loop-column_index-preserved

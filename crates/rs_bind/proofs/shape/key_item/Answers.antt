@@ -1,7 +1,7 @@
 use Rattle.std.proofs.Common.{ap, ◌∙◌}
 use Rattle.std.specs.List.{position_or_len}
 use Rattle.rs_bind.specs.Binding.{shows_column}
-use Rattle.rs_bind.specs.Scope.{as_u16}
+use Rattle.rs_scope.specs.Scope.{as_u16}
 use Rattle.rs_bind.proofs.shape.key_item.Goals as goal
 
 pub returns-in-Col : goal.returns-in-Col

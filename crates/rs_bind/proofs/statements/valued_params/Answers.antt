@@ -3,7 +3,7 @@ use Rattle.std.proofs.lemmas.Iterator.{YieldsList-from_slice, YieldsList-from_zi
 use Rattle.std.proofs.lemmas.Iterator.Consumers.{YieldsList-end}
 use Rattle.rs_base.specs.declared.value.Value.{Value}
 use Rattle.rs_bind.specs.Entries.{valued}
-use Rattle.rs_bind.proofs.Zipped.{mapped_in_step}
+use Rattle.rs_scope.proofs.Zipped.{mapped_in_step}
 use Rattle.rs_bind.proofs.statements.valued_params.Goals as goal
 
 pub returns : goal.returns

@@ -1,6 +1,6 @@
 use Rattle.std.proofs.Common.{◌≡◌, drop}
 use Rattle.std.specs.Prelude.{flat_map}
-use Rattle.rs_bind.specs.Denials.{first_denial}
+use Rattle.rs_scope.specs.Denials.{first_denial}
 use Rattle.rs_mean.specs.Names.{table_tests}
 use Rattle.rs_mean.proofs.database.Database.tables_denial.Given as goal
 

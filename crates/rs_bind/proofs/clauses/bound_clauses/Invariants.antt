@@ -1,6 +1,0 @@
-use Rattle.std.proofs.Common.{◌≡◌, take}
-use Rattle.rs_bind.specs.Binding.{bound_clauses}
-use Rattle.rs_bind.proofs.clauses.bound_clauses.Given as goal
-
-abbrev pub invariant-loop-clause : goal.invariant-loop-clause
-invariant-loop-clause l = l.bound ≡ bound_clauses l.scope l.params (take l.clause-index l.clauses)

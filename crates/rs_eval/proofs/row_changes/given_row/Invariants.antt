@@ -1,0 +1,6 @@
+use Rattle.std.proofs.Common.{◌≡◌, [], map, take}
+use Rattle.rs_eval.specs.Setting.{term_value}
+use Rattle.rs_eval.proofs.row_changes.given_row.Given as goal
+
+abbrev pub invariant-loop-term : goal.invariant-loop-term
+invariant-loop-term l = l.values ≡ map (term_value [] []) (take l.term-index l.row)

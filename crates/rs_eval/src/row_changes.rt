@@ -1,0 +1,180 @@
+//! The rows of a table after a change of rows.
+
+ghost use Rattle.std.specs.Prelude.{◌≡◌, [], ◌∷◌, ◌++◌, drop, length, take, map, IfOk, OnOk};
+ghost use Rattle.rs_eval.specs.Setting.{row_set, term_value};
+ghost use Rattle.rs_eval.specs.RowChanges as spec;
+ghost use Rattle.rs_eval.specs.Updating.{Puts};
+
+use crate::clauses::holds;
+use crate::limits::{all_fit_row, fits_rows, has_room};
+use crate::setting::{set_row, term_value};
+use rs_ast::{BoundClause, BoundRow, BoundSet, BoundTerm};
+use rs_base::{Denial, NoMemory, Row, Value, with_room};
+use rs_rows::{RowRun, StoredRows};
+use std::alloc::Global;
+
+// ---- INSERT
+
+/// Returns the values of an inserted row.
+fn given_row(alloc: Global, row: &[BoundTerm]) -> Result<Row, NoMemory>
+    ensures { IfOk result (λ values. values ≡ map (term_value [] []) row.now) }
+{
+    let mut values = with_room(alloc, row.len())?;
+    for term in row {
+        values.push(term_value(alloc, &[], &[], term)?)?;
+    }
+    Ok(values)
+}
+
+/// Returns the inserted rows.
+fn given_rows(alloc: Global, rows: &[BoundRow]) -> Result<StoredRows, NoMemory>
+    ensures { IfOk result (λ given. given ≡ spec.given_rows rows.now) }
+{
+    let mut given = StoredRows::new(alloc);
+    for row in rows {
+        let values = given_row(alloc, row.as_slice())?;
+        given.push(alloc, values.as_slice())?;
+    }
+    Ok(given)
+}
+
+/// Returns whether the rows may be stored, and there is room for them after those of the table.
+fn may_be_added(rows: &StoredRows, more: &StoredRows) -> bool
+    ensures { result ≡ spec.has_room rows.now more.now }
+{
+    all_fit_row(&more.as_run()) && has_room(rows, more)
+}
+
+/// Returns the rows to append to those of a table, or `TableFull`.
+pub fn inserted(
+    alloc: Global,
+    given: &[BoundRow],
+    rows: &StoredRows,
+) -> Result<Result<StoredRows, Denial>, NoMemory>
+    ensures { IfOk result (λ more. more ≡ spec.inserted given.now rows.now) }
+{
+    let more = given_rows(alloc, given)?;
+    if may_be_added(rows, &more) {
+        Ok(Ok(more))
+    } else {
+        Ok(Err(Denial::TableFull))
+    }
+}
+
+// ---- UPDATE
+
+/// Appends the row as it is after the assignments, or returns the denial.
+fn push_set(
+    alloc: Global,
+    sets: &[BoundSet],
+    row: &[Value],
+    new: &mut StoredRows,
+) -> Result<Result<(), Denial>, NoMemory>
+    ensures { IfOk result (λ done. Puts done new.old new.new (row_set sets.now [] row.now)) }
+{
+    match set_row(alloc, sets, &[], row)? {
+        Ok(row) => {
+            new.push(alloc, row.as_slice())?;
+            Ok(Ok(()))
+        }
+        Err(cause) => Ok(Err(cause)),
+    }
+}
+
+/// Appends the row, updated if it matches, or returns the denial.
+fn push_updated(
+    alloc: Global,
+    sets: &[BoundSet],
+    clauses: &[BoundClause],
+    row: &[Value],
+    new: &mut StoredRows,
+) -> Result<Result<(), Denial>, NoMemory>
+    ensures { IfOk result (λ done. Puts done new.old new.new (spec.updated_row sets.now clauses.now row.now)) }
+{
+    if holds(clauses, row) {
+        push_set(alloc, sets, row, new)
+    } else {
+        new.push(alloc, row)?;
+        Ok(Ok(()))
+    }
+}
+
+/// Returns each row updated, or the first denial.
+fn updated_rows(
+    alloc: Global,
+    sets: &[BoundSet],
+    clauses: &[BoundClause],
+    rows: &RowRun<'_>,
+) -> Result<Result<StoredRows, Denial>, NoMemory>
+    ensures { IfOk result (λ new. new ≡ spec.updated_rows sets.now clauses.now rows.now) }
+{
+    let mut new = StoredRows::new(alloc);
+    let mut rest = rows.view();
+    while let Some((row, others)) = rest.split_first() {
+        if let Err(cause) = push_updated(alloc, sets, clauses, row, &mut new)? {
+            return Ok(Err(cause));
+        }
+        rest = others;
+    }
+    Ok(Ok(new))
+}
+
+/// Returns the rows after an UPDATE, or `Overflow`, or `TableFull`.
+pub fn updated(
+    alloc: Global,
+    sets: &[BoundSet],
+    clauses: &[BoundClause],
+    rows: &RowRun<'_>,
+) -> Result<Result<StoredRows, Denial>, NoMemory>
+    ensures { IfOk result (λ new. new ≡ spec.updated sets.now clauses.now rows.now) }
+{
+    match updated_rows(alloc, sets, clauses, rows)? {
+        Ok(new) if may_be_rows(&new) => Ok(Ok(new)),
+        Ok(_) => Ok(Err(Denial::TableFull)),
+        Err(cause) => Ok(Err(cause)),
+    }
+}
+
+/// Returns whether a table may have these rows.
+fn may_be_rows(rows: &StoredRows) -> bool
+    ensures { result ≡ spec.may_be_rows rows.now }
+{
+    all_fit_row(&rows.as_run()) && fits_rows(rows)
+}
+
+// ---- DELETE
+
+/// Returns the other rows: those that don't match.
+pub fn other_rows(
+    alloc: Global,
+    clauses: &[BoundClause],
+    rows: &RowRun<'_>,
+) -> Result<StoredRows, NoMemory>
+    ensures { IfOk result (λ other_rows. other_rows ≡ spec.other_rows clauses.now rows.now) }
+{
+    let mut other_rows = StoredRows::new(alloc);
+    let mut rest = rows.view();
+    while let Some((row, others)) = rest.split_first() {
+        if !holds(clauses, row) {
+            other_rows.push(alloc, row)?;
+        }
+        rest = others;
+    }
+    Ok(other_rows)
+}
+
+/// Counts the matching rows.
+pub fn matching_count(clauses: &[BoundClause], rows: &RowRun<'_>) -> usize
+    ensures { result ≡ spec.matching_count clauses.now rows.now }
+{
+    let mut count = 0;
+    let mut rest = rows.view();
+    while let Some((row, others)) = rest.split_first() {
+        if holds(clauses, row) {
+            prove!(count < rows.len());
+            count += 1;
+        }
+        rest = others;
+    }
+    count
+}

@@ -1,0 +1,3 @@
+pub mod FirstDenials
+pub mod Positions
+pub mod Zipped

@@ -1,0 +1,4 @@
+pub mod DenialOf
+pub mod Denials
+pub mod Predicates
+pub mod Scope

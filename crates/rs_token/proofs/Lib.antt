@@ -1,0 +1,4 @@
+pub mod Scans
+pub mod Splits
+pub mod Options
+pub mod TokenLaws

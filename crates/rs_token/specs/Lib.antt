@@ -1,0 +1,4 @@
+pub mod Reserved
+pub mod Token
+pub mod Tokens
+pub mod Scanning

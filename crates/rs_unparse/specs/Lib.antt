@@ -1,0 +1,2 @@
+pub mod Unparsed
+pub mod Printed
