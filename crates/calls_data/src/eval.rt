@@ -1,0 +1,14 @@
+//! Calls of rs_eval.
+
+mod joining;
+mod predicates;
+mod setting;
+
+use anyhow::Result;
+use calls_base::Transcript;
+
+pub fn calls(out: &mut Transcript) -> Result<()> {
+    predicates::calls(out)?;
+    setting::calls(out)?;
+    joining::calls(out)
+}

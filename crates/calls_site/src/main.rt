@@ -1,0 +1,25 @@
+//! Makes public calls that no replayed schedule and no table of texts reaches: a site, and a world whose asks are not each
+//! settled. It prints what they return, a line of words for each call.
+#![tactic(auto)]
+
+mod site;
+mod world;
+
+use anyhow::Result;
+use calls_base::Transcript;
+use rs_stream::{StdSink, write_whole};
+use std::alloc::Global;
+
+/// Makes the calls.
+fn calls(alloc: Global) -> Result<Transcript> {
+    let mut out = Transcript::new(alloc);
+    site::calls(&mut out)?;
+    world::calls(&mut out)?;
+    Ok(out)
+}
+
+fn main(rt: HostRuntime) -> Result<()> {
+    let out = calls(rt.alloc())?;
+    write_whole(&mut StdSink::new(rt.stdout()), out.text())?;
+    Ok(())
+}
