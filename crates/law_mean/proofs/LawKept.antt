@@ -1,10 +1,10 @@
 -- Invariants of each table: its size, and that its columns and its indexes have names of their own.
-use Rattle.std.proofs.Common.{◌≡◌, ◌≢◌, ℕ, ◌≤◌, true, false, ◌==◌, not, List, [], ◌∷◌, ◌++◌, length, nat_le, All, AllPairs, Option, Some, None, IfSome, refl, sym, ◌∙◌, arith, leb-true}
+use Rattle.std.proofs.Common.{◌≡◌, ◌≢◌, ℕ, ◌≤◌, Bool, true, false, cond, ◌||◌, ◌==◌, not, List, [], ◌∷◌, ◌++◌, length, nat_le, All, AllPairs, Option, Some, None, IfSome, Result, Ok, Err, refl, sym, subst, ◌∙◌, arith, leb-true}
 use Rattle.std.specs.Prelude.{bytes_eq}
 use Rattle.std.specs.BTreeMap.{is_at}
 use Rattle.std.specs.List.{list_all}
 use Rattle.std.proofs.lemmas.Bool.{eqb-false}
-use Rattle.std.proofs.lemmas.List.Elements.{All-nil, All-cons, All-append, All-weaker, All-filter}
+use Rattle.std.proofs.lemmas.List.Elements.{All-nil, All-cons, All-head, All-tail, All-append, All-weaker, All-filter}
 use Rattle.std.proofs.lemmas.List.Filters.{sum_by-filter_both}
 use Rattle.std.proofs.lemmas.List.Kept.{AllPairs-cons, AllPairs-filter}
 use Rattle.std.proofs.lemmas.List.Quantifiers.{all_pairs_push}
@@ -14,11 +14,13 @@ use Rattle.std.proofs.lemmas.Option.{IfSome_then}
 use Rattle.std.proofs.lemmas.Slice.Eq.{bytes_eq-Decides}
 use mathlib.Core.Bool.{true≢false}
 use Rattle.rs_base.specs.declared.name.Swn.{Swn}
+use Rattle.rs_base.specs.declared.reply.Denial.{Denial}
 use Rattle.rs_base.specs.declared.txn.Txn.{Txn}
 use Rattle.rs_base.specs.declared.value.Value.{Value}
 use Rattle.rs_base.specs.Name.{name_cmp}
 use Rattle.rs_base.specs.Sizes.{row_size}
 use Rattle.rs_ast.specs.declared.bound.BoundCmp.{BoundCmp}
+use Rattle.rs_ast.specs.declared.bound.BoundSet.{BoundSet}
 use Rattle.rs_ast.specs.declared.column.ColDef.{ColDef}
 use Rattle.rs_ast.specs.declared.entry.IndexOf.{IndexOf}
 use Rattle.rs_eval.specs.Clauses.{holds}
@@ -31,7 +33,8 @@ use Rattle.rs_mean.specs.Database.{Database, table_named, with_changed}
 use Rattle.law_mean.specs.Laws.{EachTable, IsWithin, HasDistinctIndexes}
 use Rattle.rs_rows.specs.Sizes.{rows_size}
 use Rattle.rs_eval.specs.Limits.{max_row_bytes, max_rows, max_table_bytes, fits_row, fits_rows}
-use Rattle.rs_eval.specs.RowChanges.{has_room, may_be_rows, other_rows}
+use Rattle.rs_eval.specs.Setting.{row_set}
+use Rattle.rs_eval.specs.RowChanges.{has_room, updated_row, with_first, and_others, updated_rows, set_rows_fit, may_become, other_rows}
 use Rattle.rs_mean.specs.RowStatements.{rows_of}
 use Rattle.rs_mean.specs.TableStatements.{indexes_of, has_index, is_indexed, without_index, is_other_index, new_table}
 use Rattle.law_mean.proofs.LawTests.{not_false, neither, both}
@@ -98,13 +101,54 @@ longer_within (Some table) rows within room =
       row_bytes = All-append (λ row. row_size row ≤ max_row_bytes) table.rows rows within.row_bytes (rows_fit rows apart.0);
     }
 
--- a table is within its limits if the test of its rows says so
-pub set_within : (found : Option Table) (rows : List (List Value)) → may_be_rows rows ≡ true → KeepsIn IsWithin found (λ table. record table { rows = rows })
-set_within None rows may = tt
-set_within (Some table) rows may =
-    let apart = both (list_all fits_row rows) (fits_rows rows) may in
-    let limits = both (nat_le (length rows) max_rows) (nat_le (rows_size rows) max_table_bytes) apart.1 in
-    record { rows = leb-true (length rows) max_rows limits.0; bytes = leb-true (rows_size rows) max_table_bytes limits.1; row_bytes = rows_fit rows apart.0 }
+abbrev Fits : List Value → Type 0
+Fits row = row_size row ≤ max_row_bytes
+
+module _ (sets : List BoundSet) (clauses : List (List BoundCmp)) where
+  -- a row that is set fits, and another stays
+  one_fits : (row item : List Value) → Fits row → updated_row sets clauses row ≡ Ok item → (not (holds clauses row) || fits_row item) ≡ true → Fits item
+  one_fits row item fits made test =
+      let Claim : Bool → Type 0 = λ b. cond {A = Result (List Value) Denial} b (row_set sets [] row) (Ok row) ≡ Ok item → (not b || fits_row item) ≡ true → Fits item in
+      let at : (b : Bool) → Claim b = λ b. elim b as Claim [
+        | true ↦ λ m t. leb-true (row_size item) max_row_bytes t
+        | false ↦ λ m t. let is : row ≡ item = cc in subst Fits is fits
+      ] in
+      at (holds clauses row) made test
+
+  first_fits : (row item : List Value) (rows : List (List Value)) (others : Result (List (List Value)) Denial) (new : List (List Value)) → Fits row
+      → updated_row sets clauses row ≡ Ok item → ((more : List (List Value)) → others ≡ Ok more → set_rows_fit clauses rows more ≡ true → All Fits more)
+      → with_first item others ≡ Ok new → set_rows_fit clauses (row ∷ rows) new ≡ true → All Fits new
+  first_fits row item rows (Ok more) new fits made rest e test =
+      let is : item ∷ more ≡ new = cc in
+      let tests : set_rows_fit clauses (row ∷ rows) (item ∷ more) ≡ true = subst (λ (list : List (List Value)). set_rows_fit clauses (row ∷ rows) list ≡ true) (sym is) test in
+      let apart = both (not (holds clauses row) || fits_row item) (set_rows_fit clauses rows more) tests in
+      subst (All Fits) is (All-cons Fits item more (one_fits row item fits made apart.0) (rest more refl apart.1))
+  first_fits row item rows (Err cause) new fits made rest e test = absurd cc
+
+  both_fit : (row : List Value) (rows : List (List Value)) (first : Result (List Value) Denial) (new : List (List Value)) → updated_row sets clauses row ≡ first → Fits row
+      → ((more : List (List Value)) → updated_rows sets clauses rows ≡ Ok more → set_rows_fit clauses rows more ≡ true → All Fits more)
+      → and_others first (updated_rows sets clauses rows) ≡ Ok new → set_rows_fit clauses (row ∷ rows) new ≡ true → All Fits new
+  both_fit row rows (Ok item) new made fits rest e test = first_fits row item rows (updated_rows sets clauses rows) new fits made rest e test
+  both_fit row rows (Err cause) new made fits rest e test = absurd cc
+
+  -- the rows after an UPDATE fit, if those before do and each that was set does
+  updated_fit : (rows new : List (List Value)) → All Fits rows → updated_rows sets clauses rows ≡ Ok new → set_rows_fit clauses rows new ≡ true → All Fits new
+  updated_fit [] new all e test = let is : [] ≡ new = cc in subst (All Fits) is (All-nil Fits)
+  updated_fit (row ∷ rows) new all e test =
+      both_fit row rows (updated_row sets clauses row) new refl (All-head Fits row rows all) (λ more made fit. updated_fit rows more (All-tail Fits row rows all) made fit) e test
+
+  -- a table stays within its limits if it may have the new rows
+  pub set_within : (found : Option Table) (new : List (List Value)) → IfSome found IsWithin → updated_rows sets clauses (rows_of found) ≡ Ok new
+      → may_become clauses (rows_of found) new ≡ true → KeepsIn IsWithin found (λ table. record table { rows = new })
+  set_within None new within made may = tt
+  set_within (Some table) new within made may =
+      let apart = both (set_rows_fit clauses table.rows new) (fits_rows new) may in
+      let limits = both (nat_le (length new) max_rows) (nat_le (rows_size new) max_table_bytes) apart.1 in
+      record {
+        rows = leb-true (length new) max_rows limits.0;
+        bytes = leb-true (rows_size new) max_table_bytes limits.1;
+        row_bytes = updated_fit table.rows new within.row_bytes made apart.0;
+      }
 
 others_size : (clauses : List (List BoundCmp)) (rows : List (List Value)) → rows_size (other_rows clauses rows) ≤ rows_size rows
 others_size clauses rows = omega (arith, sum_by-filter_both (holds clauses) (λ row. not (holds clauses row)) (λ row. refl) row_size rows)

@@ -37,7 +37,7 @@ use Rattle.rs_mean.specs.Database.{Database, table_named, target_of}
 use Rattle.rs_mean.specs.Effects.{done}
 use Rattle.rs_mean.specs.Meaning.{effect_of_stmt, effect_of, meaning}
 use Rattle.rs_mean.specs.Names.{name_of, own_synonym, site_test, table_tests}
-use Rattle.rs_eval.specs.RowChanges.{given_rows, has_room, inserted, updated_rows, may_be_rows, within_limits, updated, other_rows, matching_count}
+use Rattle.rs_eval.specs.RowChanges.{given_rows, has_room, inserted, updated_rows, may_become, within_limits, updated, other_rows, matching_count}
 use Rattle.rs_mean.specs.RowStatements.{rows_in, heading_in, answering, inserting, updating, once_bound, tables_in, select, insert, update, delete, effect_of_dml}
 use Rattle.rs_join.specs.Selected.{selected}
 use Rattle.rs_mean.specs.TableStatements.{create_tests, new_table, create_table, drop_table, columns_of, indexes_of, column_index, has_index, is_indexed, create_index_tests, new_index, create_index, drop_index_tests, without_index, drop_index, create_synonym_tests, create_synonym, drop_synonym_tests, drop_synonym}
@@ -260,25 +260,25 @@ pub record Updates (db : Database) (name : Swn) (sets : List Set) (change : Chan
   pub there : IsThere db name
   pub fit : SetsFit db name sets
   pub made : updated_rows (sets_in db name sets) clauses (rows_in db name) ≡ Ok new
-  pub within : may_be_rows new ≡ true
+  pub within : may_become clauses (rows_in db name) new ≡ true
 
 module _ (db : Database) (name : Swn) (sets : List Set) (clauses : List (List BoundCmp)) (is_there : IsThere db name) (fit : SetsFit db name sets) where
   within_so : (new : List (List Value)) → updated_rows (sets_in db name sets) clauses (rows_in db name) ≡ Ok new
-      → IsSo (Updates db name sets) (updating name (matching_count clauses (rows_in db name)) (within_limits (Ok new)))
+      → IsSo (Updates db name sets) (updating name (matching_count clauses (rows_in db name)) (within_limits clauses (rows_in db name) (Ok new)))
   within_so new made =
-      let Claim : Bool → Type 0 = λ within. may_be_rows new ≡ within
+      let Claim : Bool → Type 0 = λ within. may_become clauses (rows_in db name) new ≡ within
       → IsSo (Updates db name sets) (updating name (matching_count clauses (rows_in db name)) (cond {A = Result (List (List Value)) Denial} within (Ok new) (Err denials.TableFull))) in
       let at : (within : Bool) → Claim within = λ within. elim within as Claim [
         | true ↦ λ e. so_done (Updates db name sets) (changes.SetRows name new) (answers.Changed (matching_count clauses (rows_in db name)))
             (record { clauses = clauses; new = new; is = refl; answers = refl; there = is_there; fit = fit; made = made; within = e })
         | false ↦ λ e. so_denied (Updates db name sets) denials.TableFull
       ] in
-      at (may_be_rows new) refl
+      at (may_become clauses (rows_in db name) new) refl
 
   updating_so : IsSo (Updates db name sets) (updating name (matching_count clauses (rows_in db name)) (updated (sets_in db name sets) clauses (rows_in db name)))
   updating_so =
       let Claim : Result (List (List Value)) Denial → Type 0 = λ rows. updated_rows (sets_in db name sets) clauses (rows_in db name) ≡ rows
-      → IsSo (Updates db name sets) (updating name (matching_count clauses (rows_in db name)) (within_limits rows)) in
+      → IsSo (Updates db name sets) (updating name (matching_count clauses (rows_in db name)) (within_limits clauses (rows_in db name) rows)) in
       let at : (rows : Result (List (List Value)) Denial) → Claim rows = λ rows. elim rows as Claim [
         | Ok new ↦ λ e. within_so new e
         | Err cause ↦ λ e. so_denied (Updates db name sets) cause

@@ -13,7 +13,7 @@ use Rattle.law_mean.specs.Laws.{EachTable, IsWithin, HasDistinctColumns, HasDist
 use Rattle.rs_mean.specs.Names.{name_of}
 use Rattle.rs_mean.specs.TableStatements.{new_index}
 use Rattle.law_mean.proofs.LawKept.{Keeps, each_named, empty_within, indexed_within, longer_within, set_within, others_within, columns_distinct, added_distinct, left_distinct}
-use Rattle.law_mean.proofs.LawStatements.{DoesOfDml, Does, index_in}
+use Rattle.law_mean.proofs.LawStatements.{DoesOfDml, Does, index_in, sets_in}
 use Rattle.law_mean.proofs.LawTyped.{empty_typed, indexed_typed, longer_typed, updated_typed, others_typed}
 
 module _ (db : Database) (execution : Execution) (change : Change) (given : List Answer) where
@@ -24,7 +24,8 @@ module _ (db : Database) (execution : Execution) (change : Change) (given : List
         let name : Swn = name_of db execution written in
         subst (Keeps IsWithin db) (sym so.is) (longer_within (table_named name db) _ (each_named IsWithin db each name) so.room)
     dml_within (dmls.Update written sets clauses) so =
-        let name : Swn = name_of db execution written in subst (Keeps IsWithin db) (sym so.is) (set_within (table_named name db) so.new so.within)
+        let name : Swn = name_of db execution written in subst (Keeps IsWithin db) (sym so.is) 
+        (set_within (sets_in db name sets) so.clauses (table_named name db) so.new (each_named IsWithin db each name) so.made so.within)
     dml_within (dmls.Delete written clauses) so =
         let name : Swn = name_of db execution written in
         subst (Keeps IsWithin db) (sym so.is) (others_within (table_named name db) so.clauses (each_named IsWithin db each name))

@@ -1,5 +1,5 @@
 -- The rows of a table after a change of rows.
-use Rattle.std.specs.Prelude.{ℕ, Bool, not, ◌&&◌, List, [], ◌∷◌, ◌++◌, map, filter, length, Result, Ok, Err, if◌then◌else◌}
+use Rattle.std.specs.Prelude.{ℕ, Bool, not, ◌&&◌, ◌||◌, List, [], ◌∷◌, ◌++◌, map, filter, zip, length, Result, Ok, Err, if◌then◌else◌}
 use Rattle.std.specs.List.{list_all}
 use Rattle.rs_base.specs.declared.reply.Denial.{Denial}
 use Rattle.rs_base.specs.declared.reply.Denial.TheVariants as denials
@@ -44,18 +44,22 @@ abbrev pub updated_rows : List BoundSet → List (List BoundCmp) → List (List 
 updated_rows sets clauses [] = Ok []
 updated_rows sets clauses (row ∷ rows) = and_others (updated_row sets clauses row) (updated_rows sets clauses rows)
 
--- a table may have these rows
-abbrev pub may_be_rows : List (List Value) → Bool
-may_be_rows rows = list_all fits_row rows && fits_rows rows
+-- Each row that was set may be stored. Rows that don't match aren't judged.
+abbrev pub set_rows_fit : List (List BoundCmp) → List (List Value) → List (List Value) → Bool
+set_rows_fit clauses rows new = list_all (λ both. not (holds clauses both.0) || fits_row both.1) (zip rows new)
 
-abbrev pub within_limits : Result (List (List Value)) Denial → Result (List (List Value)) Denial
-within_limits (Ok rows) = if may_be_rows rows then Ok rows else Err denials.TableFull
-within_limits (Err cause) = Err cause
+-- a table with these rows may have the new ones in their place
+abbrev pub may_become : List (List BoundCmp) → List (List Value) → List (List Value) → Bool
+may_become clauses rows new = set_rows_fit clauses rows new && fits_rows new
+
+abbrev pub within_limits : List (List BoundCmp) → List (List Value) → Result (List (List Value)) Denial → Result (List (List Value)) Denial
+within_limits clauses rows (Ok new) = if may_become clauses rows new then Ok new else Err denials.TableFull
+within_limits clauses rows (Err cause) = Err cause
 
 -- The rows after an UPDATE; or Overflow, if an expression over a matching row isn't an integer of 64 bits; or else
--- TableFull.
+-- TableFull, if a row that was set is too large, or the table would be beyond its limits.
 abbrev pub updated : List BoundSet → List (List BoundCmp) → List (List Value) → Result (List (List Value)) Denial
-updated sets clauses rows = within_limits (updated_rows sets clauses rows)
+updated sets clauses rows = within_limits clauses rows (updated_rows sets clauses rows)
 
 -- ---- DELETE
 

@@ -16,7 +16,8 @@ pub const MAX_ROWS: usize = 65_536;
 /// The largest size of a table, in bytes.
 pub const MAX_TABLE_BYTES: u64 = 8_388_608;
 
-fn fits_row(row: &[Value]) -> bool
+/// Returns whether a table may hold the row.
+pub(crate) fn fits_row(row: &[Value]) -> bool
     ensures { result ≡ spec.fits_row row.now }
 {
     row_size(row) <= MAX_ROW_BYTES

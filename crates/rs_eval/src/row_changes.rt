@@ -6,7 +6,7 @@ ghost use Rattle.rs_eval.specs.RowChanges as spec;
 ghost use Rattle.rs_eval.specs.Updating.{Puts};
 
 use crate::clauses::holds;
-use crate::limits::{all_fit_row, fits_rows, has_room};
+use crate::limits::{all_fit_row, fits_row, fits_rows, has_room};
 use crate::setting::{set_row, term_value};
 use rs_ast::{BoundClause, BoundRow, BoundSet, BoundTerm};
 use rs_base::{Denial, NoMemory, Row, Value, with_room};
@@ -129,17 +129,36 @@ pub fn updated(
     ensures { IfOk result (λ new. new ≡ spec.updated sets.now clauses.now rows.now) }
 {
     match updated_rows(alloc, sets, clauses, rows)? {
-        Ok(new) if may_be_rows(&new) => Ok(Ok(new)),
+        Ok(new) if may_become(clauses, rows, &new) => Ok(Ok(new)),
         Ok(_) => Ok(Err(Denial::TableFull)),
         Err(cause) => Ok(Err(cause)),
     }
 }
 
-/// Returns whether a table may have these rows.
-fn may_be_rows(rows: &StoredRows) -> bool
-    ensures { result ≡ spec.may_be_rows rows.now }
+/// Returns whether a table with these rows may have the new ones in their place.
+fn may_become(clauses: &[BoundClause], rows: &RowRun<'_>, new: &StoredRows) -> bool
+    ensures { result ≡ spec.may_become clauses.now rows.now new.now }
 {
-    all_fit_row(&rows.as_run()) && fits_rows(rows)
+    set_rows_fit(clauses, rows, &new.as_run()) && fits_rows(new)
+}
+
+/// Returns whether each row that was set may be stored: `new` are the rows after the UPDATE, in the same order.
+fn set_rows_fit(clauses: &[BoundClause], rows: &RowRun<'_>, new: &RowRun<'_>) -> bool
+    ensures { result ≡ spec.set_rows_fit clauses.now rows.now new.now }
+{
+    let mut rest = rows.view();
+    let mut set = new.view();
+    while let Some((row, others)) = rest.split_first() {
+        let Some((set_row, others_set)) = set.split_first() else {
+            return true;
+        };
+        if holds(clauses, row) && !fits_row(set_row) {
+            return false;
+        }
+        rest = others;
+        set = others_set;
+    }
+    true
 }
 
 // ---- DELETE
