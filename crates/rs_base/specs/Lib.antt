@@ -9,3 +9,4 @@ pub mod Printing
 pub mod Reading
 pub mod Sizes
 pub mod Integers
+pub mod Orders

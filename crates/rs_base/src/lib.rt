@@ -24,7 +24,8 @@ pub use ident::{Ident, is_name_byte};
 pub use lock::{HeldLocks, Mode, Resource};
 pub use name::{NameText, Swn};
 pub use orders::{
-    order_of_enlists, order_of_names, order_of_origins, order_of_txns, order_of_values,
+    order_of_enlists, order_of_modes, order_of_names, order_of_origins, order_of_peers,
+    order_of_resources, order_of_txns, order_of_values,
 };
 pub use peer::{Datagrams, Peer};
 pub use print::{print_number, print_swn, print_value};
