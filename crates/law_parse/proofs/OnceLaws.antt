@@ -21,8 +21,8 @@ pub statement_once : (text : List ℕ) (one other : Stmt) → Spells text one �
 statement_once text one other first second = same_statement one other (sym (unparsed_parsed text one first) ∙ unparsed_parsed text other second)
 
 -- Each text is that of a statement, or has a fault.
-pub unparsed_or_faulty : (text : List ℕ) → ((stmt : Stmt) × Spells text stmt) ⊎ ((offset : ℕ) × IsFault text offset)
-unparsed_or_faulty text = go (parsed_of text) refl
+pub spelled_or_faulty : (text : List ℕ) → ((stmt : Stmt) × Spells text stmt) ⊎ ((offset : ℕ) × IsFault text offset)
+spelled_or_faulty text = go (parsed_of text) refl
   where
     go : (parsed : Parsed) → parsed_of text ≡ parsed → ((stmt : Stmt) × Spells text stmt) ⊎ ((offset : ℕ) × IsFault text offset)
     go (Statement stmt) e = inl (stmt, parsed_spelled text stmt e)
@@ -91,7 +91,7 @@ fault_once text one other (AtEnd whole begun none at) (NoToken cut others there)
 fault_once text one other (AtEnd whole begun none at) (AtEnd again others never there) = at ∙ sym there
 
 -- The text of a statement has no fault.
-pub unparsed_no_fault : (text : List ℕ) (stmt : Stmt) (offset : ℕ) → Spells text stmt → IsFault text offset → ⊥
-unparsed_no_fault text stmt offset (whole, is) (AtToken number offending at) = not_all (split_of text).tokens number offending (request_begins stmt (split_of text).tokens is)
-unparsed_no_fault text stmt offset (whole, is) (NoToken cut begun at) = false≢true (sym cut ∙ whole)
-unparsed_no_fault text stmt offset (whole, is) (AtEnd again begun none at) = none stmt is
+pub spelled_no_fault : (text : List ℕ) (stmt : Stmt) (offset : ℕ) → Spells text stmt → IsFault text offset → ⊥
+spelled_no_fault text stmt offset (whole, is) (AtToken number offending at) = not_all (split_of text).tokens number offending (request_begins stmt (split_of text).tokens is)
+spelled_no_fault text stmt offset (whole, is) (NoToken cut begun at) = false≢true (sym cut ∙ whole)
+spelled_no_fault text stmt offset (whole, is) (AtEnd again begun none at) = none stmt is

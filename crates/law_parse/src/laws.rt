@@ -13,12 +13,12 @@ pub fn fault_once()
 {}
 
 /// Proves that each text is that of a statement, or has a fault.
-pub fn unparsed_or_faulty()
+pub fn spelled_or_faulty()
     ensures { SpelledOrFaulty }
 {}
 
 /// Proves that the text of a statement has no fault.
-pub fn unparsed_has_no_fault()
+pub fn spelled_has_no_fault()
     ensures { SpelledHasNoFault }
 {}
 

@@ -1,5 +1,5 @@
-use Rattle.law_parse.proofs.OnceLaws.{unparsed_or_faulty}
-use Rattle.law_parse.proofs.laws.unparsed_or_faulty.Goals as goal
+use Rattle.law_parse.proofs.OnceLaws.{spelled_or_faulty}
+use Rattle.law_parse.proofs.laws.spelled_or_faulty.Goals as goal
 
 pub returns : goal.returns
-returns c = unparsed_or_faulty
+returns c = spelled_or_faulty
