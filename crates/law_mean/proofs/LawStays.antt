@@ -24,7 +24,7 @@ module _ (db : Database) (execution : Execution) (change : Change) (given : List
         let name : Swn = name_of db execution written in
         subst (Keeps IsWithin db) (sym so.is) (longer_within (table_named name db) _ (each_named IsWithin db each name) so.room)
     dml_within (dmls.Update written sets clauses) so =
-        let name : Swn = name_of db execution written in subst (Keeps IsWithin db) (sym so.is) 
+        let name : Swn = name_of db execution written in subst (Keeps IsWithin db) (sym so.is)
         (set_within (sets_in db name sets) so.clauses (table_named name db) so.new (each_named IsWithin db each name) so.made so.within)
     dml_within (dmls.Delete written clauses) so =
         let name : Swn = name_of db execution written in

@@ -8,7 +8,10 @@ ghost use Rattle.rs_scope.specs.Scope as named;
 
 use rs_ast::{Clause, Expr, Set, Term, TermRow};
 use rs_base::{Denial, Ident, Kind};
-use rs_scope::{Param, ScopeColumn, clauses_denial, column_kind, denial_if, first_denial, kinds_fit, named_count, param_denial, param_kind, unqualified};
+use rs_scope::{
+    Param, ScopeColumn, clauses_denial, column_kind, denial_if, first_denial, kinds_fit,
+    named_count, param_denial, param_kind, unqualified,
+};
 
 fn given_kind(params: &[Param], term: &Term) -> Option<Kind>
     ensures { result ≡ spec.given_kind params.now term.now }

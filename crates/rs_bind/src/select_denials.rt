@@ -11,7 +11,10 @@ use crate::grouping::{is_grouped, shows_group};
 use crate::item_keys::names_items;
 use rs_ast::{ColRef, Item, Key, KeyBy, Select};
 use rs_base::{Denial, Ident, Kind};
-use rs_scope::{Param, ScopeColumn, clauses_denial, column_denial, column_kind, denial_if, first_denial, kinds_fit};
+use rs_scope::{
+    Param, ScopeColumn, clauses_denial, column_denial, column_kind, denial_if, first_denial,
+    kinds_fit,
+};
 
 fn sums_integers(scope: &[ScopeColumn], written: &ColRef) -> bool
     ensures { result ≡ kinds.kinds_fit (Some Kind.Int) (named.column_kind scope.now written.now) }

@@ -6,7 +6,9 @@ ghost use Rattle.rs_bind.specs.Binding as spec;
 ghost use Rattle.rs_scope.specs.Scope.{column_index_of as index_named};
 
 use crate::grouping::is_grouped;
-use rs_ast::{ColRef, Item, Key, KeyBy, Places, Select, Shape, ShapeItem, ShapeItems, ShapeKey, ShapeKeys};
+use rs_ast::{
+    ColRef, Item, Key, KeyBy, Places, Select, Shape, ShapeItem, ShapeItems, ShapeKey, ShapeKeys,
+};
 use rs_base::{NoMemory, with_room};
 use rs_scope::{ScopeColumn, as_u16, column_index_of};
 use std::alloc::Global;

@@ -4,7 +4,9 @@ ghost use Rattle.std.specs.Prelude.{◌≡◌, map, option_map, IfOk};
 ghost use Rattle.rs_bind.specs.Binding as spec;
 ghost use Rattle.rs_scope.specs.Scope as named;
 
-use rs_ast::{Arith, BoundRow, BoundRows, BoundSet, BoundSets, BoundTerm, Expr, Set, Term, TermRow};
+use rs_ast::{
+    Arith, BoundRow, BoundRows, BoundSet, BoundSets, BoundTerm, Expr, Set, Term, TermRow,
+};
 use rs_base::{Ident, NoMemory, with_room};
 use rs_scope::{Param, ScopeColumn, as_position, column_index_of, param_index, unqualified};
 use std::alloc::Global;

@@ -59,11 +59,7 @@ fn clause_denial(scope: &[ScopeColumn], params: &[Param], clause: &Clause) -> Op
 }
 
 /// Returns the first denial of a predicate, if there is one.
-pub fn clauses_denial(
-    scope: &[ScopeColumn],
-    params: &[Param],
-    clauses: &[Clause],
-) -> Option<Denial>
+pub fn clauses_denial(scope: &[ScopeColumn], params: &[Param], clauses: &[Clause]) -> Option<Denial>
     ensures { result ≡ spec.first_denial (spec.clauses_tests scope.now params.now clauses.now) }
 {
     first_denial(clauses, |clause| clause_denial(scope, params, clause))

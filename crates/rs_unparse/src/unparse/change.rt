@@ -3,8 +3,8 @@
 ghost use Rattle.std.specs.Prelude.{◌≡◌, ◌++◌, OnOk};
 ghost use Rattle.rs_unparse.specs.Unparsed as spec;
 
-use crate::unparse::{Unparse, ident, symbol, tuple};
 use crate::unparse::value::param;
+use crate::unparse::{Unparse, ident, symbol, tuple};
 use rs_ast::{Arith, Expr, Set, Term, TermRow};
 use rs_base::NoMemory;
 use rs_token::{Symbol, Tokens};

@@ -3,8 +3,8 @@
 ghost use Rattle.std.specs.Prelude.{◌≡◌, ◌++◌, OnOk};
 ghost use Rattle.rs_unparse.specs.Unparsed as spec;
 
-use crate::unparse::{Unparse, keyword, list, symbol, word};
 use crate::unparse::value::param;
+use crate::unparse::{Unparse, keyword, list, symbol, word};
 use rs_ast::{Clause, Cmp, Op, Operand};
 use rs_base::NoMemory;
 use rs_token::{Symbol, Tokens};

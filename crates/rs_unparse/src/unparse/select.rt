@@ -4,8 +4,8 @@ ghost use Rattle.std.specs.Prelude.{◌≡◌, ◌++◌, OnOk, IsTrue};
 ghost use Rattle.rs_base.specs.Ident.{is_ident};
 ghost use Rattle.rs_unparse.specs.Unparsed as spec;
 
-use crate::unparse::{Unparse, comma_list, ident, number, symbol, word};
 use crate::unparse::clause::condition;
+use crate::unparse::{Unparse, comma_list, ident, number, symbol, word};
 use rs_ast::{ColRef, Item, Key, KeyBy, Select, SelectItems, TableRef};
 use rs_base::{Ident, NoMemory};
 use rs_token::{Symbol, Tokens};

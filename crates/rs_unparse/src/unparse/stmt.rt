@@ -5,8 +5,8 @@ ghost use Rattle.rs_base.specs.Ident.{is_ident};
 ghost use Rattle.rs_token.specs.declared.token.Token.TheVariants as tokens;
 ghost use Rattle.rs_unparse.specs.Unparsed as spec;
 
-use crate::unparse::{Unparse, comma_list, ident, number, symbol, tuple, word};
 use crate::unparse::clause::condition;
+use crate::unparse::{Unparse, comma_list, ident, number, symbol, tuple, word};
 use rs_ast::{Clause, ColDef, Dml, Select, Set, Stmt, TermRow};
 use rs_base::{Ident, NameText, NoMemory, SiteNo, Value};
 use rs_token::{Symbol, Tokens};
