@@ -8,11 +8,12 @@ use rs_print::{print_reply, print_row};
 use std::alloc::Global;
 use std::cmp::Ordering;
 
-/// Lines of words, separated by spaces.
+/// Lines of words, separated by spaces. A failed allocation is kept until the transcript is finished.
 #[derive(Drop)]
 pub struct Transcript {
     pub alloc: Global,
     text: Bytes,
+    failed: bool,
 }
 
 impl Transcript {
@@ -20,116 +21,142 @@ impl Transcript {
         Transcript {
             alloc,
             text: Bytes::new(alloc),
+            failed: false,
         }
     }
 
-    /// Returns the lines written so far.
-    pub fn text(&self) -> &[u8] {
-        self.text.as_slice()
+    /// Returns the lines. Fails if an allocation has failed.
+    pub fn finish(self) -> Result<Bytes, NoMemory> {
+        if self.failed {
+            return Err(NoMemory);
+        }
+        Ok(self.text)
+    }
+
+    fn note(&mut self, written: Result<(), NoMemory>) {
+        self.failed = self.failed || written.is_err();
+    }
+
+    fn append(&mut self, bytes: &[u8]) {
+        let written = self.text.extend(bytes);
+        self.note(written);
     }
 
     /// Separates the next word from the last one of its line.
-    fn separate(&mut self) -> Result<(), NoMemory> {
+    fn separate(&mut self) {
         match self.text.as_slice().last() {
-            None | Some(b'\n') => Ok(()),
-            Some(_) => self.text.push(b' '),
+            None | Some(b'\n') => {}
+            Some(_) => self.append(b" "),
         }
     }
 
     /// Separates a call from what it returned.
-    pub fn returned(&mut self) -> Result<(), NoMemory> {
-        self.word("=")
+    pub fn returned(&mut self) {
+        self.word("=");
     }
 
     /// Ends the line.
-    pub fn end(&mut self) -> Result<(), NoMemory> {
-        self.text.push(b'\n')
+    pub fn end(&mut self) {
+        self.append(b"\n");
     }
 
-    pub fn word(&mut self, word: &str) -> Result<(), NoMemory> {
-        self.bytes(word.as_bytes())
+    /// Writes a word.
+    pub fn word(&mut self, word: &str) {
+        self.bytes(word.as_bytes());
     }
 
-    pub fn bytes(&mut self, word: &[u8]) -> Result<(), NoMemory> {
-        self.separate()?;
-        self.text.extend(word)
+    /// Writes the bytes of a word.
+    pub fn bytes(&mut self, word: &[u8]) {
+        self.separate();
+        self.append(word);
     }
 
     /// Writes bytes between quotes.
-    pub fn quoted(&mut self, bytes: &[u8]) -> Result<(), NoMemory> {
-        self.separate()?;
-        self.text.push(b'\'')?;
-        self.text.extend(bytes)?;
-        self.text.push(b'\'')
+    pub fn quoted(&mut self, bytes: &[u8]) {
+        self.separate();
+        self.append(b"'");
+        self.append(bytes);
+        self.append(b"'");
     }
 
-    pub fn number(&mut self, number: u64) -> Result<(), NoMemory> {
-        self.separate()?;
-        print_number(self.alloc, number, &mut self.text)
+    /// Writes a number.
+    pub fn number(&mut self, number: u64) {
+        self.separate();
+        let written = print_number(self.alloc, number, &mut self.text);
+        self.note(written);
     }
 
-    pub fn integer(&mut self, integer: i64) -> Result<(), NoMemory> {
-        self.value(&Value::Int(integer))
+    /// Writes an integer.
+    pub fn integer(&mut self, integer: i64) {
+        self.value(&Value::Int(integer));
     }
 
-    pub fn yes_or_no(&mut self, answer: bool) -> Result<(), NoMemory> {
-        self.word(if answer { "yes" } else { "no" })
+    /// Writes `yes` or `no`.
+    pub fn yes_or_no(&mut self, answer: bool) {
+        self.word(if answer { "yes" } else { "no" });
     }
 
-    pub fn order(&mut self, order: Ordering) -> Result<(), NoMemory> {
+    /// Writes an order.
+    pub fn order(&mut self, order: Ordering) {
         self.word(match order {
             Ordering::Less => "less",
             Ordering::Equal => "equal",
             Ordering::Greater => "greater",
-        })
+        });
     }
 
-    pub fn value(&mut self, value: &Value) -> Result<(), NoMemory> {
-        self.separate()?;
-        print_value(self.alloc, value, &mut self.text)
+    /// Writes a value.
+    pub fn value(&mut self, value: &Value) {
+        self.separate();
+        let written = print_value(self.alloc, value, &mut self.text);
+        self.note(written);
     }
 
-    pub fn name(&mut self, name: &Swn) -> Result<(), NoMemory> {
-        self.separate()?;
-        print_swn(self.alloc, name, &mut self.text)
+    /// Writes a system-wide name.
+    pub fn name(&mut self, name: &Swn) {
+        self.separate();
+        let written = print_swn(self.alloc, name, &mut self.text);
+        self.note(written);
     }
 
     /// Writes the values of a row, separated by commas, and ends the line.
-    pub fn row(&mut self, row: &[Value]) -> Result<(), NoMemory> {
-        self.separate()?;
-        print_row(self.alloc, row, &mut self.text)
+    pub fn row(&mut self, row: &[Value]) {
+        self.separate();
+        let written = print_row(self.alloc, row, &mut self.text);
+        self.note(written);
     }
 
     /// Writes a number of rows, and each on a line of its own.
-    pub fn rows(&mut self, rows: &[Row]) -> Result<(), NoMemory> {
-        self.number(rows.len() as u64)?;
-        self.end()?;
+    pub fn rows(&mut self, rows: &[Row]) {
+        self.number(rows.len() as u64);
+        self.end();
         for row in rows {
-            self.row(row.as_slice())?;
+            self.row(row.as_slice());
         }
-        Ok(())
     }
 
     /// Writes a reply, on lines of its own.
-    pub fn reply(&mut self, to: &Origin, reply: &Reply) -> Result<(), NoMemory> {
-        print_reply(self.alloc, to, reply, &mut self.text)
+    pub fn reply(&mut self, to: &Origin, reply: &Reply) {
+        let written = print_reply(self.alloc, to, reply, &mut self.text);
+        self.note(written);
     }
 
-    pub fn fault(&mut self, fault: Fault) -> Result<(), NoMemory> {
+    /// Writes a fault.
+    pub fn fault(&mut self, fault: Fault) {
         self.word(match fault {
             Fault::Failed => "failed",
             Fault::NoMemory => "out of memory",
-        })
+        });
     }
 
     /// Writes the cause of a denial, and ends the line.
-    pub fn denial(&mut self, cause: Denial) -> Result<(), NoMemory> {
+    pub fn denial(&mut self, cause: Denial) {
         self.word(match cause {
             Denial::TwoColumns => "TwoColumns",
             Denial::WrongParams => "WrongParams",
             Denial::Overflow => "Overflow",
             _ => "another denial",
-        })?;
-        self.end()
+        });
+        self.end();
     }
 }

@@ -106,7 +106,7 @@ pub fn calls(out: &mut Transcript) -> Result<()> {
         answer(out, query)?;
     }
     counts(out)?;
-    order(out)?;
+    order(out);
     Ok(())
 }
 
@@ -131,12 +131,12 @@ fn rows_of(alloc: Global, numbers: &[&[i64]]) -> Result<Rows, NoMemory> {
 fn answer(out: &mut Transcript, query: Query<'_>) -> Result<()> {
     let shape = shape_of(out.alloc, query)?;
     let joined = rows_of(out.alloc, query.joined)?;
-    out.word("answer_rows,")?;
-    out.word(query.shows)?;
-    out.returned()?;
+    out.word("answer_rows,");
+    out.word(query.shows);
+    out.returned();
     match answer_rows(out.alloc, &shape, joined)? {
-        Ok(rows) => out.rows(rows.as_slice())?,
-        Err(cause) => out.denial(cause)?,
+        Ok(rows) => out.rows(rows.as_slice()),
+        Err(cause) => out.denial(cause),
     }
     Ok(())
 }
@@ -144,24 +144,24 @@ fn answer(out: &mut Transcript, query: Query<'_>) -> Result<()> {
 // A query that only counts answers the same from its joined rows and from their number.
 fn counts(out: &mut Transcript) -> Result<()> {
     let shape = shape_of(out.alloc, COUNT)?;
-    out.word("is_count_only")?;
-    out.returned()?;
-    out.yes_or_no(is_count_only(&shape))?;
-    out.end()?;
+    out.word("is_count_only");
+    out.returned();
+    out.yes_or_no(is_count_only(&shape));
+    out.end();
     let rows = count_answer(out.alloc, 4)?;
-    out.word("count_answer 4")?;
-    out.returned()?;
-    out.rows(rows.as_slice())?;
+    out.word("count_answer 4");
+    out.returned();
+    out.rows(rows.as_slice());
     Ok(())
 }
 
-fn order(out: &mut Transcript) -> Result<(), NoMemory> {
+fn order(out: &mut Transcript) {
     let key = ShapeKey {
         item: 0,
         desc: true,
     };
-    out.word("compare_answers 1 2, falling")?;
-    out.returned()?;
-    out.order(compare_answers(&[key], &[Value::Int(1)], &[Value::Int(2)]))?;
-    out.end()
+    out.word("compare_answers 1 2, falling");
+    out.returned();
+    out.order(compare_answers(&[key], &[Value::Int(1)], &[Value::Int(2)]));
+    out.end();
 }

@@ -30,7 +30,7 @@ pub fn calls(out: &mut Transcript) -> Result<()> {
     statements(out)?;
     over_entries(out, "DELETE FROM t WHERE n = :n")?;
     over_entries(out, "DELETE FROM t WHERE n = :p")?;
-    positions(out)?;
+    positions(out);
     Ok(())
 }
 
@@ -81,9 +81,9 @@ fn bound(alloc: Global, text: &str) -> Result<Result<Bound, Denial>> {
 fn statements(out: &mut Transcript) -> Result<()> {
     for text in STATEMENTS {
         let bound_or_denied = bound(out.alloc, text)?;
-        out.word(text)?;
-        out.returned()?;
-        shown::bound_or_denied(out, &bound_or_denied)?;
+        out.word(text);
+        out.returned();
+        shown::bound_or_denied(out, &bound_or_denied);
     }
     Ok(())
 }
@@ -148,20 +148,19 @@ fn bound_delete(alloc: Global, clauses: Clauses) -> Result<Result<Bound, Denial>
 fn over_entries(out: &mut Transcript, text: &str) -> Result<()> {
     let clauses = clauses(out.alloc, text)?;
     let bound_or_denied = bound_delete(out.alloc, clauses)?;
-    out.word("bind")?;
-    out.word(text)?;
-    out.returned()?;
-    shown::bound_or_denied(out, &bound_or_denied)?;
+    out.word("bind");
+    out.word(text);
+    out.returned();
+    shown::bound_or_denied(out, &bound_or_denied);
     Ok(())
 }
 
-fn positions(out: &mut Transcript) -> Result<(), NoMemory> {
+fn positions(out: &mut Transcript) {
     for position in [0, 255, 256] {
-        out.word("as_position")?;
-        out.number(position as u64)?;
-        out.returned()?;
-        out.number(u64::from(as_position(position)))?;
-        out.end()?;
+        out.word("as_position");
+        out.number(position as u64);
+        out.returned();
+        out.number(u64::from(as_position(position)));
+        out.end();
     }
-    Ok(())
 }

@@ -90,9 +90,9 @@ fn reply(alloc: Global, text: &str) -> Result<Reply> {
 
 fn answer(out: &mut Transcript, text: &str) -> Result<()> {
     let reply = reply(out.alloc, text)?;
-    out.word("answer_plain")?;
-    out.word(text)?;
-    out.end()?;
-    out.reply(&origin(2, b"bob", 1)?, &reply)?;
+    out.word("answer_plain");
+    out.word(text);
+    out.end();
+    out.reply(&origin(2, b"bob", 1)?, &reply);
     Ok(())
 }

@@ -9,53 +9,53 @@ use std::alloc::Global;
 pub fn calls(out: &mut Transcript) -> Result<()> {
     pushed(out)?;
     copied(out)?;
-    empty(out)?;
+    empty(out);
     Ok(())
 }
 
 /// Writes the number of rows and their bytes.
-fn sizes(out: &mut Transcript, call: &str, stored: &StoredRows) -> Result<(), NoMemory> {
-    out.word(call)?;
-    out.returned()?;
-    out.number(stored.len() as u64)?;
-    out.number(stored.bytes())?;
+fn sizes(out: &mut Transcript, call: &str, stored: &StoredRows) {
+    out.word(call);
+    out.returned();
+    out.number(stored.len() as u64);
+    out.number(stored.bytes());
     out.word(if stored.as_run().is_empty() {
         "empty"
     } else {
         "rows"
-    })?;
-    out.end()
+    });
+    out.end();
 }
 
 /// Writes the first rows of a run, and how many are left.
-fn first_rows(out: &mut Transcript, run: RowRun<'_>, count: usize) -> Result<(), NoMemory> {
+fn first_rows(out: &mut Transcript, run: RowRun<'_>, count: usize) {
     let mut rest = run.view();
     for _ in 0..count {
         match rest.split_first() {
             Some((row, others)) => {
-                out.word("RowRun::split_first")?;
-                out.returned()?;
-                out.row(row)?;
+                out.word("RowRun::split_first");
+                out.returned();
+                out.row(row);
                 rest = others;
             }
-            None => out.word("RowRun::split_first = none")?,
+            None => out.word("RowRun::split_first = none"),
         }
     }
-    out.word("left")?;
-    out.number(rest.len() as u64)?;
-    out.end()
+    out.word("left");
+    out.number(rest.len() as u64);
+    out.end();
 }
 
 fn pushed(out: &mut Transcript) -> Result<()> {
     let alloc = out.alloc;
     let pair = integer_and_text(alloc, -5, b"it's")?;
     let mut stored = StoredRows::new(alloc);
-    sizes(out, "StoredRows::new", &stored)?;
+    sizes(out, "StoredRows::new", &stored);
     stored.push(alloc, pair.as_slice())?;
     stored.push(alloc, &[])?;
     stored.push(alloc, &[Value::Int(64)])?;
-    sizes(out, "StoredRows::push", &stored)?;
-    first_rows(out, stored.as_run(), 4)?;
+    sizes(out, "StoredRows::push", &stored);
+    first_rows(out, stored.as_run(), 4);
     Ok(())
 }
 
@@ -73,16 +73,16 @@ fn copied(out: &mut Transcript) -> Result<()> {
         integers(out.alloc, &[])?,
     ];
     let mut stored = StoredRows::copied(out.alloc, &rows)?;
-    sizes(out, "StoredRows::copied", &stored)?;
+    sizes(out, "StoredRows::copied", &stored);
     let more = many_rows(out.alloc)?;
-    sizes(out, "StoredRows::push", &more)?;
+    sizes(out, "StoredRows::push", &more);
     stored.append(more)?;
-    sizes(out, "StoredRows::append", &stored)?;
-    first_rows(out, stored.as_run(), 4)?;
+    sizes(out, "StoredRows::append", &stored);
+    first_rows(out, stored.as_run(), 4);
     Ok(())
 }
 
-fn empty(out: &mut Transcript) -> Result<(), NoMemory> {
-    out.word("RowRun::empty")?;
-    first_rows(out, RowRun::empty(), 1)
+fn empty(out: &mut Transcript) {
+    out.word("RowRun::empty");
+    first_rows(out, RowRun::empty(), 1);
 }

@@ -7,19 +7,20 @@ mod world;
 
 use anyhow::Result;
 use calls_base::Transcript;
+use rs_base::Bytes;
 use rs_stream::{StdSink, write_whole};
 use std::alloc::Global;
 
-/// Makes the calls.
-fn calls(alloc: Global) -> Result<Transcript> {
+/// Makes the calls, and returns what they return.
+fn calls(alloc: Global) -> Result<Bytes> {
     let mut out = Transcript::new(alloc);
     site::calls(&mut out)?;
     world::calls(&mut out)?;
-    Ok(out)
+    Ok(out.finish()?)
 }
 
 fn main(rt: HostRuntime) -> Result<()> {
     let out = calls(rt.alloc())?;
-    write_whole(&mut StdSink::new(rt.stdout()), out.text())?;
+    write_whole(&mut StdSink::new(rt.stdout()), out.as_slice())?;
     Ok(())
 }

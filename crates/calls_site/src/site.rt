@@ -1,6 +1,6 @@
 //! Calls of rs_site.
 
-use anyhow::{Context, Result, bail, ensure};
+use anyhow::{Result, bail, ensure};
 use calls_base::{Transcript, ident, origin};
 use rs_base::{Bytes, NoMemory, Peer, Reply, SiteNo, one_item};
 use rs_msg::{ASK_LIMIT, Ask, Message, decode, encode};
@@ -58,26 +58,26 @@ fn datagram(alloc: Global, asked: Asked<'_>) -> Result<Input> {
 }
 
 /// Writes the replies, and the number of committed executions.
-fn outs(out: &mut Transcript, outs: &Outs) -> Result<(), NoMemory> {
+fn outs(out: &mut Transcript, outs: &Outs) {
     for sent in outs.replies.as_slice() {
-        out.reply(&sent.origin, &sent.reply)?;
+        out.reply(&sent.origin, &sent.reply);
     }
-    out.word("committed")?;
-    out.number(outs.decided.len() as u64)?;
-    out.end()
+    out.word("committed");
+    out.number(outs.decided.len() as u64);
+    out.end();
 }
 
 /// Steps the site by an ask.
 fn ask(out: &mut Transcript, site: &mut Site, asked: Asked<'_>) -> Result<()> {
     let (epoch, number, part, text) = asked;
-    out.word("Site::step")?;
-    out.number(u64::from(epoch))?;
-    out.number(number)?;
-    out.number(u64::from(part))?;
-    out.quoted(text)?;
-    out.end()?;
+    out.word("Site::step");
+    out.number(u64::from(epoch));
+    out.number(number);
+    out.number(u64::from(part));
+    out.quoted(text);
+    out.end();
     let outcome = site.step(out.alloc, &datagram(out.alloc, asked)?)?;
-    outs(out, &outcome)?;
+    outs(out, &outcome);
     Ok(())
 }
 
@@ -86,10 +86,10 @@ fn asks(out: &mut Transcript) -> Result<()> {
     for asked in ASKS {
         ask(out, &mut site, asked)?;
     }
-    out.word("Site::database, tables")?;
-    out.returned()?;
-    out.number(site.database().tables().len() as u64)?;
-    out.end()?;
+    out.word("Site::database, tables");
+    out.returned();
+    out.number(site.database().tables().len() as u64);
+    out.end();
     Ok(())
 }
 
@@ -118,13 +118,13 @@ fn parts(out: &mut Transcript) -> Result<()> {
     let mut site = with_long_reply(out.alloc)?;
     for part in [1, 3, 4] {
         let outcome = site.step(out.alloc, &datagram(out.alloc, (1, 3, part, b""))?)?;
-        out.word("Site::step, part")?;
-        out.number(u64::from(part))?;
-        out.returned()?;
+        out.word("Site::step, part");
+        out.number(u64::from(part));
+        out.returned();
         for sent in outcome.replies.as_slice() {
-            out.number(u64::from(sent.part))?;
+            out.number(u64::from(sent.part));
         }
-        out.end()?;
+        out.end();
     }
     Ok(())
 }
@@ -140,11 +140,11 @@ fn long_noise(alloc: Global) -> Result<Input, NoMemory> {
 fn noise(out: &mut Transcript) -> Result<()> {
     let mut site = opened(out.alloc)?;
     let outcome = site.step(out.alloc, &long_noise(out.alloc)?)?;
-    out.word("Site::step, 32769 bytes,")?;
-    outs(out, &outcome)?;
+    out.word("Site::step, 32769 bytes,");
+    outs(out, &outcome);
     let outcome = site.step(out.alloc, &Input::Tick)?;
-    out.word("Site::step, a tick,")?;
-    outs(out, &outcome)?;
+    out.word("Site::step, a tick,");
+    outs(out, &outcome);
     Ok(())
 }
 
@@ -166,25 +166,25 @@ fn first_part(out: &mut Transcript) -> Result<()> {
     let Message::Reply(read) = decode(out.alloc, bytes.as_slice())? else {
         bail!("another message");
     };
-    out.word("Told::message =")?;
-    out.bytes(read.origin.user.as_bytes())?;
-    out.number(read.origin.number)?;
-    out.word("part")?;
-    out.number(u64::from(read.part))?;
-    out.word("of")?;
-    out.number(u64::from(read.parts))?;
-    out.bytes(read.bytes.as_slice())?;
+    out.word("Told::message =");
+    out.bytes(read.origin.user.as_bytes());
+    out.number(read.origin.number);
+    out.word("part");
+    out.number(u64::from(read.part));
+    out.word("of");
+    out.number(u64::from(read.parts));
+    out.bytes(read.bytes.as_slice());
     Ok(())
 }
 
 fn further_part(out: &mut Transcript) -> Result<()> {
-    out.word("Told::message, part 1")?;
-    out.returned()?;
+    out.word("Told::message, part 1");
+    out.returned();
     out.word(match reply_part(1)?.message(out.alloc)? {
         Some(_) => "a message",
         None => "none",
-    })?;
-    out.end()?;
+    });
+    out.end();
     Ok(())
 }
 
@@ -209,12 +209,12 @@ fn last_part(out: &mut Transcript) -> Result<()> {
     let Message::Reply(read) = message else {
         bail!("another message");
     };
-    out.word("Told::message, last part =")?;
-    out.number(u64::from(read.part))?;
-    out.word("of")?;
-    out.number(u64::from(read.parts))?;
-    out.word("bytes")?;
-    out.number(read.bytes.len() as u64)?;
-    out.end()?;
+    out.word("Told::message, last part =");
+    out.number(u64::from(read.part));
+    out.word("of");
+    out.number(u64::from(read.parts));
+    out.word("bytes");
+    out.number(read.bytes.len() as u64);
+    out.end();
     Ok(())
 }

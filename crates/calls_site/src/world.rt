@@ -21,8 +21,8 @@ pub fn calls(out: &mut Transcript) -> Result<()> {
     let world = World::play(out.alloc, events.as_slice())?;
     let report = world.into_report(out.alloc)?;
     let text = print_report(out.alloc, &report)?;
-    out.word("World::play")?;
-    out.end()?;
-    out.bytes(text.as_slice())?;
+    out.word("World::play");
+    out.end();
+    out.bytes(text.as_slice());
     Ok(())
 }

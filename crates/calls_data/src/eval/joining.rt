@@ -43,11 +43,11 @@ fn joined(out: &mut Transcript, clauses: &[BoundClause], tables: &[StoredRows]) 
     for rows in tables {
         runs.push(rows.as_run())?;
     }
-    out.word("joined_rows")?;
-    out.returned()?;
+    out.word("joined_rows");
+    out.returned();
     match joined_rows(out.alloc, clauses, runs.as_slice())? {
-        Ok(rows) => out.rows(rows.as_slice())?,
-        Err(cause) => out.denial(cause)?,
+        Ok(rows) => out.rows(rows.as_slice()),
+        Err(cause) => out.denial(cause),
     }
     Ok(())
 }

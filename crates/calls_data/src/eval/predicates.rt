@@ -22,22 +22,21 @@ const OPS: [(&str, Op); 6] = [
 const ROWS: [(i64, &[u8], i64); 4] = [(9, b"x", 9), (9, b"x", 8), (4, b"x", 8), (4, b"y", 8)];
 
 pub fn calls(out: &mut Transcript) -> Result<()> {
-    comparisons(out)?;
+    comparisons(out);
     rows(out)
 }
 
-fn comparisons(out: &mut Transcript) -> Result<(), NoMemory> {
+fn comparisons(out: &mut Transcript) {
     for (text, op) in OPS {
-        out.word("allows")?;
-        out.word(text)?;
-        out.returned()?;
+        out.word("allows");
+        out.word(text);
+        out.returned();
         for order in [Ordering::Less, Ordering::Equal, Ordering::Greater] {
-            out.order(order)?;
-            out.yes_or_no(allows(op, order))?;
+            out.order(order);
+            out.yes_or_no(allows(op, order));
         }
-        out.end()?;
+        out.end();
     }
-    Ok(())
 }
 
 /// Returns a clause of two comparisons of one column.
@@ -86,11 +85,11 @@ fn predicate(alloc: Global) -> Result<BoundClauses, NoMemory> {
     Ok(clauses)
 }
 
-fn holds_for(out: &mut Transcript, clauses: &BoundClauses, row: &[Value]) -> Result<(), NoMemory> {
-    out.returned()?;
-    out.yes_or_no(holds(clauses.as_slice(), row))?;
-    out.word("for")?;
-    out.row(row)
+fn holds_for(out: &mut Transcript, clauses: &BoundClauses, row: &[Value]) {
+    out.returned();
+    out.yes_or_no(holds(clauses.as_slice(), row));
+    out.word("for");
+    out.row(row);
 }
 
 // The parameters are 7 and 'x'.
@@ -100,13 +99,13 @@ fn rows(out: &mut Transcript) -> Result<()> {
     let filled = fill(out.alloc, clauses.as_slice(), values.as_slice())?;
     for (first, text, last) in ROWS {
         let mut row = integer_and_text(out.alloc, first, text)?;
-        out.word("holds, filled")?;
-        holds_for(out, &filled, row.as_slice())?;
+        out.word("holds, filled");
+        holds_for(out, &filled, row.as_slice());
         row.push(Value::Int(last))?;
-        out.word("holds")?;
-        holds_for(out, &clauses, row.as_slice())?;
-        out.word("holds, filled")?;
-        holds_for(out, &filled, row.as_slice())?;
+        out.word("holds");
+        holds_for(out, &clauses, row.as_slice());
+        out.word("holds, filled");
+        holds_for(out, &filled, row.as_slice());
     }
     Ok(())
 }

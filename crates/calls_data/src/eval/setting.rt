@@ -20,29 +20,28 @@ const COMPUTED: [(Arith, i64, i64); 8] = [
 ];
 
 pub fn calls(out: &mut Transcript) -> Result<()> {
-    integers_computed(out)?;
+    integers_computed(out);
     set(out, 30)?;
     set(out, i64::MAX)
 }
 
-fn integers_computed(out: &mut Transcript) -> Result<(), NoMemory> {
+fn integers_computed(out: &mut Transcript) {
     for (arith, one, other) in COMPUTED {
-        out.word("compute")?;
-        out.integer(one)?;
+        out.word("compute");
+        out.integer(one);
         out.word(match arith {
             Arith::Add => "+",
             Arith::Sub => "-",
             Arith::Mul => "*",
-        })?;
-        out.integer(other)?;
-        out.returned()?;
+        });
+        out.integer(other);
+        out.returned();
         match compute(arith, one, other) {
-            Some(integer) => out.integer(integer)?,
-            None => out.word("none")?,
+            Some(integer) => out.integer(integer),
+            None => out.word("none"),
         }
-        out.end()?;
+        out.end();
     }
-    Ok(())
 }
 
 /// Returns the assignments of column 0 to the sum of it and parameter 0, and of column 1 to column 0.
@@ -66,11 +65,11 @@ fn set(out: &mut Transcript, parameter: i64) -> Result<()> {
     let sets = assignments(alloc)?;
     let row = integers(alloc, &[7, 8, 9])?;
     let values = integers(alloc, &[parameter])?;
-    out.word("set_row")?;
-    out.returned()?;
+    out.word("set_row");
+    out.returned();
     match set_row(alloc, sets.as_slice(), values.as_slice(), row.as_slice())? {
-        Ok(new) => out.row(new.as_slice())?,
-        Err(cause) => out.denial(cause)?,
+        Ok(new) => out.row(new.as_slice()),
+        Err(cause) => out.denial(cause),
     }
     Ok(())
 }

@@ -2,7 +2,6 @@
 
 use anyhow::Result;
 use calls_base::Transcript;
-use rs_base::NoMemory;
 use rs_stream::{MemSource, Source, StdSource, SureSource, read_to_end};
 use std::io::{Error, ErrorKind, Read};
 
@@ -12,32 +11,32 @@ pub fn calls(out: &mut Transcript) -> Result<()> {
     failing_reads(out)?;
     limits(out)?;
     pieces(out)?;
-    readers_of_std(out)?;
-    broken_reader(out)?;
+    readers_of_std(out);
+    broken_reader(out);
     Ok(())
 }
 
 /// Reads up to a limit, and shows the bytes.
-fn read<S: Source>(out: &mut Transcript, source: &mut S, limit: usize) -> Result<(), NoMemory> {
-    out.word("read_to_end")?;
-    out.number(limit as u64)?;
-    out.returned()?;
+fn read<S: Source>(out: &mut Transcript, source: &mut S, limit: usize) {
+    out.word("read_to_end");
+    out.number(limit as u64);
+    out.returned();
     match read_to_end(out.alloc, source, limit) {
-        Ok(bytes) => out.quoted(bytes.as_slice())?,
-        Err(fault) => out.fault(fault)?,
+        Ok(bytes) => out.quoted(bytes.as_slice()),
+        Err(fault) => out.fault(fault),
     }
-    out.end()
+    out.end();
 }
 
 // So short a source is read twice: once for all of its bytes, and once at its end.
 fn failing_reads(out: &mut Transcript) -> Result<()> {
     for fail in [[0, 0], [1, 0], [5, 2], [3, 4]] {
-        out.word("MemSource::new, failing")?;
+        out.word("MemSource::new, failing");
         for number in fail {
-            out.number(number)?;
+            out.number(number);
         }
         let mut source = MemSource::new(out.alloc, TEXT, &fail)?;
-        read(out, &mut source, 100)?;
+        read(out, &mut source, 100);
     }
     Ok(())
 }
@@ -45,57 +44,51 @@ fn failing_reads(out: &mut Transcript) -> Result<()> {
 fn limits(out: &mut Transcript) -> Result<()> {
     for limit in [0, 1, 7, 8, 9] {
         let mut source = MemSource::new(out.alloc, TEXT, &[])?;
-        read(out, &mut source, limit)?;
-        out.word("then")?;
-        read(out, &mut source, 100)?;
+        read(out, &mut source, limit);
+        out.word("then");
+        read(out, &mut source, 100);
     }
     Ok(())
 }
 
 /// Reads up to a limit of a long source, and writes how many bytes were read, and whether they are a prefix of it.
-fn read_long<S: Source>(
-    out: &mut Transcript,
-    source: &mut S,
-    limit: usize,
-    long: &[u8],
-) -> Result<(), NoMemory> {
-    out.word("read_to_end")?;
-    out.number(limit as u64)?;
-    out.returned()?;
+fn read_long<S: Source>(out: &mut Transcript, source: &mut S, limit: usize, long: &[u8]) {
+    out.word("read_to_end");
+    out.number(limit as u64);
+    out.returned();
     match read_to_end(out.alloc, source, limit) {
         Ok(bytes) => {
-            out.number(bytes.len() as u64)?;
+            out.number(bytes.len() as u64);
             out.word(if long.starts_with(bytes.as_slice()) {
                 "of its bytes"
             } else {
                 "other bytes"
-            })?;
+            });
         }
-        Err(fault) => out.fault(fault)?,
+        Err(fault) => out.fault(fault),
     }
-    out.end()
+    out.end();
 }
 
 fn pieces(out: &mut Transcript) -> Result<()> {
     let long = vec![in out.alloc; 7u8; 10000]?;
     for limit in [4095, 4096, 4097, 9999, 10000, 10001] {
         let mut source = SureSource::new(out.alloc, long.as_slice())?;
-        out.word("SureSource::new of 10000 bytes")?;
-        read_long(out, &mut source, limit, long.as_slice())?;
+        out.word("SureSource::new of 10000 bytes");
+        read_long(out, &mut source, limit, long.as_slice());
     }
     let mut source = MemSource::new(out.alloc, long.as_slice(), &[2])?;
-    out.word("MemSource::new of 10000 bytes, failing 2")?;
-    read_long(out, &mut source, 20000, long.as_slice())?;
+    out.word("MemSource::new of 10000 bytes, failing 2");
+    read_long(out, &mut source, 20000, long.as_slice());
     Ok(())
 }
 
-fn readers_of_std(out: &mut Transcript) -> Result<()> {
+fn readers_of_std(out: &mut Transcript) {
     let mut source = StdSource::new(TEXT);
-    out.word("StdSource::new")?;
-    read(out, &mut source, 3)?;
-    out.word("then")?;
-    read(out, &mut source, 100)?;
-    Ok(())
+    out.word("StdSource::new");
+    read(out, &mut source, 3);
+    out.word("then");
+    read(out, &mut source, 100);
 }
 
 /// A reader that only fails.
@@ -108,11 +101,10 @@ impl Read for Broken {
     }
 }
 
-fn broken_reader(out: &mut Transcript) -> Result<()> {
+fn broken_reader(out: &mut Transcript) {
     let mut source = StdSource::new(Broken);
-    out.word("StdSource::new, broken")?;
-    read(out, &mut source, 1)?;
-    out.word("StdSource::new, broken")?;
-    read(out, &mut source, 0)?;
-    Ok(())
+    out.word("StdSource::new, broken");
+    read(out, &mut source, 1);
+    out.word("StdSource::new, broken");
+    read(out, &mut source, 0);
 }
