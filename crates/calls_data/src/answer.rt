@@ -1,7 +1,7 @@
 //! Calls of rs_answer.
 
 use anyhow::Result;
-use calls_base::{Transcript, integers};
+use case_tools::{Transcript, integers};
 use rs_answer::{answer_rows, compare_answers, count_answer, is_count_only};
 use rs_ast::{Shape, ShapeItem, ShapeKey};
 use rs_base::{NoMemory, Rows, Value};

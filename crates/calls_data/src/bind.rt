@@ -5,7 +5,7 @@ ghost use Rattle.std.specs.Prelude.{◌≡◌, ◌≤◌, length, IfOk};
 mod shown;
 
 use anyhow::{Result, bail};
-use calls_base::{Transcript, dml, ident, name, site};
+use case_tools::{Transcript, dml, ident, name, site};
 use rs_ast::{Clauses, ColDef, Column, Dml, Entry};
 use rs_base::{Denial, Ident, Kind, NameText, NoMemory, SiteNo, Swn, Txn, Value};
 use rs_bind::{bind, bind_delete, bind_insert, bind_select, bind_update};

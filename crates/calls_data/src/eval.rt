@@ -5,7 +5,7 @@ mod predicates;
 mod setting;
 
 use anyhow::Result;
-use calls_base::Transcript;
+use case_tools::Transcript;
 
 pub fn calls(out: &mut Transcript) -> Result<()> {
     predicates::calls(out);

@@ -10,7 +10,7 @@ mod rows;
 mod stream;
 
 use anyhow::Result;
-use calls_base::Transcript;
+use case_tools::Transcript;
 use rs_base::Bytes;
 use rs_stream::{StdSink, write_whole};
 use std::alloc::Global;

@@ -1,7 +1,7 @@
 //! Calls of rs_plain: statements over plain tables.
 
 use anyhow::Result;
-use calls_base::{Transcript, dml, ident, integer_and_text, integers, name, origin, site};
+use case_tools::{Transcript, dml, ident, integer_and_text, integers, name, origin, site};
 use rs_ast::{Column, Columns};
 use rs_base::{Kind, NoMemory, Reply, Rows, one_item};
 use rs_plain::{PlainTable, PlainTables, answer_plain};

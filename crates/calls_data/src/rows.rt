@@ -1,7 +1,7 @@
 //! Calls of rs_rows.
 
 use anyhow::Result;
-use calls_base::{Transcript, integer_and_text, integers};
+use case_tools::{Transcript, integer_and_text, integers};
 use rs_base::{NoMemory, Row, Value};
 use rs_rows::{RowRun, StoredRows};
 use std::alloc::Global;

@@ -4,7 +4,7 @@ mod reading;
 mod writing;
 
 use anyhow::Result;
-use calls_base::Transcript;
+use case_tools::Transcript;
 
 pub fn calls(out: &mut Transcript) -> Result<()> {
     reading::calls(out)?;

@@ -6,7 +6,7 @@ mod site;
 mod world;
 
 use anyhow::Result;
-use calls_base::Transcript;
+use case_tools::Transcript;
 use rs_base::Bytes;
 use rs_stream::{StdSink, write_whole};
 use std::alloc::Global;

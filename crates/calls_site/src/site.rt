@@ -1,7 +1,7 @@
 //! Calls of rs_site.
 
 use anyhow::{Result, bail, ensure};
-use calls_base::{Transcript, ident, origin};
+use case_tools::{Transcript, ident, origin};
 use rs_base::{Bytes, NoMemory, Peer, Reply, SiteNo, one_item};
 use rs_msg::{ASK_LIMIT, Ask, Message, decode, encode};
 use rs_site::{Input, Outs, Site, Told};

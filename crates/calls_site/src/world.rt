@@ -1,7 +1,7 @@
 //! Calls of rs_world: asks that no settle follows, which a replayed schedule doesn't have.
 
 use anyhow::Result;
-use calls_base::Transcript;
+use case_tools::Transcript;
 use rs_sched::parse_schedule;
 use rs_world::{World, print_report};
 

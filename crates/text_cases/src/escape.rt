@@ -2,6 +2,7 @@
 
 ghost use Rattle.std.specs.Prelude.{◌<◌};
 
+use case_tools::Output;
 use rs_base::{Bytes, NoMemory};
 use std::alloc::Global;
 
@@ -30,37 +31,36 @@ fn first_byte(text: &[u8]) -> Option<(u8, &[u8])> {
 }
 
 /// Appends the bytes of a text without repetitions.
-fn append_bytes(text: &str, out: &mut Bytes) -> Result<(), NoMemory> {
+fn append_bytes(text: &str, out: &mut Output) {
     let mut left = text.as_bytes();
     for _ in 0..text.len() {
         let Some((byte, rest)) = first_byte(left) else {
             break;
         };
-        out.push(byte)?;
+        out.append(&[byte]);
         left = rest;
     }
-    Ok(())
 }
 
 /// Appends what `COUNT TEXT]` repeats, and the text after it.
-fn append_repeated(alloc: Global, text: &str, out: &mut Bytes) -> Result<(), NoMemory> {
+fn append_repeated(text: &str, out: &mut Output) {
     let (repetition, rest) = text.split_once(']').unwrap_or((text, ""));
     let (count, text) = repetition.split_once(' ').unwrap_or((repetition, ""));
-    let mut bytes = Bytes::new(alloc);
-    append_bytes(text, &mut bytes)?;
+    let mut repeated = Output::new(out.alloc);
+    append_bytes(text, &mut repeated);
     for _ in 0..count.parse::<u32>().unwrap_or(0) {
-        out.extend(bytes.as_slice())?;
+        out.append(repeated.as_slice());
     }
-    append_bytes(rest, out)
+    append_bytes(rest, out);
 }
 
 /// Reads `\n`, `\r`, `\t`, `\\` and `\xHH`, and the text that `\[COUNT TEXT]` repeats.
 pub fn unescaped(alloc: Global, line: &str) -> Result<Bytes, NoMemory> {
-    let mut out = Bytes::new(alloc);
+    let mut out = Output::new(alloc);
     let mut pieces = line.split("\\[");
-    append_bytes(pieces.next().unwrap_or(""), &mut out)?;
+    append_bytes(pieces.next().unwrap_or(""), &mut out);
     for piece in pieces {
-        append_repeated(alloc, piece, &mut out)?;
+        append_repeated(piece, &mut out);
     }
-    Ok(out)
+    out.finish()
 }

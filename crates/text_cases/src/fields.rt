@@ -2,22 +2,24 @@
 
 use crate::escape::unescaped;
 use crate::words::Words;
-use rs_base::{Bytes, NoMemory, ReadFault};
+use case_tools::Output;
+use rs_base::NoMemory;
 use rs_codec::{Fields, put_byte, put_count, put_int, put_text, put_u32, put_u64};
 use std::alloc::Global;
 
 /// Appends the encoding of a field of this kind and value.
-fn put(alloc: Global, kind: &str, value: &str, out: &mut Bytes) -> Result<(), ReadFault> {
+fn put(kind: &str, value: &str, out: &mut Output) -> Result<(), NoMemory> {
     let mut words = Words::new(value);
-    match kind {
-        "byte" => put_byte(out, value.parse().map_err(|_| ReadFault::Malformed)?)?,
-        "u32" => put_u32(out, words.small()?)?,
-        "u64" => put_u64(out, words.number()?)?,
-        "count" => put_count(out, words.number()?)?,
-        "int" => put_int(out, words.integer()?)?,
-        "text" => put_text(out, unescaped(alloc, value)?.as_slice())?,
-        _ => return Err(ReadFault::Malformed),
-    }
+    let text = unescaped(out.alloc, value)?;
+    let appended = match kind {
+        "byte" => put_byte(out.target(), words.byte()),
+        "u32" => put_u32(out.target(), words.small()),
+        "u64" => put_u64(out.target(), words.number()),
+        "count" => put_count(out.target(), words.number()),
+        "int" => put_int(out.target(), words.integer()),
+        _ => put_text(out.target(), text.as_slice()),
+    };
+    out.note(appended);
     Ok(())
 }
 
@@ -28,32 +30,41 @@ fn is_next(
     value: &str,
     fields: &mut Fields<'_>,
 ) -> Result<bool, NoMemory> {
+    let mut words = Words::new(value);
+    let text = unescaped(alloc, value)?;
     Ok(match kind {
-        "byte" => fields.take_byte() == value.parse::<u8>().ok(),
-        "u32" => fields.take_u32() == value.parse::<u32>().ok(),
-        "u64" => fields.take_u64() == value.parse::<u64>().ok(),
-        "count" => fields.take_count() == value.parse::<u64>().ok(),
-        "int" => fields.take_int() == value.parse::<i64>().ok(),
-        _ => fields.take_text() == Some(unescaped(alloc, value)?.as_slice()),
+        "byte" => fields.take_byte() == Some(words.byte()),
+        "u32" => fields.take_u32() == Some(words.small()),
+        "u64" => fields.take_u64() == Some(words.number()),
+        "count" => fields.take_count() == Some(words.number()),
+        "int" => fields.take_int() == Some(words.integer()),
+        _ => fields.take_text() == Some(text.as_slice()),
     })
 }
 
-/// Appends the encodings of the fields, from which they are read again.
-pub fn append_fields(alloc: Global, items: &str, out: &mut Bytes) -> Result<(), ReadFault> {
-    let mut bytes = Bytes::new(alloc);
+/// Appends the encodings of the fields.
+fn encoded(alloc: Global, items: &str) -> Result<Output, NoMemory> {
+    let mut out = Output::new(alloc);
     for item in items.split(", ") {
         let (kind, value) = item.split_once(' ').unwrap_or((item, ""));
-        put(alloc, kind, value, &mut bytes)?;
+        put(kind, value, &mut out)?;
     }
-    out.extend(bytes.as_slice())?;
+    Ok(out)
+}
+
+/// Appends the encodings of the fields, from which they are read again.
+pub fn append_fields(items: &str, out: &mut Output) -> Result<(), NoMemory> {
+    let bytes = encoded(out.alloc, items)?;
+    out.append(bytes.as_slice());
     let mut fields = Fields::new(bytes.as_slice());
     for item in items.split(", ") {
         let (kind, value) = item.split_once(' ').unwrap_or((item, ""));
-        if !is_next(alloc, kind, value, &mut fields)? {
-            out.extend(b" (read otherwise)")?;
+        if !is_next(out.alloc, kind, value, &mut fields)? {
+            out.text(" (read otherwise)");
         }
     }
-    Ok(out.extend(fields.rest())?)
+    out.append(fields.rest());
+    Ok(())
 }
 
 /// Reports whether no field of this kind is read next.
@@ -70,12 +81,13 @@ fn is_none(kind: &str, fields: &mut Fields<'_>) -> bool {
 }
 
 /// Appends `none`, if no field of the kind is read from the bytes, and the bytes that are left.
-pub fn append_refused(alloc: Global, input: &str, out: &mut Bytes) -> Result<(), NoMemory> {
+pub fn append_refused(input: &str, out: &mut Output) -> Result<(), NoMemory> {
     let (kind, bytes) = input.split_once(' ').unwrap_or((input, ""));
-    let bytes = unescaped(alloc, bytes)?;
+    let bytes = unescaped(out.alloc, bytes)?;
     let mut fields = Fields::new(bytes.as_slice());
     if is_none(kind, &mut fields) {
-        out.extend(b"none:")?;
+        out.text("none:");
     }
-    out.extend(fields.rest())
+    out.append(fields.rest());
+    Ok(())
 }

@@ -12,14 +12,17 @@ mod texts;
 mod values;
 mod words;
 
+use anyhow::Result;
+use case_tools::Output;
 use escape::unescaped;
-use rs_base::{Bytes, NoMemory, ReadFault};
-use std::alloc::{AllocError, Global};
+use rs_base::NoMemory;
+use rs_stream::{StdSink, write_whole};
+use std::fs;
 use std::rt::Files;
-use std::{fs, io};
+use words::Words;
 
 /// What an outcome is appended to.
-const BEFORE: &[u8] = b"before ";
+const BEFORE: &str = "before ";
 
 /// The cases of a file: their kind, and the prefixes after which reserved words stand.
 #[derive(Drop)]
@@ -30,95 +33,113 @@ struct Cases<'a> {
 
 impl Cases<'_> {
     /// Appends what the calls of this kind give for an input.
-    fn append(&self, alloc: Global, input: &str, out: &mut Bytes) -> Result<(), ReadFault> {
+    fn append(&self, input: &str, out: &mut Output) -> Result<(), NoMemory> {
         match self.kind {
-            "parse" => texts::append_fault(alloc, input, out)?,
-            "cuts" => texts::append_cuts(alloc, input, out)?,
-            "reserved" => texts::append_prefixes(alloc, input, self.prefixes, out)?,
-            "printed" => texts::append_printed(alloc, input, out)?,
-            "names" => names::append_name(alloc, input, out)?,
-            "resolved" => names::append_resolved(alloc, input, out)?,
-            "schedules" => schedules::append_schedule(alloc, input, true, out)?,
-            "lines" => schedules::append_schedule(alloc, input, false, out)?,
-            "events" => schedules::append_events(alloc, input, out)?,
-            "fields" => fields::append_fields(alloc, input, out)?,
-            "refused" => fields::append_refused(alloc, input, out)?,
-            "encoded" => messages::append_encoded(alloc, input, out)?,
-            "decoded" => messages::append_decoded(alloc, input, out)?,
-            "values" => values::append_value(alloc, input, out)?,
-            "replies" => replies::append_reply(alloc, input, out)?,
-            _ => return Err(ReadFault::Malformed),
+            "parse" => texts::append_fault(input, out),
+            "cuts" => texts::append_cuts(input, out),
+            "reserved" => texts::append_prefixes(input, self.prefixes, out),
+            "printed" => texts::append_printed(input, out),
+            "names" => names::append_name(input, out),
+            "schedules" => schedules::append_schedule(input, true, out),
+            "lines" => schedules::append_schedule(input, false, out),
+            "events" => schedules::append_events(input, out),
+            "fields" => fields::append_fields(input, out),
+            "refused" => fields::append_refused(input, out),
+            "decoded" => messages::append_decoded(input, out),
+            _ => self.append_read(&mut Words::new(input), out),
+        }
+    }
+
+    /// Appends what the calls of this kind give for what the words say.
+    fn append_read(&self, words: &mut Words<'_>, out: &mut Output) -> Result<(), NoMemory> {
+        match self.kind {
+            "resolved" => names::append_resolved(words, out),
+            "encoded" => messages::append_encoded(words, out)?,
+            "values" => values::append_value(words, out)?,
+            "replies" => replies::append_reply(words, out)?,
+            _ => out.text("(no such kind)"),
+        }
+        if !words.are_read() {
+            out.text("(a line that is not read)");
         }
         Ok(())
     }
 
-    /// Gives what the calls leave after `BEFORE`, if it is not the wanted bytes.
-    fn difference(
+    /// Checks the case of a line, and reports it if it does not hold.
+    fn check(
         &self,
-        alloc: Global,
-        input: &str,
-        wanted: &str,
-    ) -> Result<Option<Bytes>, NoMemory> {
-        let mut expected = Bytes::from_slice(alloc, BEFORE)?;
-        expected.extend(unescaped(alloc, wanted)?.as_slice())?;
-        let mut out = Bytes::from_slice(alloc, BEFORE)?;
-        match self.append(alloc, input, &mut out) {
-            Ok(()) => {}
-            Err(ReadFault::Malformed) => out.extend(b"(a line that is not read)")?,
-            Err(ReadFault::NoMemory) => return Err(NoMemory),
-        }
-        Ok(if out.as_slice() == expected.as_slice() {
-            None
-        } else {
-            Some(out)
-        })
-    }
-}
-
-/// Gives the bytes as a text.
-fn shown(bytes: &[u8]) -> &str {
-    str::from_utf8(bytes).unwrap_or("bytes that are not UTF-8")
-}
-
-/// Prints each case of a file that does not hold, and then the number of cases.
-fn check<R: Files + AllocGlobal + Print>(rt: &R, cases: &Cases<'_>, file: &str) -> io::Result<()> {
-    let text = fs::read_to_string(rt, file)?;
-    let mut number = 0u64;
-    let mut count = 0u64;
-    for line in text.lines() {
-        number = number.saturating_add(1);
-        if line.is_empty() || line.starts_with('#') {
-            continue;
-        }
-        count = count.saturating_add(1);
+        place: &str,
+        number: u64,
+        line: &str,
+        out: &mut Output,
+    ) -> Result<(), NoMemory> {
         let (input, wanted) = line.split_once(" -> ").unwrap_or((line, ""));
-        let difference = cases
-            .difference(rt.alloc(), input, wanted)
-            .map_err(|_| AllocError)?;
-        if let Some(came) = difference {
-            let came = shown(came.as_slice());
-            println!(rt; "{file}:{number}: {input}: wanted {wanted}, came {came:?}")?;
+        let wanted_bytes = unescaped(out.alloc, wanted)?;
+        let mut expected = Output::new(out.alloc);
+        expected.text(BEFORE);
+        expected.append(wanted_bytes.as_slice());
+        let mut came = Output::new(out.alloc);
+        came.text(BEFORE);
+        self.append(input, &mut came)?;
+        if came.as_slice() != expected.as_slice() {
+            report(place, number, line, came.as_slice(), out);
         }
+        Ok(())
     }
-    println!(rt; "{} {file}: {count} cases", cases.kind)
+
+    /// Checks each case of a text, and appends their number.
+    fn check_all(&self, file: &str, text: &str, out: &mut Output) -> Result<(), NoMemory> {
+        let mut number = 0u64;
+        let mut count = 0u64;
+        for line in text.lines() {
+            number = number.saturating_add(1);
+            if !line.is_empty() && !line.starts_with('#') {
+                count = count.saturating_add(1);
+                self.check(file, number, line, out)?;
+            }
+        }
+        out.text(self.kind);
+        out.text(" ");
+        out.text(file);
+        out.text(": ");
+        out.number(count);
+        out.text(" cases\n");
+        Ok(())
+    }
+}
+
+/// Appends what came in place of what a case wants.
+fn report(file: &str, number: u64, line: &str, came: &[u8], out: &mut Output) {
+    out.text(file);
+    out.text(":");
+    out.number(number);
+    out.text(": ");
+    out.text(line);
+    out.text(", came \"");
+    out.append(came);
+    out.text("\"\n");
 }
 
 /// Checks the files of a line `KIND FILE`, or `reserved FILE PREFIXES`.
-fn check_line<R: Files + AllocGlobal + Print>(rt: &R, line: &str) -> io::Result<()> {
+fn check_line<R: Files + AllocGlobal>(rt: &R, line: &str, out: &mut Output) -> Result<()> {
     let (kind, files) = line.split_once(' ').unwrap_or((line, ""));
-    match files.split_once(' ') {
-        None => check(rt, &Cases { kind, prefixes: "" }, files),
-        Some((file, prefixes)) => {
-            let prefixes = fs::read_to_string(rt, prefixes)?;
-            let prefixes = prefixes.as_str();
-            check(rt, &Cases { kind, prefixes }, file)
-        }
-    }
+    let (file, prefixes) = files.split_once(' ').unwrap_or((files, files));
+    let text = fs::read_to_string(rt, file)?;
+    let prefixes = fs::read_to_string(rt, prefixes)?;
+    let cases = Cases {
+        kind,
+        prefixes: prefixes.as_str(),
+    };
+    cases.check_all(file, text.as_str(), out)?;
+    Ok(())
 }
 
-fn main(rt: HostRuntime) -> io::Result<()> {
+fn main(rt: HostRuntime) -> Result<()> {
+    let mut out = Output::new(rt.alloc());
     for line in rt.lines(rt.alloc()) {
-        check_line(&rt, line?.as_str())?;
+        check_line(&rt, line?.as_str(), &mut out)?;
     }
+    let report = out.finish()?;
+    write_whole(&mut StdSink::new(rt.stdout()), report.as_slice())?;
     Ok(())
 }

@@ -2,77 +2,79 @@
 
 use crate::values::read_value;
 use crate::words::Words;
+use case_tools::Output;
 use rs_ast::{Arith, Op};
 use rs_base::{
-    Bytes, ReadFault, Value, order_of_enlists, order_of_names, order_of_origins, order_of_txns,
-    order_of_values, print_value,
+    NoMemory, Value, order_of_enlists, order_of_names, order_of_origins, order_of_txns,
+    order_of_values,
 };
 use rs_eval::{allows, compute};
 use std::alloc::Global;
 use std::cmp::Ordering;
 
+/// Reads two values, and orders them.
+fn order_of_two(alloc: Global, words: &mut Words<'_>) -> Result<Ordering, NoMemory> {
+    let one = read_value(alloc, words.next())?;
+    let other = read_value(alloc, words.next())?;
+    Ok(order_of_values(&one, &other))
+}
+
 /// Appends the order of two values, names, transactions, enlistments or requests.
-pub fn append_order(alloc: Global, line: &str, out: &mut Bytes) -> Result<(), ReadFault> {
-    let mut words = Words::new(line);
+pub fn append_order(words: &mut Words<'_>, out: &mut Output) -> Result<(), NoMemory> {
     let order = match words.next() {
-        "value" => {
-            let one = read_value(alloc, words.next())?;
-            order_of_values(&one, &read_value(alloc, words.next())?)
-        }
-        "swn" => order_of_names(&words.swn()?, &words.swn()?),
-        "txn" => order_of_txns(&words.txn()?, &words.txn()?),
-        "enlist" => order_of_enlists(&words.enlist()?, &words.enlist()?),
-        "origin" => order_of_origins(&words.origin()?, &words.origin()?),
-        _ => return Err(ReadFault::Malformed),
+        "value" => order_of_two(out.alloc, words)?,
+        "swn" => order_of_names(&words.swn(), &words.swn()),
+        "txn" => order_of_txns(&words.txn(), &words.txn()),
+        "enlist" => order_of_enlists(&words.enlist(), &words.enlist()),
+        _ => order_of_origins(&words.origin(), &words.origin()),
     };
-    out.extend(match order {
-        Ordering::Less => b"less".as_slice(),
-        Ordering::Equal => b"equal",
-        Ordering::Greater => b"greater",
-    })?;
+    out.text(match order {
+        Ordering::Less => "less",
+        Ordering::Equal => "equal",
+        Ordering::Greater => "greater",
+    });
     Ok(())
 }
 
-fn op_of(word: &str) -> Result<Op, ReadFault> {
+fn op_of(word: &str) -> Op {
     match word {
-        "=" => Ok(Op::Eq),
-        "<>" => Ok(Op::Ne),
-        "<" => Ok(Op::Lt),
-        "<=" => Ok(Op::Le),
-        ">" => Ok(Op::Gt),
-        ">=" => Ok(Op::Ge),
-        _ => Err(ReadFault::Malformed),
+        "=" => Op::Eq,
+        "<>" => Op::Ne,
+        "<" => Op::Lt,
+        "<=" => Op::Le,
+        ">" => Op::Gt,
+        _ => Op::Ge,
     }
 }
 
 /// Appends `<`, `=` and `>` for the orders that an operator allows.
-pub fn append_allowed(word: &str, out: &mut Bytes) -> Result<(), ReadFault> {
-    let op = op_of(word)?;
+pub fn append_allowed(word: &str, out: &mut Output) {
+    let op = op_of(word);
     for (order, symbol) in [
-        (Ordering::Less, b'<'),
-        (Ordering::Equal, b'='),
-        (Ordering::Greater, b'>'),
+        (Ordering::Less, "<"),
+        (Ordering::Equal, "="),
+        (Ordering::Greater, ">"),
     ] {
         if allows(op, order) {
-            out.push(symbol)?;
+            out.text(symbol);
         }
     }
-    Ok(())
+}
+
+fn arith_of(word: &str) -> Arith {
+    match word {
+        "+" => Arith::Add,
+        "-" => Arith::Sub,
+        _ => Arith::Mul,
+    }
 }
 
 /// Appends the integer that `INTEGER + INTEGER` or another operator computes, or `none`.
-pub fn append_computed(alloc: Global, line: &str, out: &mut Bytes) -> Result<(), ReadFault> {
-    let mut words = Words::new(line);
-    let one = words.integer()?;
-    let arith = match words.next() {
-        "+" => Arith::Add,
-        "-" => Arith::Sub,
-        "*" => Arith::Mul,
-        _ => return Err(ReadFault::Malformed),
-    };
-    match compute(arith, one, words.integer()?) {
-        Some(integer) => print_value(alloc, &Value::Int(integer), out)?,
-        None => out.extend(b"none")?,
+pub fn append_computed(words: &mut Words<'_>, out: &mut Output) {
+    let one = words.integer();
+    let arith = arith_of(words.next());
+    match compute(arith, one, words.integer()) {
+        Some(integer) => out.value(&Value::Int(integer)),
+        None => out.text("none"),
     }
-    Ok(())
 }

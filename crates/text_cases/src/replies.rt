@@ -2,32 +2,31 @@
 
 use crate::values::read_row;
 use crate::words::Words;
-use rs_base::{
-    Answer, Answers, Bytes, Denial, ReadFault, Reason, Reply, Resource, Rows, Swn, one_item,
-};
-use rs_name::parse_swn;
-use rs_print::print_reply;
+use case_tools::Output;
+use rs_base::{Answer, Answers, Bytes, Denial, NoMemory, Reason, Reply, Resource, Rows, one_item};
 use std::alloc::Global;
 
+/// Reads rows, separated by `;`.
+fn read_rows(alloc: Global, lines: &str) -> Result<Rows, NoMemory> {
+    let mut rows = Rows::new(alloc);
+    for line in lines.split(';') {
+        rows.push(read_row(alloc, line)?)?;
+    }
+    Ok(rows)
+}
+
 /// Reads `ok`, `changed:COUNT` or `rows:ROW;ROW`.
-fn read_answer(alloc: Global, word: &str) -> Result<Answer, ReadFault> {
+fn read_answer(alloc: Global, word: &str) -> Result<Answer, NoMemory> {
     let (kind, rest) = word.split_once(':').unwrap_or((word, ""));
     match kind {
         "ok" => Ok(Answer::Ok),
-        "changed" => Ok(Answer::Changed(Words::new(rest).number()?)),
-        "rows" => {
-            let mut rows = Rows::new(alloc);
-            for line in rest.split(';') {
-                rows.push(read_row(alloc, line)?)?;
-            }
-            Ok(Answer::Rows(rows))
-        }
-        _ => Err(ReadFault::Malformed),
+        "changed" => Ok(Answer::Changed(Words::new(rest).number())),
+        _ => Ok(Answer::Rows(read_rows(alloc, rest)?)),
     }
 }
 
 /// Reads answers, separated by blanks.
-fn read_answers(alloc: Global, line: &str) -> Result<Answers, ReadFault> {
+fn read_answers(alloc: Global, line: &str) -> Result<Answers, NoMemory> {
     let mut answers = Answers::new(alloc);
     for word in line.split(' ') {
         answers.push(read_answer(alloc, word)?)?;
@@ -35,74 +34,65 @@ fn read_answers(alloc: Global, line: &str) -> Result<Answers, ReadFault> {
     Ok(answers)
 }
 
-/// Reads a system-wide name.
-fn read_name(words: &mut Words<'_>) -> Result<Swn, ReadFault> {
-    parse_swn(words.next().as_bytes()).ok_or(ReadFault::Malformed)
-}
-
 /// Reads `table NAME`, `birth NAME`, `program USER NAME` or `synonyms USER`.
-fn read_resource(words: &mut Words<'_>) -> Result<Resource, ReadFault> {
+fn read_resource(words: &mut Words<'_>) -> Resource {
     match words.next() {
-        "table" => Ok(Resource::Table(read_name(words)?)),
-        "birth" => Ok(Resource::Birth(read_name(words)?)),
-        "program" => Ok(Resource::Program(words.ident()?, words.ident()?)),
-        "synonyms" => Ok(Resource::Synonyms(words.ident()?)),
-        _ => Err(ReadFault::Malformed),
+        "table" => Resource::Table(words.name()),
+        "birth" => Resource::Birth(words.name()),
+        "program" => Resource::Program(words.ident(), words.ident()),
+        _ => Resource::Synonyms(words.ident()),
     }
 }
 
 /// Reads the cause of a failure, and what belongs to it.
-fn read_reason(words: &mut Words<'_>) -> Result<Reason, ReadFault> {
+fn read_reason(words: &mut Words<'_>) -> Reason {
     match words.next() {
-        "LockBudget" => Ok(Reason::LockBudget {
-            site: words.site()?,
-            what: read_resource(words)?,
-            holder: words.enlist()?,
-        }),
-        "NoAnswer" => Ok(Reason::NoAnswer {
-            site: words.site()?,
-        }),
-        "SiteLost" => Ok(Reason::SiteLost {
-            site: words.site()?,
-        }),
-        _ => Err(ReadFault::Malformed),
+        "LockBudget" => Reason::LockBudget {
+            site: words.site(),
+            what: read_resource(words),
+            holder: words.enlist(),
+        },
+        "NoAnswer" => Reason::NoAnswer { site: words.site() },
+        _ => Reason::SiteLost { site: words.site() },
+    }
+}
+
+fn denial_of(word: &str) -> Denial {
+    match word {
+        "NoTable" => Denial::NoTable,
+        _ => Denial::TableFull,
     }
 }
 
 /// Reads the class of a reply, and what belongs to it.
-fn read_reply(alloc: Global, words: &mut Words<'_>) -> Result<Reply, ReadFault> {
+fn read_reply(alloc: Global, words: &mut Words<'_>) -> Result<Reply, NoMemory> {
     match words.next() {
         "Done" => Ok(Reply::Done(read_answers(alloc, words.rest())?)),
-        "Denied" => match words.next() {
-            "NoTable" => Ok(Reply::Denied(Denial::NoTable)),
-            "TableFull" => Ok(Reply::Denied(Denial::TableFull)),
-            _ => Err(ReadFault::Malformed),
-        },
-        "Failed" => Ok(Reply::Failed(read_reason(words)?)),
+        "Denied" => Ok(Reply::Denied(denial_of(words.next()))),
+        "Failed" => Ok(Reply::Failed(read_reason(words))),
         "Shown" => {
             let line = Bytes::from_slice(alloc, words.rest().as_bytes())?;
             Ok(Reply::Shown(one_item(alloc, line)?))
         }
-        "Syntax" => Ok(Reply::Syntax(words.small()?)),
-        "OldEpoch" => Ok(Reply::OldEpoch(words.small()?)),
-        "OldRequest" => Ok(Reply::OldRequest(words.number()?)),
-        "Gap" => Ok(Reply::Gap(words.number()?)),
-        _ => Err(ReadFault::Malformed),
+        "Syntax" => Ok(Reply::Syntax(words.small())),
+        "OldEpoch" => Ok(Reply::OldEpoch(words.small())),
+        "OldRequest" => Ok(Reply::OldRequest(words.number())),
+        _ => Ok(Reply::Gap(words.number())),
     }
 }
 
 /// Appends the printed reply to `SITE USER EPOCH NUMBER`, as its copy is printed too.
-pub fn append_reply(alloc: Global, input: &str, out: &mut Bytes) -> Result<(), ReadFault> {
-    let mut words = Words::new(input);
-    let origin = words.origin()?;
-    let reply = read_reply(alloc, &mut words)?;
-    print_reply(alloc, &origin, &reply, out)?;
-    let mut first = Bytes::new(alloc);
-    print_reply(alloc, &origin, &reply, &mut first)?;
-    let mut second = Bytes::new(alloc);
-    print_reply(alloc, &origin, &reply.copy(alloc)?, &mut second)?;
+pub fn append_reply(words: &mut Words<'_>, out: &mut Output) -> Result<(), NoMemory> {
+    let origin = words.origin();
+    let reply = read_reply(out.alloc, words)?;
+    let copy = reply.copy(out.alloc)?;
+    let mut first = Output::new(out.alloc);
+    first.reply(&origin, &reply);
+    let mut second = Output::new(out.alloc);
+    second.reply(&origin, &copy);
     if first.as_slice() != second.as_slice() {
-        out.extend(b" (its copy is printed otherwise)")?;
+        out.text("(its copy is printed otherwise) ");
     }
+    out.reply(&origin, &reply);
     Ok(())
 }

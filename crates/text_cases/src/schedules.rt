@@ -1,119 +1,152 @@
 //! Schedules: what they are refused for, and their events.
 
 use crate::escape::unescaped;
-use rs_base::{Bytes, NoMemory};
+use case_tools::Output;
+use rs_base::{NoMemory, SiteNo};
 use rs_sched::{Event, EventLines, SchedFault, Why, parse_schedule, print_event};
-use std::alloc::{AllocError, Global};
 
 /// Gives the name of a cause.
-fn name_of(why: Why) -> &'static [u8] {
+fn name_of(why: Why) -> &'static str {
     match why {
-        Why::NoSites => b"NoSites",
-        Why::SitesAgain => b"SitesAgain",
-        Why::UnknownWord => b"UnknownWord",
-        Why::BadFields => b"BadFields",
-        Why::NotUtf8 => b"NotUtf8",
-        Why::TooLong => b"TooLong",
+        Why::NoSites => "NoSites",
+        Why::SitesAgain => "SitesAgain",
+        Why::UnknownWord => "UnknownWord",
+        Why::BadFields => "BadFields",
+        Why::NotUtf8 => "NotUtf8",
+        Why::TooLong => "TooLong",
     }
 }
 
 /// Appends the line and the cause of a refusal.
-fn append_refusal(alloc: Global, fault: SchedFault, out: &mut Bytes) -> Result<(), NoMemory> {
-    let SchedFault::BadLine { line, why } = fault else {
-        return Err(NoMemory);
-    };
-    out.extend(format!(in alloc; "line {line} ")?.as_bytes())?;
-    out.extend(name_of(why))?;
-    out.extend(b": ")?;
-    out.extend(why.text())
+fn append_refusal(fault: SchedFault, out: &mut Output) {
+    match fault {
+        SchedFault::BadLine { line, why } => {
+            out.text("line ");
+            out.number(line);
+            out.text(" ");
+            out.text(name_of(why));
+            out.text(": ");
+            out.append(why.text());
+        }
+        SchedFault::NoMemory => out.note(Err(NoMemory)),
+    }
+}
+
+/// Prints an event.
+fn print(event: &Event, out: &mut Output) {
+    let printed = print_event(out.alloc, event, out.target());
+    out.note(printed);
 }
 
 /// Prints the events of a schedule.
-fn print_schedule(alloc: Global, source: &[u8], out: &mut Bytes) -> Result<(), SchedFault> {
-    for event in parse_schedule(alloc, source)?.as_slice() {
-        print_event(alloc, event, out).map_err(|_| SchedFault::NoMemory)?;
+fn print_schedule(source: &[u8], out: &mut Output) -> Result<(), SchedFault> {
+    for event in parse_schedule(out.alloc, source)?.as_slice() {
+        print(event, out);
     }
     Ok(())
 }
 
 /// Prints the events of a schedule, which are read one by one.
-fn print_lines(alloc: Global, source: &[u8], out: &mut Bytes) -> Result<(), SchedFault> {
+fn print_lines(source: &[u8], out: &mut Output) -> Result<(), SchedFault> {
     let mut lines = EventLines::new(source);
     for _ in 0..source.len() + 1 {
-        let Some(event) = lines.next(alloc)? else {
+        let Some(event) = lines.next(out.alloc)? else {
             break;
         };
-        print_event(alloc, &event, out).map_err(|_| SchedFault::NoMemory)?;
+        print(&event, out);
     }
     Ok(())
 }
 
 /// Appends the printed events of a schedule that is read as a whole or event by event, or its refusal.
-pub fn append_schedule(
-    alloc: Global,
-    input: &str,
-    whole: bool,
-    out: &mut Bytes,
-) -> Result<(), NoMemory> {
-    let source = unescaped(alloc, input)?;
-    let mut printed = Bytes::new(alloc);
+pub fn append_schedule(input: &str, whole: bool, out: &mut Output) -> Result<(), NoMemory> {
+    let source = unescaped(out.alloc, input)?;
+    let mut printed = Output::new(out.alloc);
     let outcome = if whole {
-        print_schedule(alloc, source.as_slice(), &mut printed)
+        print_schedule(source.as_slice(), &mut printed)
     } else {
-        print_lines(alloc, source.as_slice(), &mut printed)
+        print_lines(source.as_slice(), &mut printed)
     };
     match outcome {
-        Ok(()) => out.extend(printed.as_slice()),
-        Err(fault) => append_refusal(alloc, fault, out),
+        Ok(()) => out.append(printed.as_slice()),
+        Err(fault) => append_refusal(fault, out),
     }
+    Ok(())
 }
 
-/// Gives an event, field by field, without its bytes.
-fn event_text(alloc: Global, event: &Event) -> Result<String, AllocError> {
-    match event {
-        Event::Sites(last) => format!(in alloc; "Sites {}", last.number()),
-        Event::Ask { origin: of, .. } => {
-            format!(in alloc; "Ask {} {} {} ", of.site.number(), of.epoch, of.number)
-        }
-        Event::Deliver(of) => format!(in alloc; "Deliver {of}"),
-        Event::Lose(of) => format!(in alloc; "Lose {of}"),
-        Event::Tick(at, ticks) => format!(in alloc; "Tick {} {ticks}", at.number()),
-        Event::Stop(at, writes, bytes) => {
-            format!(in alloc; "Stop {} {writes} {bytes}", at.number())
-        }
-        Event::Arm(at, call, writes, bytes) => {
-            format!(in alloc; "Arm {} {call} {writes} {bytes}", at.number())
-        }
-        Event::Restart(at) => format!(in alloc; "Restart {}", at.number()),
-        Event::Settle(None) => format!(in alloc; "Settle"),
-        Event::Settle(Some(most)) => format!(in alloc; "Settle {most}"),
-        Event::Noise(at, _) => format!(in alloc; "Noise {} ", at.number()),
+/// Appends the name of an event at a site.
+fn at(out: &mut Output, name: &str, site: SiteNo) {
+    out.text(name);
+    out.text(" ");
+    out.number(u64::from(site.number()));
+}
+
+/// Appends a further number.
+fn and(out: &mut Output, number: u64) {
+    out.text(" ");
+    out.number(number);
+}
+
+/// Appends the name of an event with a number.
+fn of(out: &mut Output, name: &str, number: u64) {
+    out.text(name);
+    and(out, number);
+}
+
+/// Appends the name of an event at a site, and three numbers of which the first may be left out.
+fn stop(out: &mut Output, name: &str, site: SiteNo, call: Option<u64>, writes: u64, bytes: u64) {
+    at(out, name, site);
+    if let Some(call) = call {
+        and(out, call);
     }
+    and(out, writes);
+    and(out, bytes);
 }
 
 /// Appends an event, field by field.
-fn append_event(alloc: Global, event: &Event, out: &mut Bytes) -> Result<(), NoMemory> {
-    out.extend(event_text(alloc, event)?.as_bytes())?;
+fn append_event(event: &Event, out: &mut Output) {
     match event {
+        Event::Sites(last) => at(out, "Sites", *last),
         Event::Ask { origin, text } => {
-            out.extend(origin.user.as_bytes())?;
-            out.extend(b" ")?;
-            out.extend(text.as_slice())?;
+            at(out, "Ask", origin.site);
+            and(out, u64::from(origin.epoch));
+            and(out, origin.number);
+            out.text(" ");
+            out.append(origin.user.as_bytes());
+            out.text(" ");
+            out.append(text.as_slice());
         }
-        Event::Noise(_, bytes) => out.extend(bytes.as_slice())?,
-        _ => {}
+        Event::Deliver(number) => of(out, "Deliver", *number),
+        Event::Lose(number) => of(out, "Lose", *number),
+        Event::Tick(site, ticks) => {
+            at(out, "Tick", *site);
+            and(out, u64::from(*ticks));
+        }
+        Event::Stop(site, writes, bytes) => stop(out, "Stop", *site, None, *writes, *bytes),
+        Event::Arm(site, call, writes, bytes) => {
+            stop(out, "Arm", *site, Some(*call), *writes, *bytes);
+        }
+        Event::Restart(site) => at(out, "Restart", *site),
+        Event::Settle(None) => out.text("Settle"),
+        Event::Settle(Some(most)) => of(out, "Settle", *most),
+        Event::Noise(site, bytes) => {
+            at(out, "Noise", *site);
+            out.text(" ");
+            out.append(bytes.as_slice());
+        }
     }
-    out.extend(b"; ")
+    out.text("; ");
 }
 
 /// Appends the events of a schedule, field by field.
-pub fn append_events(alloc: Global, input: &str, out: &mut Bytes) -> Result<(), NoMemory> {
-    let source = unescaped(alloc, input)?;
-    let Ok(events) = parse_schedule(alloc, source.as_slice()) else {
-        return out.extend(b"no schedule");
+pub fn append_events(input: &str, out: &mut Output) -> Result<(), NoMemory> {
+    let source = unescaped(out.alloc, input)?;
+    let Ok(events) = parse_schedule(out.alloc, source.as_slice()) else {
+        out.text("no schedule");
+        return Ok(());
     };
     for event in events.as_slice() {
-        append_event(alloc, event, out)?;
+        append_event(event, out);
     }
     Ok(())
 }

@@ -1,7 +1,8 @@
 //! Texts of requests: where they are at fault, where they can be cut, and how they are printed.
 
 use crate::escape::unescaped;
-use rs_base::{Bytes, NoMemory, print_number};
+use case_tools::Output;
+use rs_base::{Bytes, NoMemory};
 use rs_parse::{ParseFault, parse};
 use rs_unparse::print_stmt;
 use std::alloc::Global;
@@ -18,60 +19,61 @@ fn fault_of(alloc: Global, text: &[u8], more: &[u8]) -> Result<Option<usize>, No
 }
 
 /// Appends `ok` for a request, or the byte offset of the fault.
-pub fn append_fault(alloc: Global, input: &str, out: &mut Bytes) -> Result<(), NoMemory> {
-    let text = unescaped(alloc, input)?;
-    match fault_of(alloc, text.as_slice(), b"")? {
-        None => out.extend(b"ok"),
-        Some(offset) => print_number(alloc, offset as u64, out),
+pub fn append_fault(input: &str, out: &mut Output) -> Result<(), NoMemory> {
+    let text = unescaped(out.alloc, input)?;
+    match fault_of(out.alloc, text.as_slice(), b"")? {
+        None => out.text("ok"),
+        Some(offset) => out.number(offset as u64),
     }
+    Ok(())
+}
+
+/// Reports whether a word and a byte that begins no token are at fault where the text ends.
+fn is_begun(alloc: Global, text: &[u8]) -> Result<bool, NoMemory> {
+    let end = Some(text.len());
+    let word = fault_of(alloc, text, b"Revoke 'x")?;
+    let byte = fault_of(alloc, text, b"! x")?;
+    Ok(word == end && byte == end)
 }
 
 /// Appends the length of a cut that is a request, or `?` if its continuations are not at fault where it ends.
-fn append_cut(alloc: Global, text: &[u8], out: &mut Bytes) -> Result<(), NoMemory> {
-    let mut blank = Bytes::from_slice(alloc, text)?;
+fn append_cut(text: &[u8], out: &mut Output) -> Result<(), NoMemory> {
+    let mut blank = Bytes::from_slice(out.alloc, text)?;
     blank.extend(b"\r\n\t ")?;
-    let later = Some(blank.len());
-    let word = fault_of(alloc, blank.as_slice(), b"Revoke 'x")?;
-    let byte = fault_of(alloc, blank.as_slice(), b"! x")?;
-    let here = fault_of(alloc, text, b"")?;
-    let after = fault_of(alloc, blank.as_slice(), b"")?;
-    let continues = (word, byte) == (later, later);
-    if continues && (here, after) == (None, None) {
-        out.extend(b" ")?;
-        print_number(alloc, text.len() as u64, out)
-    } else if continues && (here, after) == (Some(text.len()), later) {
-        Ok(())
-    } else {
-        out.extend(b" ?")
+    let here = fault_of(out.alloc, text, b"")?;
+    let after = fault_of(out.alloc, blank.as_slice(), b"")?;
+    if !is_begun(out.alloc, blank.as_slice())? {
+        out.text(" ?");
+    } else if here.is_none() && after.is_none() {
+        out.text(" ");
+        out.number(text.len() as u64);
+    } else if here != Some(text.len()) || after != Some(blank.len()) {
+        out.text(" ?");
     }
+    Ok(())
 }
 
 /// Cuts a text after each token, and appends the lengths of the cuts that are requests.
-pub fn append_cuts(alloc: Global, input: &str, out: &mut Bytes) -> Result<(), NoMemory> {
-    let text = unescaped(alloc, input)?;
+pub fn append_cuts(input: &str, out: &mut Output) -> Result<(), NoMemory> {
+    let text = unescaped(out.alloc, input)?;
     let text = text.as_slice();
-    out.extend(b"at")?;
+    out.text("at");
     for at in 0..text.len() + 1 {
         let (cut, rest) = text.split_at(at);
         if rest.is_empty() || rest.starts_with(b" ") {
-            append_cut(alloc, cut, out)?;
+            append_cut(cut, out)?;
         }
     }
     Ok(())
 }
 
 /// Appends each of the prefixes after which this word is not at fault.
-pub fn append_prefixes(
-    alloc: Global,
-    word: &str,
-    prefixes: &str,
-    out: &mut Bytes,
-) -> Result<(), NoMemory> {
+pub fn append_prefixes(word: &str, prefixes: &str, out: &mut Output) -> Result<(), NoMemory> {
     for line in prefixes.lines() {
-        let prefix = unescaped(alloc, line)?;
-        if fault_of(alloc, prefix.as_slice(), word.as_bytes())? != Some(prefix.len()) {
-            out.extend(prefix.as_slice())?;
-            out.extend(b"; ")?;
+        let prefix = unescaped(out.alloc, line)?;
+        if fault_of(out.alloc, prefix.as_slice(), word.as_bytes())? != Some(prefix.len()) {
+            out.append(prefix.as_slice());
+            out.text("; ");
         }
     }
     Ok(())
@@ -90,15 +92,17 @@ fn printed(alloc: Global, text: &[u8]) -> Result<Option<Bytes>, NoMemory> {
     }
 }
 
-/// Appends the text of the statement, and after it the text that is printed of that, if it is another.
-pub fn append_printed(alloc: Global, input: &str, out: &mut Bytes) -> Result<(), NoMemory> {
-    let text = unescaped(alloc, input)?;
-    let Some(once) = printed(alloc, text.as_slice())? else {
-        return out.extend(b"no request");
+/// Appends the text of the statement, and after it a note, if another text is printed of that.
+pub fn append_printed(input: &str, out: &mut Output) -> Result<(), NoMemory> {
+    let text = unescaped(out.alloc, input)?;
+    let Some(once) = printed(out.alloc, text.as_slice())? else {
+        out.text("no request");
+        return Ok(());
     };
-    out.extend(once.as_slice())?;
-    match printed(alloc, once.as_slice())? {
-        Some(twice) if twice.as_slice() == once.as_slice() => Ok(()),
-        _ => out.extend(b" (printed otherwise when it is read again)"),
+    out.append(once.as_slice());
+    match printed(out.alloc, once.as_slice())? {
+        Some(twice) if twice.as_slice() == once.as_slice() => {}
+        _ => out.text(" (printed otherwise when it is read again)"),
     }
+    Ok(())
 }

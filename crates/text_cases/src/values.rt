@@ -3,27 +3,26 @@
 use crate::escape::unescaped;
 use crate::orders::{append_allowed, append_computed, append_order};
 use crate::words::Words;
+use case_tools::Output;
 use rs_base::{
-    Bytes, Ident, Kind, NoMemory, ReadFault, Row, SiteNo, Txt, TxtFault, Value, copy_row, count_of,
-    print_number, print_swn, print_value, row_size,
+    Ident, Kind, NoMemory, Row, SiteNo, Txt, TxtFault, Value, copy_row, count_of, row_size,
 };
-use rs_print::{print_origin, print_row, print_txn};
 use std::alloc::Global;
 
-/// Reads an integer, or a text.
-pub fn read_value(alloc: Global, word: &str) -> Result<Value, ReadFault> {
+/// Reads an integer, or a text. A word that is neither is 0.
+pub fn read_value(alloc: Global, word: &str) -> Result<Value, NoMemory> {
     if let Ok(n) = word.parse() {
         return Ok(Value::Int(n));
     }
     match Txt::new(alloc, word.as_bytes()) {
         Ok(text) => Ok(Value::Text(text)),
-        Err(TxtFault::Bad) => Err(ReadFault::Malformed),
-        Err(TxtFault::NoMemory) => Err(ReadFault::NoMemory),
+        Err(TxtFault::Bad) => Ok(Value::Int(0)),
+        Err(TxtFault::NoMemory) => Err(NoMemory),
     }
 }
 
 /// Reads the values of a row, separated by `,`. An empty line is the empty row.
-pub fn read_row(alloc: Global, line: &str) -> Result<Row, ReadFault> {
+pub fn read_row(alloc: Global, line: &str) -> Result<Row, NoMemory> {
     let mut row = Row::new(alloc);
     if line.is_empty() {
         return Ok(row);
@@ -35,77 +34,84 @@ pub fn read_row(alloc: Global, line: &str) -> Result<Row, ReadFault> {
 }
 
 /// Appends the bytes of an identifier, or `none`.
-fn append_ident(bytes: &[u8], out: &mut Bytes) -> Result<(), NoMemory> {
+fn append_ident(bytes: &[u8], out: &mut Output) {
     match Ident::new(bytes) {
-        Some(ident) => out.extend(ident.as_bytes()),
-        None => out.extend(b"none"),
+        Some(ident) => out.append(ident.as_bytes()),
+        None => out.text("none"),
     }
 }
 
 /// Appends the number of a site, or `none`.
-fn append_site(alloc: Global, site: Option<SiteNo>, out: &mut Bytes) -> Result<(), NoMemory> {
+fn append_site(site: Option<SiteNo>, out: &mut Output) {
     match site {
-        Some(site) => print_number(alloc, u64::from(site.number()), out),
-        None => out.extend(b"none"),
+        Some(site) => out.number(u64::from(site.number())),
+        None => out.text("none"),
     }
 }
 
 /// Appends `is:` and the bytes of a text, or `bad`.
-fn append_text(alloc: Global, bytes: &[u8], out: &mut Bytes) -> Result<(), NoMemory> {
-    match Txt::new(alloc, bytes) {
+fn append_text(bytes: &[u8], out: &mut Output) {
+    match Txt::new(out.alloc, bytes) {
         Ok(text) => {
-            out.extend(b"is:")?;
-            out.extend(text.as_bytes())
+            out.text("is:");
+            out.append(text.as_bytes());
         }
-        Err(TxtFault::Bad) => out.extend(b"bad"),
-        Err(TxtFault::NoMemory) => Err(NoMemory),
+        Err(TxtFault::Bad) => out.text("bad"),
+        Err(TxtFault::NoMemory) => out.note(Err(NoMemory)),
     }
 }
 
 /// Appends a copy of the row, and then the kind and a copy of each value.
-fn append_copies(alloc: Global, row: &[Value], out: &mut Bytes) -> Result<(), NoMemory> {
-    print_row(alloc, copy_row(alloc, row)?.as_slice(), out)?;
+fn append_copies(row: &[Value], out: &mut Output) -> Result<(), NoMemory> {
+    out.row(copy_row(out.alloc, row)?.as_slice());
     for value in row {
-        out.extend(match value.kind() {
-            Kind::Int => b" integer ".as_slice(),
-            Kind::Text => b" text ",
-        })?;
-        print_value(alloc, &value.copy(alloc)?, out)?;
+        out.text(match value.kind() {
+            Kind::Int => " integer ",
+            Kind::Text => " text ",
+        });
+        out.value(&value.copy(out.alloc)?);
     }
     Ok(())
 }
 
 /// Appends the size of the row, its copies or the printed row.
-fn append_row(alloc: Global, kind: &str, line: &str, out: &mut Bytes) -> Result<(), ReadFault> {
-    let row = read_row(alloc, line)?;
+fn append_row(kind: &str, line: &str, out: &mut Output) -> Result<(), NoMemory> {
+    let row = read_row(out.alloc, line)?;
     match kind {
-        "row_size" => print_number(alloc, row_size(row.as_slice()), out)?,
-        "copy_row" => append_copies(alloc, row.as_slice(), out)?,
-        "row" => print_row(alloc, row.as_slice(), out)?,
-        _ => return Err(ReadFault::Malformed),
+        "row_size" => out.number(row_size(row.as_slice())),
+        "copy_row" => append_copies(row.as_slice(), out)?,
+        _ => out.row(row.as_slice()),
+    }
+    Ok(())
+}
+
+/// Appends what a call on the bytes of this text returns.
+fn append_bytes(kind: &str, text: &str, out: &mut Output) -> Result<(), NoMemory> {
+    let bytes = unescaped(out.alloc, text)?;
+    match kind {
+        "ident" => append_ident(bytes.as_slice(), out),
+        "text" => append_text(bytes.as_slice(), out),
+        _ => out.number(bytes.len() as u64),
     }
     Ok(())
 }
 
 /// Appends what is printed of the value that a line says, or what the call that it names returns.
-pub fn append_value(alloc: Global, input: &str, out: &mut Bytes) -> Result<(), ReadFault> {
-    let mut words = Words::new(input);
+pub fn append_value(words: &mut Words<'_>, out: &mut Output) -> Result<(), NoMemory> {
     match words.next() {
-        "ident" => append_ident(unescaped(alloc, words.rest())?.as_slice(), out)?,
-        "text" => append_text(alloc, unescaped(alloc, words.rest())?.as_slice(), out)?,
-        "len" => print_number(alloc, unescaped(alloc, words.rest())?.len() as u64, out)?,
-        "site" => append_site(alloc, words.any_site(), out)?,
-        "first_site" => append_site(alloc, Some(SiteNo::first()), out)?,
-        "number" => print_number(alloc, words.number()?, out)?,
-        "count_of" => print_number(alloc, count_of(words.integer()?), out)?,
-        "value" => print_value(alloc, &read_value(alloc, words.rest())?, out)?,
-        "txn" => print_txn(alloc, &words.txn()?, out)?,
-        "swn" => print_swn(alloc, &words.swn()?, out)?,
-        "origin" => print_origin(alloc, &words.origin()?, out)?,
-        "order" => append_order(alloc, words.rest(), out)?,
-        "allows" => append_allowed(words.rest(), out)?,
-        "compute" => append_computed(alloc, words.rest(), out)?,
-        kind => append_row(alloc, kind, words.rest(), out)?,
+        "site" => append_site(words.any_site(), out),
+        "first_site" => append_site(Some(SiteNo::first()), out),
+        "number" => out.number(words.number()),
+        "count_of" => out.number(count_of(words.integer())),
+        "value" => out.value(&read_value(out.alloc, words.rest())?),
+        "txn" => out.txn(&words.txn()),
+        "swn" => out.name(&words.swn()),
+        "origin" => out.origin(&words.origin()),
+        "order" => append_order(words, out)?,
+        "allows" => append_allowed(words.rest(), out),
+        "compute" => append_computed(words, out),
+        kind @ ("ident" | "text" | "len") => append_bytes(kind, words.rest(), out)?,
+        kind => append_row(kind, words.rest(), out)?,
     }
     Ok(())
 }

@@ -1,21 +1,39 @@
 //! The words of a line, read one after the other.
 
-use rs_base::{Enlist, Ident, Origin, ReadFault, SiteNo, Swn, Txn};
+use rs_base::{Enlist, Ident, Origin, SiteNo, Swn, Txn};
+use rs_name::parse_swn;
 
-/// The words that are left, separated by one blank each.
+/// The words that are left, separated by one blank each, and whether one of those before was not of its kind.
 #[derive(Drop)]
 pub struct Words<'a> {
     left: &'a str,
+    malformed: bool,
+}
+
+/// Gives the identifier that stands for a word that is none.
+fn any() -> Ident {
+    match Ident::new(b"any") {
+        Some(ident) => ident,
+        None => unreachable!(),
+    }
 }
 
 impl<'a> Words<'a> {
     pub fn new(line: &'a str) -> Words<'a> {
-        Words { left: line }
+        Words {
+            left: line,
+            malformed: false,
+        }
     }
 
     /// Gives what is left of the line.
     pub fn rest(&self) -> &'a str {
         self.left
+    }
+
+    /// Reports whether each word so far was of its kind.
+    pub fn are_read(&self) -> bool {
+        !self.malformed
     }
 
     /// Reads the next word, which is empty at the end.
@@ -25,25 +43,44 @@ impl<'a> Words<'a> {
         word
     }
 
-    pub fn number(&mut self) -> Result<u64, ReadFault> {
-        self.next().parse().map_err(|_| ReadFault::Malformed)
+    /// Reads a number.
+    pub fn number(&mut self) -> u64 {
+        let number = self.next().parse().ok();
+        self.malformed = self.malformed || number.is_none();
+        number.unwrap_or(0)
     }
 
-    pub fn small(&mut self) -> Result<u32, ReadFault> {
-        self.next().parse().map_err(|_| ReadFault::Malformed)
+    /// Reads a number of 32 bits.
+    pub fn small(&mut self) -> u32 {
+        let number = self.next().parse().ok();
+        self.malformed = self.malformed || number.is_none();
+        number.unwrap_or(0)
     }
 
-    pub fn integer(&mut self) -> Result<i64, ReadFault> {
-        self.next().parse().map_err(|_| ReadFault::Malformed)
+    /// Reads a number of 8 bits.
+    pub fn byte(&mut self) -> u8 {
+        let number = self.next().parse().ok();
+        self.malformed = self.malformed || number.is_none();
+        number.unwrap_or(0)
+    }
+
+    /// Reads an integer.
+    pub fn integer(&mut self) -> i64 {
+        let integer = self.next().parse().ok();
+        self.malformed = self.malformed || integer.is_none();
+        integer.unwrap_or(0)
     }
 
     /// Reads a site, or `None` for a word that is none.
     pub fn any_site(&mut self) -> Option<SiteNo> {
-        SiteNo::new(self.next().parse().ok()?)
+        SiteNo::new(self.next().parse().unwrap_or(0))
     }
 
-    pub fn site(&mut self) -> Result<SiteNo, ReadFault> {
-        self.any_site().ok_or(ReadFault::Malformed)
+    /// Reads a site.
+    pub fn site(&mut self) -> SiteNo {
+        let site = self.any_site();
+        self.malformed = self.malformed || site.is_none();
+        site.unwrap_or(SiteNo::first())
     }
 
     /// Reads an identifier, or `None` for a word that is none.
@@ -51,45 +88,60 @@ impl<'a> Words<'a> {
         Ident::new(self.next().as_bytes())
     }
 
-    pub fn ident(&mut self) -> Result<Ident, ReadFault> {
-        self.any_ident().ok_or(ReadFault::Malformed)
+    /// Reads an identifier.
+    pub fn ident(&mut self) -> Ident {
+        let ident = self.any_ident();
+        self.malformed = self.malformed || ident.is_none();
+        ident.unwrap_or(any())
     }
 
     /// Reads `SITE USER EPOCH NUMBER`.
-    pub fn origin(&mut self) -> Result<Origin, ReadFault> {
-        Ok(Origin {
-            site: self.site()?,
-            user: self.ident()?,
-            epoch: self.small()?,
-            number: self.number()?,
-        })
+    pub fn origin(&mut self) -> Origin {
+        Origin {
+            site: self.site(),
+            user: self.ident(),
+            epoch: self.small(),
+            number: self.number(),
+        }
     }
 
     /// Reads `SITE EPOCH NUMBER`.
-    pub fn txn(&mut self) -> Result<Txn, ReadFault> {
-        Ok(Txn {
-            site: self.site()?,
-            epoch: self.small()?,
-            number: self.number()?,
-        })
+    pub fn txn(&mut self) -> Txn {
+        Txn {
+            site: self.site(),
+            epoch: self.small(),
+            number: self.number(),
+        }
     }
 
     /// Reads `SITE EPOCH NUMBER`.
-    pub fn enlist(&mut self) -> Result<Enlist, ReadFault> {
-        Ok(Enlist {
-            site: self.site()?,
-            epoch: self.small()?,
-            number: self.number()?,
+    pub fn enlist(&mut self) -> Enlist {
+        Enlist {
+            site: self.site(),
+            epoch: self.small(),
+            number: self.number(),
+        }
+    }
+
+    /// Reads a system-wide name as it is printed.
+    pub fn name(&mut self) -> Swn {
+        let name = parse_swn(self.next().as_bytes());
+        self.malformed = self.malformed || name.is_none();
+        name.unwrap_or(Swn {
+            creator: any(),
+            creator_site: SiteNo::first(),
+            object: any(),
+            birth: SiteNo::first(),
         })
     }
 
     /// Reads `CREATOR SITE OBJECT SITE`.
-    pub fn swn(&mut self) -> Result<Swn, ReadFault> {
-        Ok(Swn {
-            creator: self.ident()?,
-            creator_site: self.site()?,
-            object: self.ident()?,
-            birth: self.site()?,
-        })
+    pub fn swn(&mut self) -> Swn {
+        Swn {
+            creator: self.ident(),
+            creator_site: self.site(),
+            object: self.ident(),
+            birth: self.site(),
+        }
     }
 }

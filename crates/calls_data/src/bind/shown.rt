@@ -1,6 +1,6 @@
 //! Bound statements, written in words.
 
-use calls_base::Transcript;
+use case_tools::Transcript;
 use rs_ast::{
     Arith, BoundClause, BoundCmp, BoundRow, BoundSet, BoundSide, BoundTerm, Idents, Op, Places,
     Shape, ShapeItem, ShapeKey,

@@ -2,7 +2,7 @@
 
 use crate::eval::predicates::same_or_below;
 use anyhow::Result;
-use calls_base::Transcript;
+use case_tools::Transcript;
 use rs_ast::{BoundClause, BoundClauses};
 use rs_base::{NoMemory, Value};
 use rs_join::joined_rows;

@@ -1,7 +1,7 @@
 //! Comparisons and predicates, with parameters and with their values.
 
 use anyhow::Result;
-use calls_base::{Transcript, integer_and_text};
+use case_tools::{Transcript, integer_and_text};
 use rs_ast::{BoundClause, BoundClauses, BoundCmp, BoundSide, Op};
 use rs_base::{NoMemory, Value};
 use rs_eval::{allows, fill, holds};

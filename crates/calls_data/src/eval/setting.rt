@@ -1,7 +1,7 @@
 //! Integers that are computed, and rows whose columns are set.
 
 use anyhow::Result;
-use calls_base::{Transcript, integers};
+use case_tools::{Transcript, integers};
 use rs_ast::{Arith, BoundSet, BoundSets, BoundTerm};
 use rs_base::NoMemory;
 use rs_eval::{compute, set_row};

@@ -1,7 +1,7 @@
 //! Reading from sources: some reads fail, the reading stops at a limit, or needs many pieces.
 
 use anyhow::Result;
-use calls_base::Transcript;
+use case_tools::Transcript;
 use rs_stream::{MemSource, Source, StdSource, SureSource, read_to_end};
 use std::io::{Error, ErrorKind, Read};
 

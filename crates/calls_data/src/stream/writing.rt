@@ -1,7 +1,7 @@
 //! Writing to sinks, of which some writes fail.
 
 use anyhow::Result;
-use calls_base::Transcript;
+use case_tools::Transcript;
 use rs_stream::{MemSink, Sink, StdSink, SureSink, write_whole};
 use std::io::{Error, ErrorKind, Write};
 

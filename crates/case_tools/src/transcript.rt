@@ -1,52 +1,35 @@
 //! What the calls return, as lines of words.
 
-use rs_base::{
-    Bytes, Denial, Fault, NoMemory, Origin, Reply, Row, Swn, Value, print_number, print_swn,
-    print_value,
-};
-use rs_print::{print_reply, print_row};
+use crate::output::Output;
+use rs_base::{Bytes, Denial, Fault, NoMemory, Origin, Reply, Row, Swn, Value};
 use std::alloc::Global;
 use std::cmp::Ordering;
 
-/// Lines of words, separated by spaces. A failed allocation is kept until the transcript is finished.
+/// Lines of words, separated by spaces.
 #[derive(Drop)]
 pub struct Transcript {
     pub alloc: Global,
-    text: Bytes,
-    failed: bool,
+    lines: Output,
 }
 
 impl Transcript {
     pub fn new(alloc: Global) -> Transcript {
         Transcript {
             alloc,
-            text: Bytes::new(alloc),
-            failed: false,
+            lines: Output::new(alloc),
         }
     }
 
     /// Returns the lines. Fails if an allocation has failed.
     pub fn finish(self) -> Result<Bytes, NoMemory> {
-        if self.failed {
-            return Err(NoMemory);
-        }
-        Ok(self.text)
-    }
-
-    fn note(&mut self, written: Result<(), NoMemory>) {
-        self.failed = self.failed || written.is_err();
-    }
-
-    fn append(&mut self, bytes: &[u8]) {
-        let written = self.text.extend(bytes);
-        self.note(written);
+        self.lines.finish()
     }
 
     /// Separates the next word from the last one of its line.
     fn separate(&mut self) {
-        match self.text.as_slice().last() {
+        match self.lines.as_slice().last() {
             None | Some(b'\n') => {}
-            Some(_) => self.append(b" "),
+            Some(_) => self.lines.append(b" "),
         }
     }
 
@@ -57,7 +40,7 @@ impl Transcript {
 
     /// Ends the line.
     pub fn end(&mut self) {
-        self.append(b"\n");
+        self.lines.append(b"\n");
     }
 
     /// Writes a word.
@@ -68,22 +51,21 @@ impl Transcript {
     /// Writes the bytes of a word.
     pub fn bytes(&mut self, word: &[u8]) {
         self.separate();
-        self.append(word);
+        self.lines.append(word);
     }
 
     /// Writes bytes between quotes.
     pub fn quoted(&mut self, bytes: &[u8]) {
         self.separate();
-        self.append(b"'");
-        self.append(bytes);
-        self.append(b"'");
+        self.lines.append(b"'");
+        self.lines.append(bytes);
+        self.lines.append(b"'");
     }
 
     /// Writes a number.
     pub fn number(&mut self, number: u64) {
         self.separate();
-        let written = print_number(self.alloc, number, &mut self.text);
-        self.note(written);
+        self.lines.number(number);
     }
 
     /// Writes an integer.
@@ -108,22 +90,19 @@ impl Transcript {
     /// Writes a value.
     pub fn value(&mut self, value: &Value) {
         self.separate();
-        let written = print_value(self.alloc, value, &mut self.text);
-        self.note(written);
+        self.lines.value(value);
     }
 
     /// Writes a system-wide name.
     pub fn name(&mut self, name: &Swn) {
         self.separate();
-        let written = print_swn(self.alloc, name, &mut self.text);
-        self.note(written);
+        self.lines.name(name);
     }
 
     /// Writes the values of a row, separated by commas, and ends the line.
     pub fn row(&mut self, row: &[Value]) {
         self.separate();
-        let written = print_row(self.alloc, row, &mut self.text);
-        self.note(written);
+        self.lines.row(row);
     }
 
     /// Writes a number of rows, and each on a line of its own.
@@ -137,8 +116,7 @@ impl Transcript {
 
     /// Writes a reply, on lines of its own.
     pub fn reply(&mut self, to: &Origin, reply: &Reply) {
-        let written = print_reply(self.alloc, to, reply, &mut self.text);
-        self.note(written);
+        self.lines.reply(to, reply);
     }
 
     /// Writes a fault.
