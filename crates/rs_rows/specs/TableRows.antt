@@ -41,7 +41,7 @@ removed number table = record table { rows = filter (λ entry. not (number == en
 
 -- this row in place of the one with this number, if there is one
 abbrev pub replaced : ℕ → List Value → TableRows → TableRows
-replaced number row table = record table { rows = map (λ entry. if number == entry.0 then (number, row) else entry) table.rows }
+replaced number row table = record table { rows = map (λ entry. if number == entry.0 then (entry.0, row) else entry) table.rows }
 
 -- ---- limits
 
@@ -56,6 +56,6 @@ HasRoom table = (length table.rows < 65536) × (table.next < 2 ^ 63)
 -- what is true of every table: the numbers rise and are below the next; at most 65,536 rows, each of at most 1,024 bytes
 pub record IsTable (table : TableRows) : Type 0 where
   pub rising : IsStrictlySortedBy nat_cmp (numbers table.rows)
-  pub below : All (λ number. number < table.next) (numbers table.rows)
+  pub below : All (λ entry. entry.0 < table.next) table.rows
   pub few : length table.rows ≤ 65536
   pub small : All (λ entry. IsSmall entry.1) table.rows

@@ -12,4 +12,4 @@ pub use read_rows::{Counted, Numbers, ReadRows};
 pub use row_iter::RowIter;
 pub use row_run::RowRun;
 pub use stored_rows::StoredRows;
-pub use table_rows::TableRows;
+pub use table_rows::{TableRows, is_small};
