@@ -15,7 +15,7 @@ use Rattle.std.specs.Map.{keys_of, lookup, remove_entry, set_value, values_of}
 use Rattle.std.specs.Ordering.{eq_by_cmp}
 use Rattle.rs_base.specs.Sizes.{row_size}
 use Rattle.rs_base.specs.declared.value.Value.{Value}
-use Rattle.rs_rows.specs.TableRows.{TableRows, numbers, row_of, bytes_of, inserted, removed, replaced, IsSmall, HasRoom, IsTable}
+use Rattle.rs_rows.specs.TableRows.{TableRows, numbers, row_of, bytes_of, without, with_row, inserted, removed, replaced, IsSmall, HasRoom, IsTable}
 
 -- ---- entries
 
@@ -73,23 +73,24 @@ replaced_entry number x es rising =
     ∙ replaced_alike (is_at (nat_cmp number)) (λ other. number == other) (same_test number) x es
 
 -- a number above all goes to the end
-pub appended_entry : {X : Type 0} (es : List (ℕ × X)) (number : ℕ) (x : X) → AllByRecursion (λ e. e.0 < number) es → insert_entry nat_cmp es number x ≡ es ++ (number, x) ∷ []
+appended_entry : {X : Type 0} (es : List (ℕ × X)) (number : ℕ) (x : X) → AllByRecursion (λ e. e.0 < number) es → insert_entry nat_cmp es number x ≡ es ++ (number, x) ∷ []
 appended_entry [] number x below = refl
 appended_entry {X} (e ∷ es) number x below =
     let above : e.0 < number = below.0 in
     rw (le-ltb number e.0 (omega arith), ne_eqb number e.0 (λ same. omega arith))
     (ap (λ (rest : List (ℕ × X)). e ∷ rest) (appended_entry es number x below.1))
 
--- ---- tables
+pub appended : {X : Type 0} (es : List (ℕ × X)) (number : ℕ) (x : X) → All (λ e. e.0 < number) es → insert_entry nat_cmp es number x ≡ es ++ (number, x) ∷ []
+appended {X} es number x below = appended_entry es number x (recursion_from_All (λ (e : ℕ × X). e.0 < number) es below)
 
 -- without such a number nothing is removed, nothing replaced
-pub removed_none : (number : ℕ) (table : TableRows) → row_of number table.rows ≡ None → removed number table ≡ table
-removed_none number table absent =
-    ap (λ (rows : List (ℕ × List Value)). record table { rows = rows }) (others_stay (λ other. number == other) table.rows (none_passes_from_lookup (λ other. number == other) table.rows absent))
+pub without_none : (number : ℕ) (rows : List (ℕ × List Value)) → row_of number rows ≡ None → without number rows ≡ rows
+without_none number rows absent = others_stay (λ other. number == other) rows (none_passes_from_lookup (λ other. number == other) rows absent)
 
-pub replaced_none : (number : ℕ) (row : List Value) (table : TableRows) → row_of number table.rows ≡ None → replaced number row table ≡ table
-replaced_none number row table absent =
-    ap (λ (rows : List (ℕ × List Value)). record table { rows = rows }) (others_same (λ other. number == other) row table.rows (none_passes_from_lookup (λ other. number == other) table.rows absent))
+pub with_row_none : (number : ℕ) (row : List Value) (rows : List (ℕ × List Value)) → row_of number rows ≡ None → with_row number row rows ≡ rows
+with_row_none number row rows absent = others_same (λ other. number == other) row rows (none_passes_from_lookup (λ other. number == other) rows absent)
+
+-- ---- tables
 
 -- the bytes of all rows
 pub bytes_within : (table : TableRows) → IsTable table → bytes_of table.rows ≤ 67108864

@@ -2,6 +2,7 @@
 //! (`StoredRows`).
 #![tactic(auto)]
 
+mod by_number;
 mod read_rows;
 mod row_iter;
 mod row_run;

@@ -1,18 +1,15 @@
 //! The rows of a table by number.
 
 ghost use Rattle.std.specs.Prelude.{◌≡◌, ◌↔◌, length, ok_or, option_copied, IsTrue, IfOk, IfNone, OnOk, OnErr};
-ghost use Rattle.std.specs.BTreeMap.{is_at};
-ghost use Rattle.std.specs.Map.{set_value};
-ghost use Rattle.std.specs.Ordering.{nat_cmp};
 ghost use Rattle.rs_rows.specs.TableRows.{empty, inserted, removed, replaced, row_of, numbers, bytes_of, HasRoom, IsSmall, IsTable};
 
+use crate::by_number::{RowMap, push, swap, take};
 use crate::row_iter::RowIter;
 use rs_base::{NoMemory, Row, Value, copy_row, row_size};
 use sqlite_items::Items;
 use std::alloc::Global;
 use std::collections::BTreeMap;
 use std::marker::Model;
-use std::mem;
 
 /// The greatest number of rows.
 const ROWS: usize = 65_536;
@@ -27,7 +24,7 @@ const ROW_BYTES: u64 = 1_024;
 /// most 65,536 rows, each of at most 1,024 bytes.
 #[derive(Drop)]
 pub struct TableRows {
-    rows: BTreeMap<u64, Row>,
+    rows: RowMap,
     next: u64,
     bytes: u64,
 }
@@ -66,7 +63,7 @@ impl TableRows {
     {
         let number = self.next;
         let bytes = row_size(row.as_slice());
-        self.rows.insert(number, row)?;
+        push(&mut self.rows, number, row)?;
         self.next += 1;
         self.bytes += bytes;
         Ok(number)
@@ -78,7 +75,7 @@ impl TableRows {
         ensures rows { self.new ≡ removed number self.old }
         ensures none { IfNone result (self.new ≡ self.old) }
     {
-        let row = self.rows.remove(&number)?;
+        let row = take(&mut self.rows, number)?;
         self.bytes -= row_size(row.as_slice());
         Some(row)
     }
@@ -92,7 +89,7 @@ impl TableRows {
         ensures err { OnErr result (self.new ≡ self.old) }
     {
         let bytes = row_size(row.as_slice());
-        let found = swap_row(&mut self.rows, number, row);
+        let found = swap(&mut self.rows, number, row);
         if let Ok(old) = &found {
             self.bytes = self.bytes - row_size(old.as_slice()) + bytes;
         }
@@ -157,7 +154,7 @@ impl TableRows {
     {
         let mut rows = BTreeMap::new(alloc);
         for (number, row) in &self.rows {
-            rows.insert(*number, copy_row(alloc, row.as_slice())?)?;
+            push(&mut rows, *number, copy_row(alloc, row.as_slice())?)?;
         }
         Ok(TableRows {
             rows,
@@ -172,16 +169,4 @@ pub fn is_small(row: &[Value]) -> bool
     ensures { IsTrue result ↔ IsSmall row.now }
 {
     row_size(row) <= ROW_BYTES
-}
-
-/// Stores the row in place of the one with this number and returns that one; returns the given row if there is none.
-fn swap_row(rows: &mut BTreeMap<u64, Row>, number: u64, row: Row) -> Result<Row, Row>
-    ensures row { result ≡ ok_or (row_of number rows.old.entries) row }
-    ensures ok { OnOk result (rows.new.entries ≡ set_value (is_at (nat_cmp number)) rows.old.entries row) }
-    ensures err { OnErr result (rows.new.entries ≡ rows.old.entries) }
-{
-    match rows.get_mut(&number) {
-        Some(stored) => Ok(mem::replace(stored, row)),
-        None => Err(row),
-    }
 }
