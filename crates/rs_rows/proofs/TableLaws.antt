@@ -1,12 +1,13 @@
 -- What a map's calls do to its entries, in the words of a table's rows.
-use Rattle.std.proofs.Common.{◌≡◌, ℕ, ◌+◌, ◌*◌, ◌<◌, ◌≤◌, ◌==◌, Bool, true, false, not, cond, if◌then◌else◌, List, [], ◌∷◌, ◌++◌, map, filter, length, sum_by, Some, None, All, refl, sym, ap, ◌∙◌, inl, inr, arith, length-append, is_eq, nat_cmp}
+use Rattle.std.proofs.Common.{◌≡◌, ℕ, ◌+◌, ◌*◌, ◌<◌, ◌≤◌, ◌==◌, Bool, true, false, not, cond, if◌then◌else◌, List, [], ◌∷◌, ◌++◌, map, filter, length, sum_by, Some, None, All, refl, sym, ap, ◌∙◌, inl, inr, arith, length-append, is_eq, nat_cmp, Less}
 use Rattle.std.proofs.lemmas.Bool.{cases_Bool, le-ltb, ne_eqb}
+use Rattle.std.proofs.lemmas.Cmp.{ranked}
 use Rattle.std.proofs.lemmas.List.{length-map, map-append}
-use Rattle.std.proofs.lemmas.List.Elements.{All-push, All-weaker, All-filter, All-map, filter_agree, recursion_from_All}
+use Rattle.std.proofs.lemmas.List.Elements.{All-push, All-weaker, All-filter, All-map, All-from_recursion, filter_agree, recursion_from_All}
 use Rattle.std.proofs.lemmas.List.Sums.{sum_by_push, sum_by-le, length-filter, count_by-le-length}
 use Rattle.std.proofs.lemmas.Map.{NonePasses, none_passes_from_lookup}
 use Rattle.std.proofs.lemmas.Map.Entries.{none_past_head, sum_by-remove_entry, sum_by-set_value, All-lookup}
-use Rattle.std.proofs.lemmas.Map.Keys.{IsDistinct-from_sorted, IsDistinct-tail}
+use Rattle.std.proofs.lemmas.Map.Keys.{IsDistinct-from_sorted, IsDistinct-tail, sorted_head, sorted_tail}
 use Rattle.std.specs.BTreeMap.{insert_entry, is_at}
 use Rattle.std.specs.Cmp.{IsEquivalence, eq_by_cmp_equiv, nat_cmp_total, unsigned_tied}
 use Rattle.std.specs.List.{AllByRecursion, IsDistinct}
@@ -82,6 +83,19 @@ appended_entry {X} (e ∷ es) number x below =
 
 pub appended : {X : Type 0} (es : List (ℕ × X)) (number : ℕ) (x : X) → All (λ e. e.0 < number) es → insert_entry nat_cmp es number x ≡ es ++ (number, x) ∷ []
 appended {X} es number x below = appended_entry es number x (recursion_from_All (λ (e : ℕ × X). e.0 < number) es below)
+
+-- in a list whose numbers rise, those before an entry are below it
+less_at : {X : Type 0} (number : ℕ) (es : List (ℕ × X)) (e : ℕ × X) (rest : List (ℕ × X)) → AllByRecursion (λ other. nat_cmp number other ≡ Less) (keys_of (es ++ e ∷ rest)) → number < e.0
+less_at number [] e rest all = ranked number e.0 Less (sym all.0)
+less_at number (first ∷ es) e rest all = less_at number es e rest all.1
+
+each_below : {X : Type 0} (es : List (ℕ × X)) (e : ℕ × X) (rest : List (ℕ × X)) → IsStrictlySortedBy nat_cmp (keys_of (es ++ e ∷ rest)) → AllByRecursion (λ other. other.0 < e.0) es
+each_below [] e rest rising = tt
+each_below (first ∷ es) e rest rising =
+    (less_at first.0 es e rest (sorted_head nat_cmp first.0 (keys_of (es ++ e ∷ rest)) rising), each_below es e rest (sorted_tail nat_cmp first.0 (keys_of (es ++ e ∷ rest)) rising))
+
+pub below_next : {X : Type 0} (es : List (ℕ × X)) (e : ℕ × X) (rest : List (ℕ × X)) → IsStrictlySortedBy nat_cmp (keys_of (es ++ e ∷ rest)) → All (λ other. other.0 < e.0) es
+below_next {X} es e rest rising = All-from_recursion (λ (other : ℕ × X). other.0 < e.0) es (each_below es e rest rising)
 
 -- without such a number nothing is removed, nothing replaced
 pub without_none : (number : ℕ) (rows : List (ℕ × List Value)) → row_of number rows ≡ None → without number rows ≡ rows
