@@ -1,9 +1,9 @@
 #!/usr/bin/env python3
 """Times calls on the rows of a table by number: tables of 1,000, 8,000 and 64,000 rows of one integer.
 
-A call's time is the difference of two runs of `bench_rows`, one with a million calls more than the other, so that start-up
-and filling the table don't count. `insert` fills new tables of that size, so it has each row's share of dropping a table;
-`turn` is a remove and an insert. Beside each is the time of the same over a `BTreeMap` in Rust, written by hand (rows.rs).
+A call's time is the processor time by which two runs of `bench_rows` differ, one with a million calls more than the other, so
+that start-up and filling the table don't count. `insert` fills new tables of that size, so it has each row's share of dropping
+a table; `turn` is a remove and an insert. Beside each is the time of the same over a `BTreeMap` in Rust, written by hand (rows.rs).
 
 Bounds: eight times the rows take less than 1.6 times the time a call, and a table of 65,536 rows takes at most 6 MB. The
 status says whether they held (see bounds.py). ROWS_PROGRAM in the environment names another program than the built one.
@@ -13,7 +13,6 @@ import os
 import subprocess
 import sys
 import tempfile
-import time
 
 from bounds import Bounds, median_of, spread_of
 
@@ -26,7 +25,7 @@ NAMES = ("insert", "turn", "replace", "get")
 
 def built():
     """The path of bench_rows; it is proved and built if it is missing."""
-    path = f"{TOP}/crates/bench_rows/out/build/crates/bench_rows/out/bench_rows"
+    path = f"{TOP}/crates/bench_rows/out/bench_rows"
     named = os.environ.get("ROWS_PROGRAM")
     if named:
         return named
@@ -43,18 +42,16 @@ def by_hand(folder):
 
 
 def run(program, line):
-    """The seconds and the peak memory in KiB of one run."""
+    """The processor's seconds and the peak memory in KiB of one run."""
     with tempfile.TemporaryFile() as given:
         given.write(f"{line}\n".encode())
         given.seek(0)
-        start = time.perf_counter()
         child = subprocess.Popen([program], stdin=given, stdout=subprocess.DEVNULL)
         _, status, used = os.wait4(child.pid, 0)
-        seconds = time.perf_counter() - start
         child.returncode = os.waitstatus_to_exitcode(status)
     if child.returncode != 0:
         sys.exit(f"{program} ended with status {child.returncode}")
-    return seconds, used.ru_maxrss
+    return used.ru_utime + used.ru_stime, used.ru_maxrss
 
 
 def call_seconds(program, name, size):
