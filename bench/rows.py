@@ -3,13 +3,17 @@
 
 A call's time is the processor time by which two runs of `bench_rows` differ, one with a million calls more than the other, so
 that start-up and filling the table don't count. `insert` fills new tables of that size, so it has each row's share of dropping
-a table; `turn` is a remove and an insert. Beside each is the time of the same over a `BTreeMap` in Rust, written by hand (rows.rs).
+a table; `turn` is a remove and an insert. Rows are removed, replaced and got in no order. Beside each is the time of the same
+over a `BTreeMap` in Rust, written by hand (rows.rs). The instructions of a call, which valgrind counts in shorter runs, have no
+noise, and no share of the waits for memory that a large table has.
 
-Bounds: eight times the rows take less than 1.6 times the time a call, and a table of 65,536 rows takes at most 6 MB. The
-status says whether they held (see bounds.py). ROWS_PROGRAM in the environment names another program than the built one.
+Bounds: eight times the rows take less than 1.6 times the time a call, and the instructions too; a table of 65,536 rows takes
+at most 6 MB. The status says whether they held (see bounds.py). ROWS_PROGRAM in the environment names another program than the
+built one.
 """
 
 import os
+import re
 import subprocess
 import sys
 import tempfile
@@ -30,7 +34,7 @@ def built():
     if named:
         return named
     if not os.path.exists(path):
-        subprocess.run(["rt", "run"], cwd=f"{TOP}/crates/bench_rows", stdout=subprocess.DEVNULL, check=True)
+        subprocess.run(["rt", "run"], cwd=f"{TOP}/crates/bench_rows", stdin=subprocess.DEVNULL, stdout=subprocess.DEVNULL, check=True)
     return path
 
 
@@ -61,6 +65,25 @@ def call_seconds(program, name, size):
     return (median_of(many) - median_of(few)) / CALLS, (spread_of(many) + spread_of(few)) / CALLS
 
 
+def instructions(program, line):
+    """The number of instructions of one run."""
+    counted = subprocess.run(
+        ["valgrind", "--tool=callgrind", "--callgrind-out-file=/dev/null", program],
+        input=f"{line}\n".encode(),
+        stdout=subprocess.DEVNULL,
+        stderr=subprocess.PIPE,
+        check=True,
+    )
+    return int(re.search(rb"Collected : (\d+)", counted.stderr).group(1))
+
+
+def call_instructions(program, name, size):
+    """The instructions of one call: `insert` fills whole tables, the others are made 20,000 times."""
+    count = 2 * size if name == "insert" else 20_000
+    few = instructions(program, f"rows {name} {count} {size}")
+    return (instructions(program, f"rows {name} {2 * count} {size}") - few) / count
+
+
 def memory(program, rows):
     """The peak memory in bytes of a table of this number of rows, over that of an empty one."""
     return 1024 * (run(program, f"rows fill 0 {rows}")[1] - run(program, "rows fill 0 0")[1])
@@ -77,13 +100,15 @@ with tempfile.TemporaryDirectory() as folder:
         for size in SIZES:
             seconds, noise = call_seconds(proved, name, size)
             other, _ = call_seconds(hand, name, size)
+            count = call_instructions(proved, name, size)
             print(
                 f"{name}, {size} rows: {seconds * 1e9:.0f} ns a call, give or take {noise * 1e9:.0f}; "
-                f"by hand {other * 1e9:.0f} ns, {seconds / other:.2f} times that"
+                f"by hand {other * 1e9:.0f} ns; {count:.0f} instructions"
             )
             if before is not None:
-                bounds.ratio("times that of an eighth of the rows", seconds, before[0], max(noise, before[1]), 1.6)
-            before = (seconds, noise)
+                bounds.ratio("times the time of an eighth of the rows", seconds, before[0], max(noise, before[1]), 1.6)
+                bounds.at_most("times the instructions", count / before[2], 1.6)
+            before = (seconds, noise, count)
     taken = memory(proved, 65_536)
     print(f"65,536 rows of one integer: {taken / 65_536:.0f} bytes a row; by hand {memory(hand, 65_536) / 65_536:.0f}")
     bounds.at_most("MB", taken / 1e6, 6)
