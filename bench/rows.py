@@ -46,7 +46,7 @@ def by_hand(folder):
 
 
 def run(program, line):
-    """The processor's seconds and the peak memory in KiB of one run."""
+    """The processor's seconds of one run."""
     with tempfile.TemporaryFile() as given:
         given.write(f"{line}\n".encode())
         given.seek(0)
@@ -55,13 +55,25 @@ def run(program, line):
         child.returncode = os.waitstatus_to_exitcode(status)
     if child.returncode != 0:
         sys.exit(f"{program} ended with status {child.returncode}")
-    return used.ru_utime + used.ru_stime, used.ru_maxrss
+    return used.ru_utime + used.ru_stime
+
+
+def peak(program, line):
+    """The peak memory of one run in KiB, by `time`: what the kernel counts for a child of this script begins with its own."""
+    ended = subprocess.run(
+        ["/usr/bin/time", "-f", "%M", program],
+        input=f"{line}\n".encode(),
+        stdout=subprocess.DEVNULL,
+        stderr=subprocess.PIPE,
+        check=True,
+    )
+    return int(ended.stderr)
 
 
 def call_seconds(program, name, size):
     """The seconds of one call, and how far off that may be."""
-    few = [run(program, f"rows {name} {CALLS} {size}")[0] for _ in range(RUNS)]
-    many = [run(program, f"rows {name} {2 * CALLS} {size}")[0] for _ in range(RUNS)]
+    few = [run(program, f"rows {name} {CALLS} {size}") for _ in range(RUNS)]
+    many = [run(program, f"rows {name} {2 * CALLS} {size}") for _ in range(RUNS)]
     return (median_of(many) - median_of(few)) / CALLS, (spread_of(many) + spread_of(few)) / CALLS
 
 
@@ -86,7 +98,7 @@ def call_instructions(program, name, size):
 
 def memory(program, rows):
     """The peak memory in bytes of a table of this number of rows, over that of an empty one."""
-    return 1024 * (run(program, f"rows fill 0 {rows}")[1] - run(program, "rows fill 0 0")[1])
+    return 1024 * (peak(program, f"rows fill 0 {rows}") - peak(program, "rows fill 0 0"))
 
 
 bounds = Bounds()
