@@ -1,3 +1,7 @@
+pub mod CountedRows
 pub mod Cut
 pub mod Inside
+pub mod RowIter
 pub mod Sizes
+pub mod TableInside
+pub mod TableRows
