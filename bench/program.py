@@ -4,11 +4,12 @@ PROGRAM in the environment names another program than the built one.
 """
 
 import os
-import statistics
 import subprocess
 import sys
 import tempfile
 import time
+
+from bounds import Bounds, median_of, spread_of
 
 RUNS = 7
 
@@ -65,42 +66,15 @@ class Runs:
 
     @property
     def median(self):
-        return statistics.median(self.seconds)
+        return median_of(self.seconds)
 
     @property
     def spread(self):
         """Half the distance from the fastest run to the slowest."""
-        return (max(self.seconds) - min(self.seconds)) / 2
+        return spread_of(self.seconds)
 
     def __str__(self):
         return f"{self.median:.3f} s (median of {RUNS}, spread {self.spread:.3f} s)"
-
-
-class Bounds:
-    """The bounds that a script states. Its status says whether they held: 0 held, 1 broken, 2 not measurable here."""
-
-    def __init__(self):
-        self.broken = False
-        self.unmeasured = False
-
-    def at_most(self, what, value, bound):
-        holds = value <= bound
-        print(f"  {what}: {value:.2f}, at most {bound}: {'holds' if holds else 'BROKEN'}")
-        self.broken = self.broken or not holds
-
-    def ratio(self, what, whole, half, noise, bound):
-        """Whole to half. Above the bound it is broken only beyond the noise, which the half has and the whole as well."""
-        if half <= 3 * noise:
-            print(f"  {what}: not measurable here: {half:.4f} s against a noise of {noise:.4f} s")
-            self.unmeasured = True
-        elif whole / half > bound >= (whole - noise) / (half + noise):
-            print(f"  {what}: {whole / half:.2f}, at most {bound}: not measurable here: within a noise of {noise:.4f} s")
-            self.unmeasured = True
-        else:
-            self.at_most(what, whole / half, bound)
-
-    def end(self):
-        sys.exit(1 if self.broken else 2 if self.unmeasured else 0)
 
 
 PROGRAM = path()

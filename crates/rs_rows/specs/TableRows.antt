@@ -27,6 +27,14 @@ bytes_of rows = sum_by row_size (map (λ entry. entry.1) rows)
 
 -- ---- changes
 
+-- all rows but the one with this number
+abbrev pub without : ℕ → List (ℕ × List Value) → List (ℕ × List Value)
+without number rows = filter (λ entry. not (number == entry.0)) rows
+
+-- this row in place of the one with this number, if there is one
+abbrev pub with_row : ℕ → List Value → List (ℕ × List Value) → List (ℕ × List Value)
+with_row number row rows = map (λ entry. if number == entry.0 then (entry.0, row) else entry) rows
+
 -- no rows yet
 abbrev pub empty : TableRows
 empty = record { rows = []; next = 0 }
@@ -35,13 +43,13 @@ empty = record { rows = []; next = 0 }
 abbrev pub inserted : List Value → TableRows → TableRows
 inserted row table = record { rows = table.rows ++ (table.next, row) ∷ []; next = table.next + 1 }
 
--- all rows but the one with this number
+-- the row with this number is gone; the next number stays
 abbrev pub removed : ℕ → TableRows → TableRows
-removed number table = record table { rows = filter (λ entry. not (number == entry.0)) table.rows }
+removed number table = record table { rows = without number table.rows }
 
--- this row in place of the one with this number, if there is one
+-- this row is in place of the one with this number, if there is one
 abbrev pub replaced : ℕ → List Value → TableRows → TableRows
-replaced number row table = record table { rows = map (λ entry. if number == entry.0 then (number, row) else entry) table.rows }
+replaced number row table = record table { rows = with_row number row table.rows }
 
 -- ---- limits
 
@@ -56,6 +64,6 @@ HasRoom table = (length table.rows < 65536) × (table.next < 2 ^ 63)
 -- what is true of every table: the numbers rise and are below the next; at most 65,536 rows, each of at most 1,024 bytes
 pub record IsTable (table : TableRows) : Type 0 where
   pub rising : IsStrictlySortedBy nat_cmp (numbers table.rows)
-  pub below : All (λ number. number < table.next) (numbers table.rows)
+  pub below : All (λ entry. entry.0 < table.next) table.rows
   pub few : length table.rows ≤ 65536
   pub small : All (λ entry. IsSmall entry.1) table.rows

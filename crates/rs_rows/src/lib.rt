@@ -2,6 +2,7 @@
 //! (`StoredRows`).
 #![tactic(auto)]
 
+mod by_number;
 mod read_rows;
 mod row_iter;
 mod row_run;
@@ -12,4 +13,4 @@ pub use read_rows::{Counted, Numbers, ReadRows};
 pub use row_iter::RowIter;
 pub use row_run::RowRun;
 pub use stored_rows::StoredRows;
-pub use table_rows::TableRows;
+pub use table_rows::{TableRows, is_small};

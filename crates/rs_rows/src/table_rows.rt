@@ -1,22 +1,30 @@
 //! The rows of a table by number.
 
-ghost use Rattle.std.specs.Prelude.{◌≡◌, length, ok_or, IfOk, IfNone, OnOk, OnErr};
-ghost use Rattle.std.specs.Option.{option_copied};
+ghost use Rattle.std.specs.Prelude.{◌≡◌, ◌↔◌, length, ok_or, option_copied, IsTrue, IfOk, IfNone, OnOk, OnErr};
 ghost use Rattle.rs_rows.specs.TableRows.{empty, inserted, removed, replaced, row_of, numbers, bytes_of, HasRoom, IsSmall, IsTable};
 
+use crate::by_number::{RowMap, push, swap, take};
 use crate::row_iter::RowIter;
-use rs_base::{NoMemory, Row, copy_row, row_size};
+use rs_base::{NoMemory, Row, Value, copy_row, row_size};
 use sqlite_items::Items;
 use std::alloc::Global;
 use std::collections::BTreeMap;
 use std::marker::Model;
-use std::mem;
+
+/// The greatest number of rows.
+const ROWS: usize = 65_536;
+
+/// The first number that no row may have.
+const NUMBERS: u64 = 1 << 63;
+
+/// The greatest size of a row in bytes.
+const ROW_BYTES: u64 = 1_024;
 
 /// The rows of a table in order of insertion, each with its number. Numbers count from 0 and are never given again. At
 /// most 65,536 rows, each of at most 1,024 bytes.
 #[derive(Drop)]
 pub struct TableRows {
-    rows: BTreeMap<u64, Row>,
+    rows: RowMap,
     next: u64,
     bytes: u64,
 }
@@ -55,7 +63,7 @@ impl TableRows {
     {
         let number = self.next;
         let bytes = row_size(row.as_slice());
-        self.rows.insert(number, row)?;
+        push(&mut self.rows, number, row)?;
         self.next += 1;
         self.bytes += bytes;
         Ok(number)
@@ -67,7 +75,7 @@ impl TableRows {
         ensures rows { self.new ≡ removed number self.old }
         ensures none { IfNone result (self.new ≡ self.old) }
     {
-        let row = self.rows.remove(&number)?;
+        let row = take(&mut self.rows, number)?;
         self.bytes -= row_size(row.as_slice());
         Some(row)
     }
@@ -80,13 +88,12 @@ impl TableRows {
         ensures rows { self.new ≡ replaced number row self.old }
         ensures err { OnErr result (self.new ≡ self.old) }
     {
-        let Some(stored) = self.rows.get_mut(&number) else {
-            return Err(row);
-        };
         let bytes = row_size(row.as_slice());
-        let old = mem::replace(stored, row);
-        self.bytes = self.bytes - row_size(old.as_slice()) + bytes;
-        Ok(old)
+        let found = swap(&mut self.rows, number, row);
+        if let Ok(old) = &found {
+            self.bytes = self.bytes - row_size(old.as_slice()) + bytes;
+        }
+        found
     }
 
     /// Returns the row with this number, if there is one. Logarithmic in the number of rows.
@@ -127,6 +134,13 @@ impl TableRows {
         self.bytes
     }
 
+    /// Returns whether there is room for one more row.
+    pub fn has_room(&self) -> bool
+        ensures { IsTrue result ↔ HasRoom self.now }
+    {
+        self.rows.len() < ROWS && self.next < NUMBERS
+    }
+
     /// Returns the number that the next insert gives.
     pub fn next(&self) -> u64
         ensures { result ≡ self.now.next }
@@ -140,7 +154,7 @@ impl TableRows {
     {
         let mut rows = BTreeMap::new(alloc);
         for (number, row) in &self.rows {
-            rows.insert(*number, copy_row(alloc, row.as_slice())?)?;
+            push(&mut rows, *number, copy_row(alloc, row.as_slice())?)?;
         }
         Ok(TableRows {
             rows,
@@ -148,4 +162,11 @@ impl TableRows {
             bytes: self.bytes,
         })
     }
+}
+
+/// Returns whether a table may have this row.
+pub fn is_small(row: &[Value]) -> bool
+    ensures { IsTrue result ↔ IsSmall row.now }
+{
+    row_size(row) <= ROW_BYTES
 }
