@@ -3,10 +3,12 @@
 #![tactic(auto)]
 
 mod calls;
+mod index;
 mod rows;
 mod values;
 
 use calls::Calls;
+use index::IndexCalls;
 use rows::RowCalls;
 use rs_base::{Bytes, NoMemory, ReadFault};
 use std::alloc::{AllocError, Global};
@@ -69,6 +71,10 @@ fn check_line<R: Files + AllocGlobal + Print>(rt: &R, line: &str) -> io::Result<
     let (kind, file) = line.split_once(' ').unwrap_or((line, ""));
     match kind {
         "rows" => check(rt, RowCalls::new(rt.alloc()), file),
+        "index" => {
+            let calls = IndexCalls::new(rt.alloc()).map_err(|_| AllocError)?;
+            check(rt, calls, file)
+        }
         _ => println!(rt; "{kind}: no such kind"),
     }
 }

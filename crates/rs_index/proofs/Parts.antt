@@ -11,7 +11,7 @@ use Rattle.rs_base.specs.declared.value.Value.TheVariants.{Int, Text}
 use Rattle.rs_index.specs.IndexInside.{int_pair, text_pair}
 use Rattle.rs_index.specs.Pairs.{pair_cmp, added, dropped, has}
 use Rattle.rs_index.specs.TextPairs.{text_pair_cmp}
-use Rattle.rs_index.proofs.Ranges.{int_pair_cmp}
+use Rattle.rs_index.specs.IntPairs.{int_pair_cmp}
 
 -- ---- an integer
 

@@ -5,11 +5,12 @@ use Rattle.std.specs.Ordering.{nat_cmp, int_cmp, is_eq, is_lt, is_le, is_gt, ord
 use Rattle.std.specs.declared.cmp.Ordering.{Ordering}
 use Rattle.std.specs.declared.cmp.Ordering.TheVariants.{Less, Equal, Greater}
 use Rattle.std.specs.Cmp.{IsTotalOrder}
-use Rattle.std.specs.BTreeMap.Range.{range_contains}
+use Rattle.std.specs.BTreeMap.Range.{range_contains, IsLeBy, IsLtBy}
+use Rattle.std.specs.Range.Bound.{IsForward, bound_map}
 use Rattle.std.proofs.lemmas.Bool.Decides.{nat_tests}
-use Rattle.std.proofs.lemmas.Cmp.{nat_list_cmp_total, int_cmp_total}
+use Rattle.std.proofs.lemmas.Cmp.{nat_list_cmp_total, int_cmp_total, tied_itself}
 use Rattle.std.proofs.lemmas.List.{map-append}
-use Rattle.std.proofs.lemmas.List.Elements.{filter-append, All-head, All-tail}
+use Rattle.std.proofs.lemmas.List.Elements.{filter-append, filter_agree, All-head, All-tail}
 use Rattle.rs_base.specs.declared.value.Value.{Value}
 use Rattle.rs_base.specs.declared.value.Value.TheVariants.{Int, Text}
 use Rattle.rs_base.specs.Value.{value_cmp}
@@ -17,6 +18,7 @@ use Rattle.rs_ast.specs.Allows.{allows}
 use Rattle.rs_ast.specs.declared.clause.Op.{Op}
 use Rattle.rs_ast.specs.declared.clause.Op.TheVariants as ops
 use Rattle.rs_index.specs.Bounds.{bounds_of}
+use Rattle.rs_index.specs.IntPairs.{int_pair_cmp}
 use Rattle.rs_index.specs.IndexInside.{int_pair, text_pair}
 use Rattle.rs_index.specs.Pairs.{range_of}
 use Rattle.rs_index.specs.TextPairs.{text_cmp}
@@ -68,10 +70,6 @@ text_between op is t q =
     between text_cmp t t q op is (text_cmp t q) Equal Equal (then_equal (text_cmp t q)) (then_equal (text_cmp t q)) refl refl
     ∙ ap (allows op) (sym (nat_list_cmp_total.antisymm q t))
 
--- by integer, and then by number
-abbrev pub int_pair_cmp : ℤ × ℕ → ℤ × ℕ → Ordering
-int_pair_cmp one other = ordering_then (int_cmp one.0 other.0) (nat_cmp one.1 other.1)
-
 least : (m : ℕ) → is_le (nat_cmp 0 m) ≡ true
 least m = grind (arith, nat_tests)
 
@@ -98,7 +96,7 @@ mapped {A} {B} {C} f g test (x ∷ xs) =
     elim (test (f x)) as (λ b. map g (cond b (f x ∷ filter test (map f xs)) (filter test (map f xs))) ≡ map (λ y. g (f y)) (cond b (x ∷ filter (λ y. test (f y)) xs) (filter (λ y. test (f y)) xs)))
     [ true ↦ ap (λ (l : List C). g (f x) ∷ l) (mapped f g test xs) | false ↦ mapped f g test xs ]
 
-all_pass : {A : Type 0} (xs : List A) → filter (λ _. true) xs ≡ xs
+pub all_pass : {A : Type 0} (xs : List A) → filter (λ _. true) xs ≡ xs
 all_pass [] = refl
 all_pass {A} (x ∷ xs) = ap (λ (l : List A). x ∷ l) (all_pass xs)
 
@@ -121,3 +119,48 @@ pub range_by_text : (op : Op) (t : List ℕ) (ks : List (ℤ × ℕ)) (ts : List
 range_by_text op t ks ts =
     rw (filter-append (λ p. allows op (value_cmp p.0 (Text t))) (map int_pair ks) (map text_pair ts), map-append (λ p. p.1) (filter (λ p. allows op (value_cmp p.0 (Text t))) (map int_pair ks)) (filter (λ p. allows op (value_cmp p.0 (Text t))) (map text_pair ts)), mapped int_pair (λ p. p.1) (λ p. allows op (value_cmp p.0 (Text t))) ks, mapped text_pair (λ p. p.1) (λ p. allows op (value_cmp p.0 (Text t))) ts)
     (ap (λ (l : List ℕ). l ++ map (λ p. p.1) (filter (λ p. allows op (text_cmp p.0 t)) ts)) (all_or_none (allows op Less) (λ k. k.1) ks))
+
+-- ---- bounds
+
+-- the bounds don't run backwards
+pub forward : {K : Type 0} (R : K → K → Ordering) (first last : K) (op : Op) → is_gt (R first last) ≡ false → IsForward (IsLeBy R) (IsLtBy R) (bounds_of op first last).0 (bounds_of op first last).1
+forward R first last ops.Eq h = h
+forward R first last ops.Ne h = tt
+forward R first last ops.Lt h = tt
+forward R first last ops.Le h = tt
+forward R first last ops.Gt h = tt
+forward R first last ops.Ge h = tt
+
+pub int_forward : (z : ℤ) → is_gt (int_pair_cmp (z, 0) (z, 2 ^ 64 - 1)) ≡ false
+int_forward z = rw (tied_itself int_cmp_total z) refl
+
+pub text_forward : (t : List ℕ) → is_gt (text_cmp t t) ≡ false
+text_forward t = rw (tied_itself nat_list_cmp_total t) refl
+
+-- the bounds of what a function gives of the keys
+pub first_bound : {A K : Type 0} (f : A → K) (first last : A) (op : Op) → bound_map f (bounds_of op first last).0 ≡ (bounds_of op (f first) (f last)).0
+first_bound f first last ops.Eq = refl
+first_bound f first last ops.Ne = refl
+first_bound f first last ops.Lt = refl
+first_bound f first last ops.Le = refl
+first_bound f first last ops.Gt = refl
+first_bound f first last ops.Ge = refl
+
+pub last_bound : {A K : Type 0} (f : A → K) (first last : A) (op : Op) → bound_map f (bounds_of op first last).1 ≡ (bounds_of op (f first) (f last)).1
+last_bound f first last ops.Eq = refl
+last_bound f first last ops.Ne = refl
+last_bound f first last ops.Lt = refl
+last_bound f first last ops.Le = refl
+last_bound f first last ops.Gt = refl
+last_bound f first last ops.Ge = refl
+
+-- the texts between the bounds
+pub texts_between : {A X : Type 0} (f : A → List ℕ) (a : A) (op : Op) → op ≢ ops.Ne → (es : List (List ℕ × X)) → filter (λ e. range_contains text_cmp (bound_map f (bounds_of op a a).0) (bound_map f (bounds_of op a a).1) e.0) es ≡ filter (λ e. allows op (text_cmp e.0 (f a))) es
+texts_between f a op is es =
+    rw (first_bound f a a op, last_bound f a a op)
+    (filter_agree (λ e. range_contains text_cmp (bounds_of op (f a) (f a)).0 (bounds_of op (f a) (f a)).1 e.0) (λ e. allows op (text_cmp e.0 (f a))) (λ e. text_between op is (f a) e.0) es)
+
+-- all numbers or none
+pub if_mapped : (b : Bool) (ks : List (ℤ × ℕ)) → map (λ k. k.1) (cond b ks []) ≡ cond b (map (λ k. k.1) ks) []
+if_mapped true ks = refl
+if_mapped false ks = refl

@@ -1,6 +1,6 @@
 -- The bounds of a range among keys in order.
-use Rattle.std.specs.declared.ops.bounds.Bound.{Bound}
-use Rattle.std.specs.declared.ops.bounds.Bound.TheVariants.{Included, Excluded, Unbounded}
+use Rattle.std.specs.declared.ops.Bound.{Bound}
+use Rattle.std.specs.declared.ops.Bound.TheVariants.{Included, Excluded, Unbounded}
 use Rattle.rs_ast.specs.declared.clause.Op.{Op}
 use Rattle.rs_ast.specs.declared.clause.Op.TheVariants as ops
 

@@ -1,16 +1,16 @@
 //! An index.
 
-ghost use Rattle.std.specs.Prelude.{◌≡◌, ◌≢◌, ◌<◌, ◌^◌, [], map, filter, All, IfOk, OnOk, OnErr};
+ghost use Rattle.std.specs.Prelude.{◌≡◌, ◌≢◌, [], map, IfOk, OnOk, OnErr, unwrap_or, if◌then◌else◌};
+ghost use Rattle.std.specs.declared.cmp.Ordering.TheVariants.{Less, Greater};
 ghost use Rattle.rs_ast.specs.Allows.{allows};
-ghost use Rattle.std.specs.Ordering.{int_cmp};
 ghost use Rattle.rs_index.specs.Pairs.{added, dropped, has, pairs_of, range_of};
 
-use crate::bounds::bounds_of;
 use crate::index_iter::IndexIter;
+use crate::int_numbers::{IntNumbers, add_int, all_ints, drop_int, range_of_ints};
+use crate::text_iter::TextIter;
 use crate::text_numbers::TextNumbers;
 use rs_ast::Op;
 use rs_base::{NoMemory, Txt, Value};
-use rs_rows::TableRows;
 use std::alloc::Global;
 use std::collections::BTreeSet;
 use std::collections::btree_set::Range;
@@ -21,7 +21,7 @@ use std::marker::Model;
 #[derive(Drop)]
 pub struct Index {
     column: u8,
-    ints: BTreeSet<(i64, u64)>,
+    ints: IntNumbers,
     texts: TextNumbers,
 }
 
@@ -37,20 +37,31 @@ impl Model for Index {
     ghost invariant = { IsKept };
 }
 
-/// Returns the pairs whose integer satisfies the comparison. The operator isn't `<>`.
-fn range_of_ints(ints: &BTreeSet<(i64, u64)>, op: Op, n: i64) -> Range<'_, (i64, u64)>
-    requires op { op ≢ Op.Ne }
-    requires numbers { All (λ pair. pair.1 < 2 ^ 64) ints.now.keys }
-    ensures { result ≡ filter (λ pair. allows op (int_cmp pair.0 n)) ints.now.keys }
+/// Returns all integers, if those below a text satisfy the comparison with it.
+fn ints_below(ints: &IntNumbers, op: Op) -> Option<Range<'_, (i64, u64)>>
+    ensures { unwrap_or result [] ≡ (if allows op Less then ints.now.keys else []) }
 {
-    ints.range(bounds_of(op, (n, 0), (n, u64::MAX)))
+    match op {
+        Op::Ne | Op::Lt | Op::Le => Some(all_ints(ints)),
+        Op::Eq | Op::Gt | Op::Ge => None,
+    }
+}
+
+/// Returns the numbers of all texts, if those above an integer satisfy the comparison with it.
+fn texts_above(texts: &TextNumbers, op: Op) -> Option<TextIter<'_>>
+    ensures { unwrap_or result [] ≡ (if allows op Greater then map (λ pair. pair.1) texts.now else []) }
+{
+    match op {
+        Op::Ne | Op::Gt | Op::Ge => Some(texts.all()),
+        Op::Eq | Op::Lt | Op::Le => None,
+    }
 }
 
 impl Index {
     ghost use Rattle.std.specs.Prelude.{◌≡◌, ◌≢◌, [], IfOk, OnOk, OnErr};
     ghost use Rattle.rs_index.specs.Pairs.{added, dropped, has, pairs_of, range_of};
 
-    fn new(alloc: Global, column: u8) -> Index
+    pub fn new(alloc: Global, column: u8) -> Index
         ensures { result ≡ record { column = column; pairs = [] } }
     {
         Index {
@@ -58,20 +69,6 @@ impl Index {
             ints: BTreeSet::new(alloc),
             texts: TextNumbers::new(alloc),
         }
-    }
-
-    /// Builds the index over a column of these rows. A row without a value in the column has no pair.
-    pub fn build(alloc: Global, rows: &TableRows, column: u8) -> Result<Index, NoMemory>
-        ensures { IfOk result (λ index. index
-            ≡ record { column = column; pairs = pairs_of column rows.now.rows }) }
-    {
-        let mut index = Index::new(alloc, column);
-        for (number, row) in rows.iter() {
-            if let Some(value) = row.get(usize::from(column)) {
-                index.add(value, number)?;
-            }
-        }
-        Ok(index)
     }
 
     /// Adds a row's value, with the row's number. A pair that is there stays. On out of memory nothing changes.
@@ -82,10 +79,7 @@ impl Index {
         ensures err { OnErr result (self.new ≡ self.old) }
     {
         match value {
-            Value::Int(n) => {
-                self.ints.insert((*n, number))?;
-                Ok(())
-            }
+            Value::Int(n) => add_int(&mut self.ints, *n, number),
             Value::Text(text) => self.texts.add(text, number),
         }
     }
@@ -98,7 +92,7 @@ impl Index {
             ≡ record self.old { pairs = dropped (value.now, number) self.old.pairs } }
     {
         match value {
-            Value::Int(n) => self.ints.remove(&(*n, number)),
+            Value::Int(n) => drop_int(&mut self.ints, *n, number),
             Value::Text(text) => self.texts.drop_row(text, number),
         }
     }
@@ -120,10 +114,7 @@ impl Index {
         requires { op ≢ Op.Ne }
         ensures { result ≡ range_of op (Value.Int n) self.now.pairs }
     {
-        let texts = match op {
-            Op::Gt | Op::Ge => Some(self.texts.all()),
-            _ => None,
-        };
+        let texts = texts_above(&self.texts, op);
         IndexIter::new(Some(range_of_ints(&self.ints, op, n)), texts)
     }
 
@@ -132,10 +123,7 @@ impl Index {
         requires { op ≢ Op.Ne }
         ensures { result ≡ range_of op (Value.Text text.now) self.now.pairs }
     {
-        let ints = match op {
-            Op::Lt | Op::Le => Some(self.ints.range(..)),
-            _ => None,
-        };
+        let ints = ints_below(&self.ints, op);
         IndexIter::new(ints, Some(self.texts.range(op, text)))
     }
 

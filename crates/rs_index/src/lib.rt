@@ -4,10 +4,9 @@
 mod bounds;
 mod index;
 mod index_iter;
-mod laws;
+mod int_numbers;
 mod text_iter;
 mod text_numbers;
 
 pub use index::Index;
 pub use index_iter::IndexIter;
-pub use laws::{range_gives_each_once, range_gives_satisfying};

@@ -1,6 +1,6 @@
 //! The row numbers of texts.
 
-ghost use Rattle.std.specs.Prelude.{◌≡◌, [], ◌∷◌, map, filter, None, OnOk, OnErr, List, ℕ};
+ghost use Rattle.std.specs.Prelude.{◌≡◌, [], ◌∷◌, map, filter, None, IfOk, OnOk, OnErr, ◌≢◌};
 ghost use Rattle.std.specs.List.{list_any};
 ghost use Rattle.std.specs.BTreeMap.{get, is_at};
 ghost use Rattle.std.specs.BTreeSet.{insert_key};
@@ -83,14 +83,16 @@ fn drop_number(sets: &mut BTreeMap<Txt, BTreeSet<u64>>, text: &Txt, number: u64)
     ensures pairs { text_pairs sets.new.entries
         ≡ remove_key (is_at (text_pair_cmp (text.now, number))) (text_pairs sets.old.entries) }
 {
-    let Some(set) = sets.get_mut(text) else {
-        return false;
-    };
-    let was_there = set.remove(&number);
-    if set.is_empty() {
-        let _ = sets.remove(text);
+    match sets.get_mut(text) {
+        Some(set) => {
+            let was_there = set.remove(&number);
+            if set.is_empty() {
+                let _ = sets.remove(text);
+            }
+            was_there
+        }
+        None => false,
     }
-    was_there
 }
 
 impl TextNumbers {

@@ -1,6 +1,7 @@
 //! Sections: the parts of a statement's plan, each over the rows of one table.
 
 ghost use Rattle.std.specs.Prelude.{◌≡◌};
+ghost use Rattle.std.specs.List.{list_any};
 ghost use Rattle.rs_plan.specs.Section as spec;
 
 use rs_ast::{BoundClause, BoundClauses, BoundCmp, BoundRows, BoundSets, BoundSide, Op, Places};
@@ -79,9 +80,6 @@ fn bounds(clause: &[BoundCmp], column: u8) -> bool
 }
 
 impl SectionKind {
-    ghost use Rattle.std.specs.Prelude.{◌≡◌};
-    ghost use Rattle.rs_plan.specs.Section as spec;
-
     /// Returns the predicate; an insert has no clause.
     pub fn clauses(&self) -> &[BoundClause]
         ensures { result.now ≡ spec.clauses_of self.now }
@@ -104,16 +102,20 @@ impl SectionKind {
         }
     }
 
+    fn is_equated(&self, column: u8) -> bool
+        ensures { result ≡ list_any (spec.compares spec.is_equality column) (spec.clauses_of self.now) }
+    {
+        self.clauses()
+            .iter()
+            .any(|clause| equates(clause.as_slice(), column))
+    }
+
     /// Returns whether a clause is an equality of the column with a value or a parameter, or the section is a fetch by
     /// the column.
     pub fn has_equality(&self, column: u8) -> bool
         ensures { result ≡ spec.has_equality self.now column }
     {
-        self.is_fetched_by(column)
-            || self
-                .clauses()
-                .iter()
-                .any(|clause| equates(clause.as_slice(), column))
+        self.is_fetched_by(column) || self.is_equated(column)
     }
 
     /// Returns whether a clause is a range of the column with a value or a parameter.
