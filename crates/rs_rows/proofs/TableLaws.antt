@@ -1,5 +1,5 @@
 -- What a map's calls do to its entries, in the words of a table's rows.
-use Rattle.std.proofs.Common.{◌≡◌, ℕ, ◌+◌, ◌*◌, ◌<◌, ◌≤◌, ◌==◌, Bool, true, false, not, cond, if◌then◌else◌, List, [], ◌∷◌, ◌++◌, map, filter, length, sum_by, Some, None, All, refl, sym, ap, ◌∙◌, inl, inr, arith, length-append, is_eq, nat_cmp, Less}
+use Rattle.std.proofs.Common.{◌≡◌, ℕ, ◌+◌, ◌-◌, ◌*◌, ◌^◌, min, ◌<◌, ◌≤◌, ◌==◌, Bool, true, false, not, cond, if◌then◌else◌, List, [], ◌∷◌, ◌++◌, map, filter, length, sum_by, Option, Some, None, Ok, ok_or, IfSome, All, subst, refl, sym, ap, ◌∙◌, inl, inr, arith, length-append, is_eq, nat_cmp, Less}
 use Rattle.std.proofs.lemmas.Bool.{cases_Bool, le-ltb, ne_eqb}
 use Rattle.std.proofs.lemmas.Cmp.{ranked}
 use Rattle.std.proofs.lemmas.List.{length-map, map-append}
@@ -16,7 +16,7 @@ use Rattle.std.specs.Map.{keys_of, lookup, remove_entry, set_value, values_of}
 use Rattle.std.specs.Ordering.{eq_by_cmp}
 use Rattle.rs_base.specs.Sizes.{row_size}
 use Rattle.rs_base.specs.declared.value.Value.{Value}
-use Rattle.rs_rows.specs.TableRows.{TableRows, numbers, row_of, bytes_of, without, with_row, inserted, removed, replaced, IsSmall, HasRoom, IsTable}
+use Rattle.rs_rows.specs.TableRows.{TableRows, RowsByNumber, numbers, row_of, bytes_of, without, with_row, inserted, removed, replaced, IsSmall, HasRoom, IsTable}
 
 -- ---- entries
 
@@ -133,7 +133,7 @@ pub table_inserted : (row : List Value) (table : TableRows) → IsTable table �
 table_inserted row table t room small rising = record {
   rising = rising;
   below = All-push (λ (entry : ℕ × List Value). entry.0 < table.next + 1) table.rows (table.next, row)
-    (All-weaker (λ (entry : ℕ × List Value). entry.0 < table.next) (λ (entry : ℕ × List Value). entry.0 < table.next + 1) (λ entry h. omega arith) table.rows t.below) (omega arith);
+      (All-weaker (λ (entry : ℕ × List Value). entry.0 < table.next) (λ (entry : ℕ × List Value). entry.0 < table.next + 1) (λ entry h. omega arith) table.rows t.below) (omega arith);
   few = omega (arith, length-append table.rows ((table.next, row) ∷ []));
   small = All-push (λ (entry : ℕ × List Value). IsSmall entry.1) table.rows (table.next, row) t.small small;
 }
@@ -152,10 +152,70 @@ table_replaced number row table t small rising =
     record {
       rising = rising;
       below = All-map (λ (entry : ℕ × List Value). entry.0 < table.next) put table.rows
-        (All-weaker (λ (entry : ℕ × List Value). entry.0 < table.next) (λ (entry : ℕ × List Value). (put entry).0 < table.next)
+          (All-weaker (λ (entry : ℕ × List Value). entry.0 < table.next) (λ (entry : ℕ × List Value). (put entry).0 < table.next)
           (λ entry h. elim (number == entry.0) as (λ (b : Bool). (if b then (entry.0, row) else entry).0 < table.next) [ true ↦ h | false ↦ h ]) table.rows t.below);
       few = let few = t.few in omega (arith, length-map table.rows put);
       small = All-map (λ (entry : ℕ × List Value). IsSmall entry.1) put table.rows
-        (All-weaker (λ (entry : ℕ × List Value). IsSmall entry.1) (λ (entry : ℕ × List Value). IsSmall (put entry).1)
+          (All-weaker (λ (entry : ℕ × List Value). IsSmall entry.1) (λ (entry : ℕ × List Value). IsSmall (put entry).1)
           (λ entry h. elim (number == entry.0) as (λ (b : Bool). IsSmall (if b then (entry.0, row) else entry).1) [ true ↦ small | false ↦ h ]) table.rows t.small);
+    }
+
+-- ---- the fields of a table after a call
+
+small_found : (number : ℕ) (row : List Value) (table : TableRows) → IsTable table → row_of number table.rows ≡ Some row → IsSmall row
+small_found number row table t found =
+    let h : IfSome (row_of number table.rows) IsSmall = All-lookup IsSmall (λ other. number == other) table.rows t.small in
+    rw found at h
+
+pub found_from_ok : {X : Type 0} (found : Option X) (given x : X) → ok_or found given ≡ Ok x → found ≡ Some x
+found_from_ok None given x same = cc
+found_from_ok (Some y) given x same = cc
+
+-- what holds of the fields after a row was removed
+pub record Removed (table : TableRows) (rows : RowsByNumber) (bytes size : ℕ) : Type 0 where
+  pub within : size ≤ bytes
+  pub left : IsTable (record table { rows = rows })
+  pub exact : bytes - size ≡ bytes_of rows
+
+pub kept_removed : (number : ℕ) (row : List Value) (table : TableRows) (rows : RowsByNumber) (bytes size : ℕ) → IsTable table → bytes ≡ bytes_of table.rows
+    → rows ≡ without number table.rows → IsStrictlySortedBy nat_cmp (numbers rows) → row_of number table.rows ≡ Some row → size ≡ min (row_size row) (2 ^ 64 - 1) → Removed table rows bytes size
+kept_removed number row table rows bytes size t exact same rising found sized =
+    let small : row_size row ≤ 1024 = small_found number row table t found in
+    let all : bytes_of (without number table.rows) + row_size row ≡ bytes_of table.rows = bytes_removed number row table t found in
+    let left : IsTable (removed number table) = table_removed number table t (subst (λ (rs : RowsByNumber). IsStrictlySortedBy nat_cmp (numbers rs)) same rising) in
+    let rest : bytes - size ≡ bytes_of (without number table.rows) = omega arith in
+    record {
+      within = omega arith;
+      left = subst (λ (rs : RowsByNumber). IsTable (record table { rows = rs })) (sym same) left;
+      exact = rest ∙ ap bytes_of (sym same);
+    }
+
+size_within : (number : ℕ) (row : List Value) (table : TableRows) (bytes size : ℕ) → IsTable table → bytes ≡ bytes_of table.rows → row_of number table.rows ≡ Some row → size ≡ min (row_size row) (2 ^ 64 - 1) → size ≤ bytes
+size_within number row table bytes size t exact found sized =
+    let all : bytes_of (without number table.rows) + row_size row ≡ bytes_of table.rows = bytes_removed number row table t found in
+    omega arith
+
+-- what holds of the fields after a row was replaced
+pub record Replaced (table : TableRows) (rows : RowsByNumber) (bytes size more : ℕ) : Type 0 where
+  pub within : size ≤ bytes
+  pub fits : bytes - size + more < 2 ^ 64
+  pub left : IsTable (record table { rows = rows })
+  pub exact : bytes - size + more ≡ bytes_of rows
+
+pub kept_replaced : (number : ℕ) (old row : List Value) (table : TableRows) (rows : RowsByNumber) (bytes size more : ℕ) → IsTable table → bytes ≡ bytes_of table.rows → IsSmall row
+    → rows ≡ with_row number row table.rows → IsStrictlySortedBy nat_cmp (numbers rows) → row_of number table.rows ≡ Some old → size ≡ min (row_size old) (2 ^ 64 - 1) → more ≡ min (row_size row) (2 ^ 64 - 1)
+    → Replaced table rows bytes size more
+kept_replaced number old row table rows bytes size more t exact fresh same rising found sized grown =
+    let small : row_size old ≤ 1024 = small_found number old table t found in
+    let few : row_size row ≤ 1024 = fresh in
+    let all : bytes_of (with_row number row table.rows) + row_size old ≡ bytes_of table.rows + row_size row = bytes_replaced number old row table t found in
+    let left : IsTable (replaced number row table) = table_replaced number row table t fresh (subst (λ (rs : RowsByNumber). IsStrictlySortedBy nat_cmp (numbers rs)) same rising) in
+    let most : bytes_of table.rows ≤ 67108864 = bytes_within table t in
+    let within : size ≤ bytes = size_within number old table bytes size t exact found sized in
+    let rest : bytes - size + more ≡ bytes_of (with_row number row table.rows) = omega arith in
+    record {
+      within = within;
+      fits = omega arith;
+      left = subst (λ (rs : RowsByNumber). IsTable (record table { rows = rs })) (sym same) left;
+      exact = rest ∙ ap bytes_of (sym same);
     }

@@ -6,6 +6,10 @@ use Rattle.std.specs.Ordering.{nat_cmp}
 use Rattle.rs_base.specs.Sizes.{row_size}
 use Rattle.rs_base.specs.declared.value.Value.{Value}
 
+-- rows, each with its number
+abbrev pub RowsByNumber : Type 0
+RowsByNumber = List (ℕ × List Value)
+
 -- the rows of a table in order of insertion, each with its number, and the number of the next row
 pub record TableRows : Type 0 where
   pub rows : List (ℕ × List Value)
@@ -14,25 +18,25 @@ pub record TableRows : Type 0 where
 -- ---- what is there
 
 -- the row numbers in order of insertion
-abbrev pub numbers : List (ℕ × List Value) → List ℕ
+abbrev pub numbers : RowsByNumber → List ℕ
 numbers rows = map (λ entry. entry.0) rows
 
 -- the row with this number, if there is one
-abbrev pub row_of : ℕ → List (ℕ × List Value) → Option (List Value)
+abbrev pub row_of : ℕ → RowsByNumber → Option (List Value)
 row_of number rows = lookup (λ other. number == other) rows
 
 -- the encoded size of the rows
-abbrev pub bytes_of : List (ℕ × List Value) → ℕ
+abbrev pub bytes_of : RowsByNumber → ℕ
 bytes_of rows = sum_by row_size (map (λ entry. entry.1) rows)
 
 -- ---- changes
 
 -- all rows but the one with this number
-abbrev pub without : ℕ → List (ℕ × List Value) → List (ℕ × List Value)
+abbrev pub without : ℕ → RowsByNumber → RowsByNumber
 without number rows = filter (λ entry. not (number == entry.0)) rows
 
 -- this row in place of the one with this number, if there is one
-abbrev pub with_row : ℕ → List Value → List (ℕ × List Value) → List (ℕ × List Value)
+abbrev pub with_row : ℕ → List Value → RowsByNumber → RowsByNumber
 with_row number row rows = map (λ entry. if number == entry.0 then (entry.0, row) else entry) rows
 
 -- no rows yet

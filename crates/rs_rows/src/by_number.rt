@@ -26,6 +26,7 @@ pub(crate) fn push(rows: &mut RowMap, number: u64, row: Row) -> Result<(), NoMem
 /// Removes the row with this number and returns it, if there is one.
 #[tactic(auto, using(crate::proofs::TableLaws::found_by_number, crate::proofs::TableLaws::removed_entry, crate::proofs::TableLaws::without_none))]
 pub(crate) fn take(rows: &mut RowMap, number: u64) -> Option<Row>
+    requires { IsStrictlySortedBy nat_cmp (numbers rows.old.entries) }
     ensures row { result ≡ row_of number rows.old.entries }
     ensures rows { rows.new.entries ≡ without number rows.old.entries }
     ensures none { IfNone result (rows.new.entries ≡ rows.old.entries) }

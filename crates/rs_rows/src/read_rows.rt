@@ -1,11 +1,11 @@
 //! Reading rows by number, with a count of the reads.
 
-ghost use Rattle.std.specs.Prelude.{◌≡◌, length, IfOk};
+ghost use Rattle.std.specs.Prelude.{◌≡◌, ℕ, length, IfOk};
 ghost use Rattle.std.specs.Option.{option_copied};
 ghost use Rattle.std.specs.List.Sorted.{IsStrictlySortedBy};
 ghost use Rattle.std.specs.Ordering.{nat_cmp};
 ghost use Rattle.rs_rows.specs.CountedRows.{raised};
-ghost use Rattle.rs_rows.specs.TableRows.{numbers, row_of, bytes_of};
+ghost use Rattle.rs_rows.specs.TableRows.{RowsByNumber, numbers, row_of, bytes_of};
 
 use crate::table_rows::TableRows;
 use rs_base::{NoMemory, Row};
@@ -18,10 +18,7 @@ pub type Numbers = Items<u64>;
 
 /// Numbered rows whose numbers rise, and a count of reads. The rows live for `'t`.
 pub trait ReadRows<'t> {
-    ghost use Rattle.std.specs.Prelude.{ℕ, List};
-    ghost use Rattle.rs_base.specs.declared.value.Value.{Value};
-
-    ghost rows: { Self → List (ℕ × List Value) };
+    ghost rows: { Self → RowsByNumber };
 
     ghost reads: { Self → ℕ };
 

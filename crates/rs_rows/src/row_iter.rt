@@ -16,10 +16,9 @@ pub struct RowIter<'a> {
 }
 
 impl<'a> Model for RowIter<'a> {
-    ghost use Rattle.std.specs.Prelude.{ℕ, List};
-    ghost use Rattle.rs_base.specs.declared.value.Value.{Value};
+    ghost use Rattle.rs_rows.specs.TableRows.{RowsByNumber};
 
-    ghost Value = { List (ℕ × List Value) };
+    ghost Value = { RowsByNumber };
 
     ghost view = { λ it. it.rows };
 }

@@ -1,6 +1,8 @@
 //! The rows of a table by number.
 
 ghost use Rattle.std.specs.Prelude.{◌≡◌, ◌↔◌, length, ok_or, option_copied, IsTrue, IfOk, IfNone, OnOk, OnErr};
+ghost use Rattle.std.specs.List.Sorted.{IsStrictlySortedBy};
+ghost use Rattle.std.specs.Ordering.{nat_cmp};
 ghost use Rattle.rs_rows.specs.TableRows.{empty, inserted, removed, replaced, row_of, numbers, bytes_of, HasRoom, IsSmall, IsTable};
 
 use crate::by_number::{RowMap, push, swap, take};
@@ -113,7 +115,8 @@ impl TableRows {
 
     /// Returns the row numbers in order of insertion.
     pub fn numbers(&self, alloc: Global) -> Result<Items<u64>, NoMemory>
-        ensures { IfOk result (λ found. found ≡ numbers self.now.rows) }
+        ensures numbers { IfOk result (λ found. found ≡ numbers self.now.rows) }
+        ensures rising { IsStrictlySortedBy nat_cmp (numbers self.now.rows) }
     {
         let numbers: Vec<u64> = self.rows.keys().copied().collect(alloc)?;
         Ok(Items::from_vec(numbers))
