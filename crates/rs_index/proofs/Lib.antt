@@ -1,3 +1,4 @@
+pub mod LawLemmas
 pub mod Parts
 pub mod Ranges
 pub mod Results

@@ -11,6 +11,7 @@ use crate::text_iter::TextIter;
 use crate::text_numbers::TextNumbers;
 use rs_ast::Op;
 use rs_base::{NoMemory, Txt, Value};
+use rs_rows::TableRows;
 use std::alloc::Global;
 use std::collections::BTreeSet;
 use std::collections::btree_set::Range;
@@ -61,7 +62,7 @@ impl Index {
     ghost use Rattle.std.specs.Prelude.{◌≡◌, ◌≢◌, [], IfOk, OnOk, OnErr};
     ghost use Rattle.rs_index.specs.Pairs.{added, dropped, has, pairs_of, range_of};
 
-    pub fn new(alloc: Global, column: u8) -> Index
+    fn new(alloc: Global, column: u8) -> Index
         ensures { result ≡ record { column = column; pairs = [] } }
     {
         Index {
@@ -69,6 +70,20 @@ impl Index {
             ints: BTreeSet::new(alloc),
             texts: TextNumbers::new(alloc),
         }
+    }
+
+    /// Builds the index over a column of these rows. A row without a value in the column has no pair.
+    pub fn build(alloc: Global, rows: &TableRows, column: u8) -> Result<Index, NoMemory>
+        ensures { IfOk result (λ index. index
+            ≡ record { column = column; pairs = pairs_of column rows.now.rows }) }
+    {
+        let mut index = Index::new(alloc, column);
+        for (number, row) in rows.iter() {
+            if let Some(value) = row.get(usize::from(column)) {
+                index.add(value, number)?;
+            }
+        }
+        Ok(index)
     }
 
     /// Adds a row's value, with the row's number. A pair that is there stays. On out of memory nothing changes.
