@@ -34,9 +34,12 @@ impl IndexScan {
         requires { op ≢ Op.Ne }
         ensures { IfOk result (λ scan. scan ≡ range_of op value.now index.now.pairs) }
     {
-        let numbers: Vec<u64> = index.range(op, value).collect(alloc)?;
+        let mut numbers = Items::new(alloc);
+        for number in index.range(op, value) {
+            numbers.push(number)?;
+        }
         Ok(IndexScan {
-            numbers: NumberList::new(Items::from_vec(numbers)),
+            numbers: NumberList::new(numbers),
         })
     }
 }

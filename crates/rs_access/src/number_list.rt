@@ -4,6 +4,7 @@ ghost use Rattle.std.specs.Prelude.{◌≡◌};
 ghost use Rattle.rs_access.specs.Access.{GivesFirst};
 
 use rs_rows::Numbers;
+use sqlite_items::at;
 use std::marker::Model;
 
 /// Row numbers, of which some were given. Seen as those that are left.
@@ -34,8 +35,12 @@ impl NumberList {
     pub(crate) fn next(&mut self) -> Option<u64>
         ensures { GivesFirst self.old result self.new }
     {
-        let number = *self.numbers.get(self.given)?;
-        self.given += 1;
-        Some(number)
+        match at(self.numbers.as_slice(), self.given) {
+            Some(number) => {
+                self.given += 1;
+                Some(*number)
+            }
+            None => None,
+        }
     }
 }
