@@ -19,7 +19,7 @@ pub struct IndexCalls {
 }
 
 /// Reads a comparison that an index has a range of.
-fn read_op(word: &str) -> Result<Op, ReadFault>
+pub fn read_op(word: &str) -> Result<Op, ReadFault>
     ensures { IfOk result (λ op. op ≢ Op.Ne) }
 {
     match word {
