@@ -1,6 +1,7 @@
 //! Makes many calls on structures of a given size, for the scripts of bench/ to time.
 #![tactic(auto)]
 
+mod index;
 mod random;
 mod rows;
 
@@ -35,6 +36,7 @@ fn make(alloc: Global, line: &str) -> Result<u64, ReadFault> {
     let calls = read_calls(line).ok_or(ReadFault::Malformed)?;
     match calls.structure {
         "rows" => rows::make(alloc, calls.call, calls.count, calls.size),
+        "index" => index::make(alloc, calls.call, calls.count, calls.size),
         _ => Err(ReadFault::Malformed),
     }
 }

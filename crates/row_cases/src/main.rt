@@ -3,10 +3,14 @@
 #![tactic(auto)]
 
 mod calls;
+mod index;
+mod paths;
 mod rows;
 mod values;
 
 use calls::Calls;
+use index::IndexCalls;
+use paths::PathCalls;
 use rows::RowCalls;
 use rs_base::{Bytes, NoMemory, ReadFault};
 use std::alloc::{AllocError, Global};
@@ -69,6 +73,11 @@ fn check_line<R: Files + AllocGlobal + Print>(rt: &R, line: &str) -> io::Result<
     let (kind, file) = line.split_once(' ').unwrap_or((line, ""));
     match kind {
         "rows" => check(rt, RowCalls::new(rt.alloc()), file),
+        "index" => {
+            let calls = IndexCalls::new(rt.alloc()).map_err(|_| AllocError)?;
+            check(rt, calls, file)
+        }
+        "paths" => check(rt, PathCalls::new(rt.alloc()), file),
         _ => println!(rt; "{kind}: no such kind"),
     }
 }

@@ -10,7 +10,7 @@ pub fn read_number(word: &str) -> Result<u64, ReadFault> {
 }
 
 /// Reads an integer, or a text.
-fn read_value(alloc: Global, word: &str) -> Result<Value, ReadFault> {
+pub fn read_value(alloc: Global, word: &str) -> Result<Value, ReadFault> {
     if let Ok(n) = word.parse() {
         return Ok(Value::Int(n));
     }

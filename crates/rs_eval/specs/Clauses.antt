@@ -1,24 +1,13 @@
 -- Which rows satisfy a predicate.
 use Rattle.std.specs.Prelude.{Bool, false, List, Option, Some, None, slice_get}
 use Rattle.std.specs.List.{list_any, list_all}
-use Rattle.std.specs.Ordering.{is_eq, is_ne, is_lt, is_le, is_gt, is_ge}
-use Rattle.std.specs.declared.cmp.Ordering.{Ordering}
 use Rattle.rs_base.specs.declared.value.Value.{Value}
 use Rattle.rs_base.specs.Value.{value_cmp}
 use Rattle.rs_ast.specs.declared.bound.BoundCmp.{BoundCmp}
 use Rattle.rs_ast.specs.declared.bound.BoundSide.{BoundSide}
 use Rattle.rs_ast.specs.declared.bound.BoundSide.TheVariants as sides
 use Rattle.rs_ast.specs.declared.clause.Op.{Op}
-use Rattle.rs_ast.specs.declared.clause.Op.TheVariants as ops
-
--- two values in this order satisfy the comparison
-abbrev pub allows : Op → Ordering → Bool
-allows ops.Eq order = is_eq order
-allows ops.Ne order = is_ne order
-allows ops.Lt order = is_lt order
-allows ops.Le order = is_le order
-allows ops.Gt order = is_gt order
-allows ops.Ge order = is_ge order
+pub use Rattle.rs_ast.specs.Allows.{allows}
 
 -- the right operand's value; a parameter has none before it is filled
 abbrev pub side_value : List Value → BoundSide → Option Value

@@ -1,2 +1,4 @@
 pub mod Kinds
 pub mod Over
+pub mod Section
+pub mod Path

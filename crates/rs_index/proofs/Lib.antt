@@ -1,0 +1,5 @@
+pub mod LawLemmas
+pub mod Parts
+pub mod Ranges
+pub mod Results
+pub mod TextLaws
