@@ -32,7 +32,7 @@ use Rattle.rs_mean.specs.Columns.{has_name, names_differ}
 use Rattle.rs_mean.specs.Database.{Database, table_named, with_changed}
 use Rattle.law_mean.specs.Laws.{EachTable, IsWithin, HasDistinctIndexes}
 use Rattle.rs_rows.specs.Sizes.{rows_size}
-use Rattle.rs_eval.specs.Limits.{max_row_bytes, max_rows, max_table_bytes, fits_row, fits_rows}
+use Rattle.rs_rows.specs.Limits.{max_row_bytes, max_rows, max_table_bytes, fits_row, fits_rows}
 use Rattle.rs_eval.specs.Setting.{row_set}
 use Rattle.rs_eval.specs.RowChanges.{has_room, updated_row, with_first, and_others, updated_rows, set_rows_fit, may_become, other_rows}
 use Rattle.rs_mean.specs.RowStatements.{rows_of}

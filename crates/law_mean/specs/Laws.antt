@@ -32,7 +32,7 @@ use Rattle.rs_mean.specs.declared.table.Table.{Table}
 use Rattle.rs_mean.specs.Changes.{with_rows}
 use Rattle.rs_mean.specs.Database.{Database, empty, table_named, IsInOrder, target_of, AreSynonymsInOrder}
 use Rattle.rs_rows.specs.Sizes.{rows_size}
-use Rattle.rs_eval.specs.Limits.{max_row_bytes, max_rows, max_table_bytes}
+use Rattle.rs_rows.specs.Limits.{max_row_bytes, max_rows, max_table_bytes}
 use Rattle.rs_mean.specs.Meaning.{meaning}
 use Rattle.rs_mean.specs.Names.{name_of, own_synonym}
 use Rattle.rs_mean.specs.RowStatements.{heading_in}

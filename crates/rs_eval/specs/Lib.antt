@@ -1,7 +1,6 @@
 pub mod Clauses
 pub mod Filling
 pub mod Integers
-pub mod Limits
 pub mod RowChanges
 pub mod Setting
 pub mod Updating

@@ -9,7 +9,7 @@ use Rattle.rs_ast.specs.declared.bound.BoundSet.{BoundSet}
 use Rattle.rs_ast.specs.declared.bound.BoundTerm.{BoundTerm}
 use Rattle.rs_eval.specs.Clauses.{holds}
 use Rattle.rs_eval.specs.Setting.{term_value, row_set}
-use Rattle.rs_eval.specs.Limits.{fits_row, fits_rows}
+use Rattle.rs_rows.specs.Limits.{fits_row, fits_rows}
 
 -- ---- INSERT
 

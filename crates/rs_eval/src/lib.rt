@@ -4,13 +4,11 @@
 mod clauses;
 mod filling;
 mod integers;
-mod limits;
 mod row_changes;
 mod setting;
 
 pub use clauses::{allows, holds};
 pub use filling::fill;
 pub use integers::compute;
-pub use limits::{MAX_ROW_BYTES, MAX_ROWS, MAX_TABLE_BYTES};
 pub use row_changes::{inserted, matching_count, other_rows, updated};
 pub use setting::{set_row, term_value};

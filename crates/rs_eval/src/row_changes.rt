@@ -6,11 +6,10 @@ ghost use Rattle.rs_eval.specs.RowChanges as spec;
 ghost use Rattle.rs_eval.specs.Updating.{Puts};
 
 use crate::clauses::holds;
-use crate::limits::{all_fit_row, fits_row, fits_rows, has_room};
 use crate::setting::{set_row, term_value};
 use rs_ast::{BoundClause, BoundRow, BoundSet, BoundTerm};
 use rs_base::{Denial, NoMemory, Row, Value, with_room};
-use rs_rows::{RowRun, StoredRows};
+use rs_rows::{RowRun, StoredRows, all_fit_row, fits_row, fits_rows, has_room};
 use std::alloc::Global;
 
 // ---- INSERT

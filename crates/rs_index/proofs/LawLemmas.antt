@@ -51,6 +51,7 @@ value_total = record { antisymm = turned; trans = chain; congr = alike }
     turned (Int m) (Text t) = refl
     turned (Text s) (Int n) = refl
     turned (Text s) (Text t) = nat_list_cmp_total.antisymm s t
+
     chain : (x y z : Value) → value_cmp x y ≡ Less → value_cmp y z ≡ Less → value_cmp x z ≡ Less
     chain (Int l) (Int m) (Int n) h k = int_cmp_total.trans l m n h k
     chain (Int l) (Int m) (Text t) h k = refl
@@ -60,6 +61,7 @@ value_total = record { antisymm = turned; trans = chain; congr = alike }
     chain (Text r) (Int m) (Text t) h k = cc
     chain (Text r) (Text s) (Int n) h k = cc
     chain (Text r) (Text s) (Text t) h k = nat_list_cmp_total.trans r s t h k
+
     alike : (x y z : Value) → value_cmp x y ≡ Equal → value_cmp x z ≡ value_cmp y z
     alike (Int l) (Int m) (Int n) h = int_cmp_total.congr l m n h
     alike (Int l) (Int m) (Text t) h = refl
@@ -135,6 +137,7 @@ in_rows column q (e ∷ rows) h = by (slice_get e.1 column) refl (λ more. later
   where
     later : HasRow column q rows → HasRow column q (e ∷ rows)
     later rest = record { row = rest.row; there = inr rest.there; value = rest.value }
+
     by : (o : Option Value) → slice_get e.1 column ≡ o → (In q (filter_map (pair_of column) rows) → HasRow column q (e ∷ rows)) → HasRow column q (e ∷ rows)
     by None is further = further (rw is at h)
     by (Some v) is further =
@@ -150,6 +153,7 @@ rows_in column q row (e ∷ rows) there value =
     own_in own =
         let is : slice_get e.1 column ≡ Some q.0 = ap (λ (p : ℕ × List Value). slice_get p.1 column) own ∙ value in
         rw is (inl (ap (λ (n : ℕ). (q.0, n)) (ap (λ (p : ℕ × List Value). p.0) own)))
+
     later : (o : Option Value) → slice_get e.1 column ≡ o → In q (filter_map (pair_of column) rows) → In q (filter_map (pair_of column) (e ∷ rows))
     later None is more = rw is more
     later (Some v) is more = rw is (inr more)
@@ -167,6 +171,7 @@ in_range test number (p ∷ ps) h = by (test p) refl (λ more. later (in_range t
   where
     later : HasPair test number ps → HasPair test number (p ∷ ps)
     later rest = record { value = rest.value; there = inr rest.there; passes = rest.passes }
+
     by : (b : Bool) → test p ≡ b → (In number (map (λ (r : Value × ℕ). r.1) (filter test ps)) → HasPair test number (p ∷ ps)) → HasPair test number (p ∷ ps)
     by false is further = further (rw is at h)
     by true is further =
@@ -180,6 +185,7 @@ range_in test number value (p ∷ ps) there passes =
   where
     own_in : (p ≡ (value, number)) → In number (map (λ (r : Value × ℕ). r.1) (filter test (p ∷ ps)))
     own_in own = let is : test p ≡ true = ap test own ∙ passes in rw is (inl (ap (λ (q : Value × ℕ). q.1) own))
+
     later : (b : Bool) → test p ≡ b → In number (map (λ (r : Value × ℕ). r.1) (filter test ps)) → In number (map (λ (r : Value × ℕ). r.1) (filter test (p ∷ ps)))
     later false is more = rw is more
     later true is more = rw is (inr more)
@@ -196,6 +202,7 @@ distinct_from_sorted (k ∷ ks) sorted = IsDistinct-cons nat_eq k ks (others ks 
   where
     apart : (y : ℕ) → nat_cmp k y ≡ Less → nat_eq k y ≡ false
     apart y less = grind (arith, nat_tests)
+
     others : (ys : List ℕ) → AllByRecursion (λ y. nat_cmp k y ≡ Less) ys → AllByRecursion (λ y. nat_eq k y ≡ false) ys
     others [] above = tt
     others (y ∷ ys) above = (apart y above.0, others ys above.1)
@@ -284,6 +291,7 @@ other_numbers test p (q ∷ ps) above one = with_first (other_numbers test p ps 
         let equal : pair_cmp p q ≡ Equal = ap (λ (r : Value × ℕ). pair_cmp p r) (sym same) ∙ tied_itself pair_total p in
         let less : pair_cmp p q ≡ Less = above.0 in
         cc
+
     with_first : AllByRecursion (λ n. nat_eq p.1 n ≡ false) (map (λ (r : Value × ℕ). r.1) (filter test ps)) → AllByRecursion (λ n. nat_eq p.1 n ≡ false) (map (λ (r : Value × ℕ). r.1) (filter test (q ∷ ps)))
     with_first rest = elim (test q) as (λ b. AllByRecursion (λ n. nat_eq p.1 n ≡ false) (map (λ (r : Value × ℕ). r.1) (cond b (q ∷ filter test ps) (filter test ps)))) [ true ↦ (apart (nat_eq p.1 q.1) refl, rest) | false ↦ rest ]
 

@@ -181,14 +181,16 @@ dropped_number t n old new (e ∷ es) sorted found is = by (is_eq (text_cmp t e.
         let apart : AllByRecursion (λ p. is_at (text_pair_cmp (t, n)) p ≡ false) (text_pairs es) = later_apart t n e es sorted equal in
         record {
           test = rw (← same, ← text) (sym (any_of_own t n e.1.keys (text_pairs es) apart));
-          pairs = rw (h, is, ← same, ← text) (sym (dropped_from_own t n e.1.keys (text_pairs es) apart)) }
+          pairs = rw (h, is, ← same, ← text) (sym (dropped_from_own t n e.1.keys (text_pairs es) apart));
+        }
     by false h later =
         let rest : lookup (is_at (text_cmp t)) es ≡ Some old = rw h at found in
         let more : DropsNumber t n es old new = later rest in
         let apart : AllByRecursion (λ p. is_at (text_pair_cmp (t, n)) p ≡ false) (pairs_of_entry e) = pairs_apart t e.0 n e.1.keys h in
         record {
           test = more.test ∙ sym (any_past (is_at (text_pair_cmp (t, n))) (pairs_of_entry e) (text_pairs es) apart);
-          pairs = rw (h, removed_past (is_at (text_pair_cmp (t, n))) (pairs_of_entry e) (text_pairs es) apart) (ap (λ (l : List (List ℕ × ℕ)). pairs_of_entry e ++ l) more.pairs) }
+          pairs = rw (h, removed_past (is_at (text_pair_cmp (t, n))) (pairs_of_entry e) (text_pairs es) apart) (ap (λ (l : List (List ℕ × ℕ)). pairs_of_entry e ++ l) more.pairs);
+        }
 
 -- a text that isn't there has no pair
 pub no_pair : (t : List ℕ) (n : ℕ) (es : List (List ℕ × BTreeSet ℕ)) → lookup (is_at (text_cmp t)) es ≡ None → (list_any (is_at (text_pair_cmp (t, n))) (text_pairs es) ≡ false) × (remove_key (is_at (text_pair_cmp (t, n))) (text_pairs es) ≡ text_pairs es)

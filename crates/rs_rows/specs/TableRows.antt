@@ -5,6 +5,7 @@ use Rattle.std.specs.Map.{lookup}
 use Rattle.std.specs.Ordering.{nat_cmp}
 use Rattle.rs_base.specs.Sizes.{row_size}
 use Rattle.rs_base.specs.declared.value.Value.{Value}
+use Rattle.rs_rows.specs.Limits.{max_row_bytes, max_rows}
 
 -- rows, each with its number
 abbrev pub RowsByNumber : Type 0
@@ -59,15 +60,15 @@ replaced number row table = record table { rows = with_row number row table.rows
 
 -- a row that a table may have
 abbrev pub IsSmall : List Value → Type 0
-IsSmall row = row_size row ≤ 1024
+IsSmall row = row_size row ≤ max_row_bytes
 
 -- there is room for one more row
 abbrev pub HasRoom : TableRows → Type 0
-HasRoom table = (length table.rows < 65536) × (table.next < 2 ^ 63)
+HasRoom table = (length table.rows < max_rows) × (table.next < 2 ^ 63)
 
 -- what is true of every table: the numbers rise and are below the next; at most 65,536 rows, each of at most 1,024 bytes
 pub record IsTable (table : TableRows) : Type 0 where
   pub rising : IsStrictlySortedBy nat_cmp (numbers table.rows)
   pub below : All (λ entry. entry.0 < table.next) table.rows
-  pub few : length table.rows ≤ 65536
+  pub few : length table.rows ≤ max_rows
   pub small : All (λ entry. IsSmall entry.1) table.rows

@@ -6,21 +6,16 @@ ghost use Rattle.std.specs.Ordering.{nat_cmp};
 ghost use Rattle.rs_rows.specs.TableRows.{empty, inserted, removed, replaced, row_of, numbers, bytes_of, HasRoom, IsSmall, IsTable};
 
 use crate::by_number::{RowMap, push, swap, take};
+use crate::limits::MAX_ROWS;
 use crate::row_iter::RowIter;
-use rs_base::{NoMemory, Row, Value, copy_row, row_size};
+use rs_base::{NoMemory, Row, copy_row, row_size};
 use sqlite_items::Items;
 use std::alloc::Global;
 use std::collections::BTreeMap;
 use std::marker::Model;
 
-/// The greatest number of rows.
-const ROWS: usize = 65_536;
-
 /// The first number that no row may have.
 const NUMBERS: u64 = 1 << 63;
-
-/// The greatest size of a row in bytes.
-const ROW_BYTES: u64 = 1_024;
 
 /// The rows of a table in order of insertion, each with its number. Numbers count from 0 and are never given again. At
 /// most 65,536 rows, each of at most 1,024 bytes.
@@ -141,7 +136,7 @@ impl TableRows {
     pub fn has_room(&self) -> bool
         ensures { IsTrue result ↔ HasRoom self.now }
     {
-        self.rows.len() < ROWS && self.next < NUMBERS
+        self.rows.len() < MAX_ROWS && self.next < NUMBERS
     }
 
     /// Returns the number that the next insert gives.
@@ -165,11 +160,4 @@ impl TableRows {
             bytes: self.bytes,
         })
     }
-}
-
-/// Returns whether a table may have this row.
-pub fn is_small(row: &[Value]) -> bool
-    ensures { IsTrue result ↔ IsSmall row.now }
-{
-    row_size(row) <= ROW_BYTES
 }

@@ -17,5 +17,5 @@ returns-in-Some c =
 pub returns-in-None : goal.returns-in-None
 returns-in-None c =
     let none = sym c.self.view_is
-        ∙ drop_past c.self.inside.numbers c.self.inside.given (sym (c.in-None.ensures ∙ ap (λ (s : List ℕ). slice_get s c.self.inside.given) c.as_slice.ensures)) in
+    ∙ drop_past c.self.inside.numbers c.self.inside.given (sym (c.in-None.ensures ∙ ap (λ (s : List ℕ). slice_get s c.self.inside.given) c.as_slice.ensures)) in
     (none, none)
