@@ -8,7 +8,7 @@ use anyhow::Result;
 use case_tools::Transcript;
 
 pub fn calls(out: &mut Transcript) -> Result<()> {
-    predicates::calls(out);
+    predicates::calls(out)?;
     setting::calls(out)?;
     joining::calls(out)
 }
