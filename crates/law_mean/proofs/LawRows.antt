@@ -6,7 +6,7 @@ use Rattle.rs_base.specs.declared.value.Value.{Value}
 use Rattle.rs_ast.specs.declared.bound.BoundCmp.{BoundCmp}
 use Rattle.rs_ast.specs.declared.bound.BoundSet.{BoundSet}
 use Rattle.rs_ast.specs.declared.change.Term.TheVariants as terms
-use Rattle.rs_bind.specs.Binding.{bound_term, bound_rows}
+use Rattle.rs_bind_change.specs.Binding.{bound_term, bound_rows}
 use Rattle.rs_scope.specs.declared.scope.ScopeColumn.{ScopeColumn}
 use Rattle.rs_eval.specs.Clauses.{holds}
 use Rattle.rs_eval.specs.Setting.{term_value}

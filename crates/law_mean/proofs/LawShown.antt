@@ -21,9 +21,9 @@ use Rattle.rs_ast.specs.declared.select.TableRef.{TableRef}
 use Rattle.rs_ast.specs.declared.shape.Shape.{Shape}
 use Rattle.rs_ast.specs.declared.shape.ShapeItem.{ShapeItem}
 use Rattle.rs_ast.specs.declared.shape.ShapeItem.TheVariants as shape_items
-use Rattle.rs_bind.specs.Binding.{shape_item, items_shown, shape_of}
+use Rattle.rs_bind_query.specs.Binding.{shape_item, items_shown, shape_of}
 use Rattle.rs_scope.specs.Predicates.{bound_clauses}
-use Rattle.rs_bind.specs.Denials.{all_differ, item_tests, items_tests, key_tests, names_tests, grouping_test, keys_tests, select_tests}
+use Rattle.rs_bind_query.specs.Denials.{all_differ, item_tests, items_tests, key_tests, names_tests, grouping_test, keys_tests, select_tests}
 use Rattle.rs_scope.specs.Denials.{Test, test, first_denial, column_tests, clauses_tests}
 use Rattle.rs_scope.specs.Scope.{as_u16, alias_of, aliases_of, columns_as, scope_column, query_scope, named_count, column_index_of, column_kind}
 use Rattle.rs_scope.specs.declared.heading.Heading.{Heading}

@@ -12,8 +12,8 @@ use Rattle.rs_ast.specs.declared.change.Set.{Set}
 use Rattle.rs_ast.specs.declared.change.Term.{Term}
 use Rattle.rs_ast.specs.declared.column.ColDef.{ColDef}
 use Rattle.rs_ast.specs.declared.entry.IndexOf.{IndexOf}
-use Rattle.rs_bind.specs.Binding.{bound_rows, bound_set}
-use Rattle.rs_bind.specs.Denials.{insert_tests, sets_tests}
+use Rattle.rs_bind_change.specs.Binding.{bound_rows, bound_set}
+use Rattle.rs_bind_change.specs.Denials.{insert_tests, sets_tests}
 use Rattle.rs_scope.specs.Denials.{first_denial}
 use Rattle.rs_scope.specs.Scope.{scope_column, columns_as}
 use Rattle.rs_scope.specs.declared.scope.ScopeColumn.{ScopeColumn}

@@ -1,4 +1,3 @@
-pub mod OneCause
 pub mod Outcomes
 pub mod Over
 pub mod OverChanges
@@ -6,5 +5,3 @@ pub mod OverClauses
 pub mod OverScope
 pub mod OverShape
 pub mod OverTests
-pub mod Pairs
-pub mod SetDenials

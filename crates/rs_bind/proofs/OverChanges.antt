@@ -18,8 +18,8 @@ use Rattle.rs_plan.specs.Over as over
 use Rattle.rs_plan.specs.Over.{more_fits, set_kind, set_fits, set_fits_kind, term_is_column}
 use Rattle.rs_scope.specs.declared.scope.Param.{Param}
 use Rattle.rs_scope.specs.declared.scope.ScopeColumn.{ScopeColumn}
-use Rattle.rs_bind.specs.Binding.{bound_term, bound_set, bound_rows}
-use Rattle.rs_bind.specs.Denials.{term_fits, row_fits, given_tests, row_tests, insert_tests, term_tests, term_kind, more_tests, expr_fits, set_tests, sets_tests}
+use Rattle.rs_bind_change.specs.Binding.{bound_term, bound_set, bound_rows}
+use Rattle.rs_bind_change.specs.Denials.{term_fits, row_fits, given_tests, row_tests, insert_tests, term_tests, term_kind, more_tests, expr_fits, set_tests, sets_tests}
 use Rattle.rs_scope.specs.Denials.{test, first_denial}
 use Rattle.rs_scope.specs.Scope.{as_position, named_count, column_index_of, unqualified, column_kind}
 use Rattle.rs_bind.proofs.OverClauses.{fits_any}

@@ -23,8 +23,8 @@ use Rattle.rs_plan.specs.Over.{is_column_index, has_kind, item_fits, is_filled, 
 use Rattle.rs_plan.specs.Over as over
 use Rattle.rs_scope.specs.declared.scope.Param.{Param}
 use Rattle.rs_scope.specs.declared.scope.ScopeColumn.{ScopeColumn}
-use Rattle.rs_bind.specs.Binding.{shape_item, items_shown, shows_column, key_item, shape_key, shape_of}
-use Rattle.rs_bind.specs.Denials.{item_tests, items_tests, key_tests, names_tests, is_aggregate, has_aggregate, is_grouped, is_same_column, is_of_group, are_of_group, grouping_test, is_item_of, is_shown, item_count, names_item, keys_tests}
+use Rattle.rs_bind_query.specs.Binding.{shape_item, items_shown, shows_column, key_item, shape_key, shape_of}
+use Rattle.rs_bind_query.specs.Denials.{item_tests, items_tests, key_tests, names_tests, is_aggregate, has_aggregate, is_grouped, is_same_column, is_of_group, are_of_group, grouping_test, is_item_of, is_shown, item_count, names_item, keys_tests}
 use Rattle.rs_scope.specs.Denials.{test, first_denial, column_tests, clauses_tests}
 use Rattle.rs_scope.specs.Scope.{as_u16, column_index_of, column_kind}
 use Rattle.rs_bind.proofs.OverScope.{kinds_in, any_found, column_there, column_index_kind}

@@ -1,4 +1,3 @@
 pub mod Binding
-pub mod Denials
 pub mod Entries
 pub mod Laws

@@ -6,11 +6,11 @@ ghost use Rattle.rs_plan.specs.Over.{AreEntriesOf, IsOver};
 ghost use Rattle.rs_bind.specs.Binding.{bound_of};
 ghost use Rattle.rs_bind.specs.Entries as spec;
 
-use crate::changes::{bind_delete, bind_insert, bind_update};
 use crate::definitions::column_defs;
-use crate::queries::bind_select;
 use rs_ast::{Dml, Entry};
 use rs_base::{Denial, Ident, NoMemory, Swn, Value, with_room};
+use rs_bind_change::{bind_delete, bind_insert, bind_update};
+use rs_bind_query::bind_select;
 use rs_plan::Bound;
 use rs_scope::{Heading, Headings, Param, Params};
 use std::alloc::Global;

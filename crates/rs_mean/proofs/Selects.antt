@@ -3,8 +3,9 @@ use Rattle.std.proofs.Common.{◌≡◌, List, Option, Some, None, Ok, subst}
 use Rattle.rs_base.specs.declared.reply.Denial.{Denial}
 use Rattle.rs_ast.specs.declared.select.Select.{Select}
 use Rattle.rs_plan.specs.declared.bound.Bound.{Bound}
-use Rattle.rs_bind.specs.Binding.{select_bound, bound_select, unless_denied}
-use Rattle.rs_bind.specs.Denials.{select_tests}
+use Rattle.rs_bind_query.specs.Binding.{select_bound, bound_select}
+use Rattle.rs_scope.specs.Outcome.{unless_denied}
+use Rattle.rs_bind_query.specs.Denials.{select_tests}
 use Rattle.rs_scope.specs.Denials.{first_denial}
 use Rattle.rs_scope.specs.declared.heading.Heading.{Heading}
 use Rattle.rs_scope.specs.declared.scope.Param.{Param}

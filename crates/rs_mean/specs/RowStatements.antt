@@ -14,7 +14,8 @@ use Rattle.rs_ast.specs.declared.stmt.Dml.{Dml}
 use Rattle.rs_ast.specs.declared.stmt.Dml.TheVariants as dmls
 use Rattle.rs_plan.specs.declared.bound.Bound.{Bound}
 use Rattle.rs_plan.specs.declared.bound.Bound.TheVariants as bounds
-use Rattle.rs_bind.specs.Binding.{select_bound, insert_bound, update_bound, delete_bound}
+use Rattle.rs_bind_query.specs.Binding.{select_bound}
+use Rattle.rs_bind_change.specs.Binding.{insert_bound, update_bound, delete_bound}
 use Rattle.rs_scope.specs.Denials.{Test, first_denial}
 use Rattle.rs_scope.specs.declared.heading.Heading.{Heading}
 use Rattle.rs_join.specs.Selected.{selected}

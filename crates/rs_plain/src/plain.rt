@@ -11,7 +11,9 @@ ghost use Rattle.rs_mean.specs.RowStatements as statements;
 
 use rs_ast::{Clause, ColDefs, Columns, Dml, Select, Set, TableRef, TermRow};
 use rs_base::{Answer, Denial, Ident, NoMemory, Rows, SiteNo, Swn, with_room};
-use rs_bind::{bind_delete, bind_insert, bind_select, bind_update, column_defs};
+use rs_bind::column_defs;
+use rs_bind_change::{bind_delete, bind_insert, bind_update};
+use rs_bind_query::bind_select;
 use rs_eval::{inserted, matching_count, updated};
 use rs_join::selected;
 use rs_plan::{Bound, Swns};

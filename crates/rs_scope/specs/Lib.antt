@@ -1,4 +1,5 @@
 pub mod DenialOf
 pub mod Denials
+pub mod Outcome
 pub mod Predicates
 pub mod Scope

@@ -1,6 +1,0 @@
-use Rattle.std.proofs.Common.{◌≡◌, map, take}
-use Rattle.rs_bind.specs.Binding.{bound_term}
-use Rattle.rs_bind.proofs.terms.bound_terms.Given as goal
-
-abbrev pub invariant-loop-term : goal.invariant-loop-term
-invariant-loop-term l = l.bound ≡ map (bound_term l.scope l.params) (take l.term-index l.row)
