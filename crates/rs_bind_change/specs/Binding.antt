@@ -1,5 +1,5 @@
 -- A change with column indexes for names and positions for parameters. It is meant for one that isn't denied.
-use Rattle.std.specs.Prelude.{◌-◌, List, map, option_map, Result}
+use Rattle.std.specs.Prelude.{List, map, option_map, Result}
 use Rattle.rs_base.specs.declared.reply.Denial.{Denial}
 use Rattle.rs_ast.specs.declared.bound.BoundSet.{BoundSet}
 use Rattle.rs_ast.specs.declared.bound.BoundTerm.{BoundTerm}
