@@ -8,7 +8,7 @@ use Rattle.rs_mean.specs.declared.change.Change.TheVariants as changes
 use Rattle.rs_mean.specs.declared.synonym.Synonym.{Synonym}
 use Rattle.rs_mean.specs.Changes.{changed}
 use Rattle.rs_mean.specs.Database.{Database, synonym_cmp, target_of, AreSynonymsInOrder}
-use Rattle.rs_mean.proofs.Entries.{apart, lookup_beside, lookup_left, left_in_order, keys_stay_sorted}
+use Rattle.law_map.proofs.Entries.{apart, lookup_beside, lookup_left, left_in_order, keys_stay_sorted}
 use Rattle.law_mean.proofs.LawTables.{IsOfTables, synonyms_stay_at}
 use Rattle.rs_mean.proofs.Orders.{synonym_total, synonym_exact}
 

@@ -9,7 +9,7 @@ use Rattle.rs_mean.specs.declared.change.Change.TheVariants as changes
 use Rattle.rs_mean.specs.declared.table.Table.{Table}
 use Rattle.rs_mean.specs.Changes.{changed, with_rows}
 use Rattle.rs_mean.specs.Database.{Database, table_named, without_table, changing, with_changed, IsInOrder}
-use Rattle.rs_mean.proofs.Entries.{apart, lookup_put, lookup_beside, keys_stay_sorted, left_in_order, lookup_left, lookup_gone}
+use Rattle.law_map.proofs.Entries.{apart, lookup_put, lookup_beside, keys_stay_sorted, left_in_order, lookup_left, lookup_gone}
 use Rattle.rs_mean.proofs.Orders.{name_total, name_exact}
 
 ---- the number of sites

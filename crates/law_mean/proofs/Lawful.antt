@@ -26,7 +26,7 @@ use Rattle.rs_mean.specs.Names.{name_of, own_synonym}
 use Rattle.rs_eval.specs.RowChanges.{other_rows, matching_count}
 use Rattle.rs_mean.specs.RowStatements.{rows_of}
 use Rattle.rs_mean.specs.TableStatements.{new_table, columns_of, indexes_of, column_index, has_index, is_indexed, new_index, without_index}
-use Rattle.rs_mean.proofs.Entries.{lookup_put, lookup_gone}
+use Rattle.law_map.proofs.Entries.{lookup_put, lookup_gone}
 use Rattle.law_mean.proofs.LawEffects.{holds_of_change}
 use Rattle.law_mean.proofs.LawIndexes.{name_at, none_of_name}
 use Rattle.law_mean.proofs.LawKept.{Keeps, each_changed, all_differ}

@@ -11,7 +11,7 @@ use Rattle.rs_base.specs.Name.{name_cmp}
 use Rattle.rs_mean.specs.declared.table.Table.{Table}
 use Rattle.rs_mean.specs.Database.{Database, table_named, changing, with_changed}
 use Rattle.rs_mean.proofs.Orders.{name_total}
-use Rattle.rs_mean.proofs.Entries.{set_value_is_insert_entry}
+use Rattle.law_map.proofs.Entries.{set_value_is_insert_entry}
 
 module _ (name : Swn) (db : Database) (table : Table) (up : IsStrictlySortedBy name_cmp (keys_of db.tables)) (found : table_named name db ≡ Some table) where
   -- the changed table in the place of the one that was found

@@ -10,12 +10,12 @@ use Rattle.rs_msg.specs.declared.message.Ask.{Ask}
 use Rattle.rs_site.specs.declared.outs.Outs.{Outs}
 use Rattle.rs_site.specs.Asking.{reply_with, no_request, executed, last_number, origin_of, on_first}
 use Rattle.rs_site.specs.Laws.{KeptReplyIsRepeated, IsAcceptedAs, NextIsAccepted}
-use Rattle.rs_site.specs.Sessions.{session_of, last_is_answered}
+use Rattle.rs_session.specs.Sessions.{session_of, last_is_answered}
 use Rattle.rs_site.specs.State.{SiteState}
 use Rattle.rs_site.specs.Truth.{IsTrueReply}
 use Rattle.rs_site.proofs.Asked.{Asked, Refused, RepliedAgain, Silent, NoRequest, Spent, Executed, IsRefusal, asked}
 use Rattle.rs_site.proofs.FirstPart.{step_of_first}
-use Rattle.rs_site.proofs.PutSessions.{session_put}
+use Rattle.rs_session.proofs.PutSessions.{session_put}
 
 clash : (b : Bool) → b ≡ true → b ≡ false → ⊥
 clash b one other = cc

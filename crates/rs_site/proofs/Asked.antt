@@ -9,12 +9,13 @@ use Rattle.rs_base.specs.declared.reply.Reply.TheVariants as replies
 use Rattle.rs_print.specs.Replies.{printed_origin, printed_class}
 use Rattle.rs_mean.specs.declared.built.Stmt.{Stmt}
 use Rattle.rs_site.specs.Statement.{statement_of}
-use Rattle.rs_site.specs.declared.session.Session.{Session}
+use Rattle.rs_session.specs.declared.session.Session.{Session}
 use Rattle.rs_site.specs.declared.outs.Outs.{Outs}
-use Rattle.rs_site.specs.Sessions.{session_of, last_is_answered}
+use Rattle.rs_session.specs.Sessions.{session_of, last_is_answered}
 use Rattle.rs_site.specs.State.{SiteState}
 use Rattle.rs_site.specs.Truth.{IsTrueReply}
-use Rattle.rs_site.specs.Asking.{no_output, reply_with, has_part, repeated, executed, last_number, accepted_as, accepted, refused, by_number, on_first}
+use Rattle.rs_site.specs.Asking.{no_output, reply_with, repeated, executed, last_number, accepted_as, accepted, refused, by_number, on_first}
+use Rattle.rs_session.specs.Parts.{has_part}
 
 -- the reply refuses a request
 abbrev pub IsRefusal : Reply → Type 0

@@ -10,13 +10,13 @@ use Rattle.rs_msg.specs.declared.message.Message.TheVariants as messages
 use Rattle.rs_msg.specs.Reader.{message_of}
 use Rattle.rs_site.specs.declared.input.Input.TheVariants as inputs
 use Rattle.rs_site.specs.declared.outs.Decided.{Decided}
-use Rattle.rs_site.specs.declared.session.Session.{Session}
+use Rattle.rs_session.specs.declared.session.Session.{Session}
 use Rattle.rs_site.specs.Asking.{no_output, repeated, remembering, accepted, refused, by_number, origin_of, on_first, on_further, on_ask}
 use Rattle.rs_site.specs.Laws.{last_of, IsNextCommit, NumbersRise, CommitsAreMeaning}
-use Rattle.rs_site.specs.Sessions.{session_of, last_is_answered}
+use Rattle.rs_session.specs.Sessions.{session_of, last_is_answered}
 use Rattle.rs_site.specs.State.{SiteState, next_txn}
 use Rattle.rs_site.specs.Step.{most_bytes, on_read, site_step}
-use Rattle.rs_site.proofs.PutSessions.{session_put, session_beside, user_is}
+use Rattle.rs_session.proofs.PutSessions.{session_put, session_beside, user_is}
 use Rattle.rs_site.proofs.Sorts.{Step, Stays, IsNext, Kind, step_kind, by_test, again_stays, further_stays}
 
 last_rises : (site : SiteState) (origin : Origin) (reply : Reply) (user : List ℕ) → IsNext site origin → last_of user site ≤ last_of user (remembering site origin reply)

@@ -1,10 +1,7 @@
 pub mod Said
 pub mod Asked
-pub mod Books
-pub mod Divided
 pub mod FirstPart
 pub mod Lawful
-pub mod PutSessions
 pub mod NoOutput
 pub mod Sorts
 pub mod Acceptance

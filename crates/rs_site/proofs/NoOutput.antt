@@ -15,9 +15,10 @@ use Rattle.rs_msg.specs.Reader.{message_of}
 use Rattle.rs_site.specs.declared.input.Input.{Input}
 use Rattle.rs_site.specs.declared.input.Input.TheVariants as inputs
 use Rattle.rs_site.specs.declared.outs.Outs.{Outs}
-use Rattle.rs_site.specs.Asking.{no_outs, no_output, reply_with, has_part, repeated, origin_of, on_first, on_further, on_ask}
+use Rattle.rs_site.specs.Asking.{no_outs, no_output, reply_with, repeated, origin_of, on_first, on_further, on_ask}
+use Rattle.rs_session.specs.Parts.{has_part}
 use Rattle.rs_site.specs.Dropped.{HasFurther, FitsNoRule, IsDropped}
-use Rattle.rs_site.specs.Sessions.{session_of}
+use Rattle.rs_session.specs.Sessions.{session_of}
 use Rattle.rs_site.specs.State.{SiteState}
 use Rattle.rs_site.specs.Step.{most_bytes, on_message, on_read, on_datagram, site_step}
 

@@ -15,9 +15,10 @@ use Rattle.rs_site.specs.Statement.{statement_of, offset_replied}
 use Rattle.rs_site.specs.declared.input.Input.{Input}
 use Rattle.rs_site.specs.declared.input.Input.TheVariants as inputs
 use Rattle.rs_site.specs.declared.outs.Outs.{Outs}
-use Rattle.rs_site.specs.declared.session.Session.{Session}
-use Rattle.rs_site.specs.Asking.{no_output, reply_with, has_part, repeated, no_request, executed, last_number, accepted_as, accepted, refused, by_number, origin_of, on_first, on_further, on_ask}
-use Rattle.rs_site.specs.Sessions.{session_of, last_is_answered}
+use Rattle.rs_session.specs.declared.session.Session.{Session}
+use Rattle.rs_site.specs.Asking.{no_output, reply_with, repeated, no_request, executed, last_number, accepted_as, accepted, refused, by_number, origin_of, on_first, on_further, on_ask}
+use Rattle.rs_session.specs.Parts.{has_part}
+use Rattle.rs_session.specs.Sessions.{session_of, last_is_answered}
 use Rattle.rs_site.specs.State.{SiteState}
 use Rattle.rs_site.specs.Step.{most_bytes, on_read, on_datagram, site_step}
 

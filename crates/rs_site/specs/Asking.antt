@@ -1,20 +1,20 @@
 -- A site's handling of an ask.
-use Rattle.std.specs.Prelude.{ℕ, ◌+◌, ◌*◌, Bool, ◌&&◌, ◌==◌, nat_lt, List, [], ◌∷◌, length, Option, Some, None, Ok, Err, if◌then◌else◌}
+use Rattle.std.specs.Prelude.{ℕ, ◌+◌, ◌&&◌, ◌==◌, nat_lt, List, [], ◌∷◌, Option, Some, None, Ok, Err, if◌then◌else◌}
 use Rattle.rs_base.specs.declared.peer.Peer.{Peer}
 use Rattle.rs_base.specs.declared.txn.Txn.{Txn}
 use Rattle.rs_base.specs.declared.txn.Origin.{Origin}
 use Rattle.rs_base.specs.declared.reply.Reply.{Reply}
 use Rattle.rs_base.specs.declared.reply.Reply.TheVariants as replies
-use Rattle.rs_print.specs.Replies.{printed_reply}
 use Rattle.rs_mean.specs.declared.built.Stmt.{Stmt}
 use Rattle.rs_site.specs.Statement.{statement_of, offset_replied}
 use Rattle.rs_mean.specs.declared.execution.Execution.{Execution}
 use Rattle.rs_mean.specs.Meaning.{Outcome, meaning}
 use Rattle.rs_msg.specs.declared.message.Ask.{Ask}
-use Rattle.rs_site.specs.declared.session.Session.{Session}
+use Rattle.rs_session.specs.declared.session.Session.{Session}
 use Rattle.rs_site.specs.declared.outs.Outs.{Outs}
-use Rattle.rs_site.specs.Sessions.{session_of, with_session, last_is_answered}
+use Rattle.rs_session.specs.Sessions.{session_of, with_session, last_is_answered}
 use Rattle.rs_site.specs.State.{SiteState, next_txn}
+use Rattle.rs_session.specs.Parts.{has_part}
 
 ---- output of a step
 
@@ -28,14 +28,6 @@ no_output site = (site, no_outs)
 -- one part of a reply is sent to a peer
 abbrev pub reply_with : Peer → Origin → ℕ → Reply → Outs
 reply_with to origin part reply = record { sends = []; replies = (record { to = to; origin = origin; part = part; reply = reply }) ∷ []; decided = [] }
-
--- the size of each part of a reply but the last, in bytes
-abbrev pub part_size : ℕ
-part_size = 30000
-
--- the printed reply has this part, counted from 0
-abbrev pub has_part : Origin → Reply → ℕ → Bool
-has_part origin reply part = nat_lt (part * part_size) (length (printed_reply origin reply))
 
 -- the stored reply is sent again, if there is one, and it has this part
 abbrev pub repeated : SiteState → Peer → Origin → ℕ → Option Reply → SiteState × Outs

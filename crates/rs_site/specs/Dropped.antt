@@ -5,8 +5,9 @@ use Rattle.rs_msg.specs.declared.message.Ask.{Ask}
 use Rattle.rs_msg.specs.declared.message.Message.{Message}
 use Rattle.rs_msg.specs.declared.message.Message.TheVariants as messages
 use Rattle.rs_msg.specs.Message.{IsMessage}
-use Rattle.rs_site.specs.Asking.{has_part, origin_of}
-use Rattle.rs_site.specs.Sessions.{session_of}
+use Rattle.rs_site.specs.Asking.{origin_of}
+use Rattle.rs_session.specs.Parts.{has_part}
+use Rattle.rs_session.specs.Sessions.{session_of}
 use Rattle.rs_site.specs.State.{SiteState}
 use Rattle.rs_site.specs.Step.{most_bytes}
 

@@ -14,7 +14,7 @@ use Rattle.rs_site.specs.declared.input.Input.TheVariants as inputs
 use Rattle.rs_site.specs.declared.outs.Decided.{Decided}
 use Rattle.rs_site.specs.declared.outs.Outs.{Outs}
 use Rattle.rs_site.specs.Asking.{execution_of, last_number, origin_of, reply_of, reply_with}
-use Rattle.rs_site.specs.Sessions.{session_of, last_is_answered}
+use Rattle.rs_session.specs.Sessions.{session_of, last_is_answered}
 use Rattle.rs_site.specs.State.{SiteState, next_txn}
 use Rattle.rs_site.specs.Step.{site_step}
 

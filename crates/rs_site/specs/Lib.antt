@@ -1,9 +1,6 @@
 pub mod Asking
 pub mod Dropped
 pub mod Laws
-pub mod PartLaws
-pub mod Parts
-pub mod Sessions
 pub mod State
 pub mod Statement
 pub mod Step

@@ -2,7 +2,7 @@
 use Rattle.std.specs.Prelude.{ℕ, ◌+◌}
 use Rattle.rs_base.specs.declared.txn.Txn.{Txn}
 use Rattle.rs_mean.specs.Database.{Database, empty}
-use Rattle.rs_site.specs.Sessions.{Book, all_fresh}
+use Rattle.rs_session.specs.Sessions.{Book, all_fresh}
 
 -- its number, the number of sites, its epoch, the number of transactions begun in this epoch, its users' sessions,
 -- and its database

@@ -3,8 +3,8 @@ use Rattle.std.specs.Prelude.{◌≡◌, ◌≢◌, ℕ, ◌+◌, ◌<◌, IsFal
 use Rattle.rs_base.specs.declared.txn.Origin.{Origin}
 use Rattle.rs_base.specs.declared.reply.Reply.{Reply}
 use Rattle.rs_base.specs.declared.reply.Reply.TheVariants as replies
-use Rattle.rs_site.specs.declared.session.Session.{Session}
-use Rattle.rs_site.specs.Sessions.{session_of, last_is_answered}
+use Rattle.rs_session.specs.declared.session.Session.{Session}
+use Rattle.rs_session.specs.Sessions.{session_of, last_is_answered}
 use Rattle.rs_site.specs.State.{SiteState}
 
 -- the number is above the next one, or is the next one while the last request has no reply

@@ -7,11 +7,11 @@ ghost use Rattle.rs_site.specs.State.{next_txn};
 ghost use Rattle.rs_site.specs.Statement.{statement_of, offset_replied};
 
 use crate::outs::{Decided, Outs, commits, no_outs, reply_with};
-use crate::session::Session;
 use crate::site::Site;
 use rs_base::{Bytes, NoMemory, Origin, Peer, Reply, Txn};
 use rs_mean::{Change, Effect, Execution, Outcome, Stmt};
 use rs_parse::{ParseFault, parse};
+use rs_session::Session;
 use std::alloc::Global;
 
 /// Returns the reply that reports an outcome.

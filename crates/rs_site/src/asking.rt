@@ -2,7 +2,7 @@
 
 ghost use Rattle.std.specs.Prelude.{◌≡◌, ◌+◌, ◌<◌, ◌&&◌, ◌==◌, IfOk, OnErr};
 ghost use Rattle.rs_site.specs.Asking as spec;
-ghost use Rattle.rs_site.specs.Sessions.{session_of, last_is_answered};
+ghost use Rattle.rs_session.specs.Sessions.{session_of, last_is_answered};
 
 use crate::outs::{Outs, no_outs, reply_with};
 use crate::site::Site;

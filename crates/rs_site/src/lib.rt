@@ -6,10 +6,7 @@ mod asking;
 mod input;
 mod laws;
 mod outs;
-mod part;
-mod part_laws;
-mod reply_part;
-mod session;
+mod repeating;
 mod site;
 mod step;
 
@@ -18,7 +15,6 @@ pub use laws::{
     commits_are_meaning, kept_reply_is_repeated, next_is_accepted, numbers_rise,
     repeats_run_nothing,
 };
-pub use outs::{Decided, Decideds, Outs, Told, Tolds};
-pub use part_laws::{has_each_part, part_fits, part_is_within, parts_are_text};
-pub use session::{Session, Sessions};
+pub use outs::{Decided, Decideds, Outs};
+pub use rs_session::{Told, Tolds};
 pub use site::Site;

@@ -4,19 +4,9 @@ ghost use Rattle.std.specs.Prelude.{◌≡◌, [], ◌∷◌, IfOk};
 ghost use Rattle.rs_site.specs.Asking as spec;
 
 use rs_base::{Bytes, Datagrams, NoMemory, Origin, Peer, Reply, Txn, one_item};
+use rs_session::{Told, Tolds};
 use sqlite_items::Items;
 use std::alloc::Global;
-
-/// One part of a printed reply to a peer: the request, the part's number, counted from 0, and the reply.
-#[derive(Drop)]
-pub struct Told {
-    pub to: Peer,
-    pub origin: Origin,
-    pub part: u32,
-    pub reply: Reply,
-}
-
-pub type Tolds = Items<Told>;
 
 /// A committed execution: its transaction, its request, and the request's text.
 #[derive(Drop)]

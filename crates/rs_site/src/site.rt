@@ -3,9 +3,9 @@
 ghost use Rattle.std.specs.Prelude.{◌≡◌, IfOk};
 ghost use Rattle.rs_site.specs.State.{opened};
 
-use crate::session::Sessions;
 use rs_base::{NoMemory, SiteNo};
 use rs_mean::Database;
+use rs_session::Sessions;
 use std::alloc::Global;
 use std::marker::Model;
 

@@ -16,7 +16,7 @@ use Rattle.rs_sched.specs.Schedule.{IsValid, IsLater, AreLater}
 use Rattle.rs_site.specs.declared.outs.Outs.{Outs}
 use Rattle.rs_site.specs.declared.outs.Decided.{Decided}
 use Rattle.rs_site.specs.Asking.{last_number, on_first}
-use Rattle.rs_site.specs.Sessions.{session_of}
+use Rattle.rs_session.specs.Sessions.{session_of}
 use Rattle.rs_site.specs.State.{SiteState, next_txn}
 use Rattle.rs_site.proofs.Asked.{Asked, Refused, RepliedAgain, Silent, NoRequest, Spent, Executed, asked}
 use Rattle.rs_site.proofs.Acceptance.{Acceptance, NotRead, Read, accepted}

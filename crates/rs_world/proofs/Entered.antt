@@ -12,12 +12,12 @@ use Rattle.rs_site.specs.Statement.{statement_of}
 use Rattle.rs_mean.specs.Database.{Database, empty, IsInOrder}
 use Rattle.rs_mean.specs.Meaning.{Outcome, meaning}
 use Rattle.rs_sched.specs.declared.event.Event.{Event}
-use Rattle.rs_site.specs.declared.session.Session.{Session}
+use Rattle.rs_session.specs.declared.session.Session.{Session}
 use Rattle.rs_site.specs.declared.outs.Decided.{Decided}
 use Rattle.rs_site.specs.Asking.{execution_of, reply_of, remembering}
-use Rattle.rs_site.specs.Sessions.{Book, session_of, with_session}
+use Rattle.rs_session.specs.Sessions.{Book, session_of, with_session}
 use Rattle.rs_site.specs.State.{SiteState, opened, next_txn}
-use Rattle.rs_site.proofs.PutSessions.{session_put, session_beside, user_is}
+use Rattle.rs_session.proofs.PutSessions.{session_put, session_beside, user_is}
 use Rattle.rs_world.specs.declared.report.Given.{Given}
 use Rattle.rs_world.specs.Explains.{IsCommitted, IsMeaningAt}
 use Rattle.rs_world.specs.History.{effect_of, effect, database_of, outcome_after}

@@ -5,12 +5,12 @@ use Rattle.rs_base.specs.declared.txn.Origin.{Origin}
 use Rattle.rs_base.specs.declared.reply.Reply.{Reply}
 use Rattle.rs_base.specs.declared.reply.Reply.TheVariants as replies
 use Rattle.rs_sched.specs.declared.event.Event.{Event}
-use Rattle.rs_site.specs.declared.session.Session.{Session}
+use Rattle.rs_session.specs.declared.session.Session.{Session}
 use Rattle.rs_site.specs.declared.outs.Decided.{Decided}
-use Rattle.rs_site.specs.Sessions.{Book, session_of, with_session}
+use Rattle.rs_session.specs.Sessions.{Book, session_of, with_session}
 use Rattle.rs_site.specs.State.{SiteState}
 use Rattle.rs_site.proofs.Asked.{IsNext}
-use Rattle.rs_site.proofs.PutSessions.{session_put, session_beside, user_is}
+use Rattle.rs_session.proofs.PutSessions.{session_put, session_beside, user_is}
 use Rattle.rs_world.specs.declared.report.Given.{Given}
 use Rattle.rs_world.specs.Explains.{IsFinal, IsCommitted, IsGivenTruly, IsNoRequest}
 use Rattle.rs_world.proofs.Gets.{get_push}

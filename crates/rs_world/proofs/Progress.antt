@@ -10,14 +10,14 @@ use Rattle.rs_base.specs.declared.peer.Peer.TheVariants as peers
 use Rattle.rs_base.specs.declared.txn.Origin.{Origin}
 use Rattle.rs_base.specs.declared.reply.Reply.{Reply}
 use Rattle.rs_sched.specs.declared.event.Event.{Event}
-use Rattle.rs_site.specs.declared.session.Session.{Session}
+use Rattle.rs_session.specs.declared.session.Session.{Session}
 use Rattle.rs_site.specs.declared.outs.Outs.{Outs}
 use Rattle.rs_site.specs.declared.outs.Decided.{Decided}
 use Rattle.rs_site.specs.Asking.{last_number, on_first, remembering}
-use Rattle.rs_site.specs.Sessions.{Book, session_of, is_there, last_is_answered}
+use Rattle.rs_session.specs.Sessions.{Book, session_of, is_there, last_is_answered}
 use Rattle.rs_site.specs.State.{SiteState}
 use Rattle.rs_site.proofs.Asked.{Asked, Refused, RepliedAgain, Silent, NoRequest, Spent, Executed, asked}
-use Rattle.rs_site.proofs.PutSessions.{session_put, session_beside, user_is}
+use Rattle.rs_session.proofs.PutSessions.{session_put, session_beside, user_is}
 use Rattle.rs_world.specs.declared.report.Given.{Given}
 use Rattle.rs_world.specs.declared.world.Datagram.{Datagram}
 use Rattle.rs_world.specs.declared.world.World.{World}

@@ -13,7 +13,7 @@ use Rattle.rs_mean.specs.Meaning.{Outcome, meaning}
 use Rattle.rs_sched.specs.declared.event.Event.{Event}
 use Rattle.rs_site.specs.declared.outs.Decided.{Decided}
 use Rattle.rs_site.specs.declared.outs.Outs.{Outs}
-use Rattle.rs_site.specs.Sessions.{session_of}
+use Rattle.rs_session.specs.Sessions.{session_of}
 use Rattle.rs_site.specs.State.{SiteState, next_txn}
 use Rattle.rs_site.specs.Asking.{reply_of, execution_of, executed, remembering}
 use Rattle.rs_site.specs.Truth.{IsTrueReply}

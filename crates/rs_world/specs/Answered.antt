@@ -11,7 +11,7 @@ use Rattle.rs_sched.specs.declared.event.Event.{Event}
 use Rattle.rs_sched.specs.declared.event.Event.TheVariants as events
 use Rattle.rs_site.specs.declared.outs.Decided.{Decided}
 use Rattle.rs_site.specs.Asking.{last_number}
-use Rattle.rs_site.specs.Sessions.{session_of}
+use Rattle.rs_session.specs.Sessions.{session_of}
 use Rattle.rs_site.specs.State.{SiteState}
 use Rattle.rs_world.specs.declared.report.Given.{Given}
 use Rattle.rs_world.specs.declared.report.Report.{Report}

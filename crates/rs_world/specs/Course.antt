@@ -11,7 +11,7 @@ use Rattle.rs_msg.specs.Written.{message_bytes}
 use Rattle.rs_site.specs.declared.input.Input.{Input}
 use Rattle.rs_site.specs.declared.input.Input.TheVariants as inputs
 use Rattle.rs_site.specs.declared.outs.Outs.{Outs}
-use Rattle.rs_site.specs.declared.outs.Told.{Told}
+use Rattle.rs_session.specs.declared.told.Told.{Told}
 use Rattle.rs_site.specs.State.{SiteState, opened}
 use Rattle.rs_site.specs.Step.{site_step}
 use Rattle.rs_sched.specs.declared.event.Event.{Event}

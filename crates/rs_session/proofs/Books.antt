@@ -7,9 +7,9 @@ use Rattle.std.specs.Map.{lookup, set_value, remove_entry}
 use Rattle.std.specs.Ordering.{match_ordering, nat_cmp}
 use Rattle.std.proofs.lemmas.Cmp.{tied_itself}
 use Rattle.std.proofs.lemmas.Map.Steps.{set_value_same}
-use Rattle.rs_mean.proofs.Entries.{set_value_is_insert_entry}
-use Rattle.rs_site.specs.declared.session.Session.{Session}
-use Rattle.rs_site.specs.Sessions.{Book, IsInOrder, kept_of, with_session}
+use Rattle.law_map.proofs.Entries.{set_value_is_insert_entry}
+use Rattle.rs_session.specs.declared.session.Session.{Session}
+use Rattle.rs_session.specs.Sessions.{Book, IsInOrder, kept_of, with_session}
 
 -- the last of two values written under one key stays
 written_twice : {K X : Type 0} (test : K → Bool) (v w : X) (es : List (K × X)) → set_value test (set_value test es v) w ≡ set_value test es w

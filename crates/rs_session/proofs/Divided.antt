@@ -14,9 +14,9 @@ use Rattle.rs_msg.proofs.Sizes.{reply_fits}
 use Rattle.rs_msg.specs.declared.message.Message.{Message}
 use Rattle.rs_msg.specs.Limits.{IsOriginWithin, IsWithin}
 use Rattle.rs_msg.specs.Written.{message_bytes}
-use Rattle.rs_site.specs.Asking.{has_part, part_size}
-use Rattle.rs_site.specs.PartLaws.{HasEachPart, PartFits, PartIsWithin, PartsAreText}
-use Rattle.rs_site.specs.Parts.{parts_of, parts_limit, part_bytes, part_message, reply_text}
+use Rattle.rs_session.specs.Parts.{has_part, part_size}
+use Rattle.rs_session.specs.PartLaws.{HasEachPart, PartFits, PartIsWithin, PartsAreText}
+use Rattle.rs_session.specs.Parts.{parts_of, parts_limit, part_bytes, part_message, reply_text}
 
 -- ---- the parts, one after the other
 

@@ -1,11 +1,11 @@
 //! The message that carries one part of a printed reply to a peer.
 
 ghost use Rattle.std.specs.Prelude.{◌≡◌, ◌*◌, ◌<◌, IfOk, length, take};
-ghost use Rattle.rs_site.specs.Asking.{part_size};
-ghost use Rattle.rs_site.specs.Parts as spec;
+ghost use Rattle.rs_session.specs.Parts as spec;
+ghost use Rattle.rs_session.specs.Parts.{part_size};
 
-use crate::outs::Told;
 use crate::part::PART_SIZE;
+use crate::told::Told;
 use rs_base::{Bytes, NoMemory, Origin};
 use rs_msg::{Message, ReplyPart};
 use rs_print::print_reply;

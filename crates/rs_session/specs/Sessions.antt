@@ -6,7 +6,7 @@ use Rattle.std.specs.List.Sorted.{IsStrictlySortedBy}
 use Rattle.std.specs.Map.{keys_of, lookup}
 use Rattle.std.specs.Ordering.{nat_cmp}
 use Rattle.rs_base.specs.declared.reply.Reply.{Reply}
-use Rattle.rs_site.specs.declared.session.Session.{Session}
+use Rattle.rs_session.specs.declared.session.Session.{Session}
 
 -- the sessions of the users whose requests were accepted, sorted by user
 abbrev pub Book : Type 0

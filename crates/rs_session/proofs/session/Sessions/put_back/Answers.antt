@@ -1,9 +1,9 @@
 use Rattle.std.proofs.Common.{◌≡◌, Some, None, ap, ◌∙◌}
 use Rattle.std.specs.Cmp.Lexicographic.{nat_list_cmp_total}
-use Rattle.rs_mean.proofs.Entries.{lookup_put}
-use Rattle.rs_site.specs.Sessions.{kept_of}
-use Rattle.rs_site.proofs.Books.{taken_out, written_back}
-use Rattle.rs_site.proofs.session.Sessions.put_back.Goals as goal
+use Rattle.law_map.proofs.Entries.{lookup_put}
+use Rattle.rs_session.specs.Sessions.{kept_of}
+use Rattle.rs_session.proofs.Books.{taken_out, written_back}
+use Rattle.rs_session.proofs.session.Sessions.put_back.Goals as goal
 
 pub returns-in-Some : goal.returns-in-Some
 returns-in-Some c = λ book session up put before.

@@ -7,9 +7,9 @@ use Rattle.rs_print.specs.Replies.{printed_reply}
 use Rattle.rs_msg.specs.declared.message.Message.{Message}
 use Rattle.rs_msg.specs.Limits.{IsOriginWithin, IsWithin}
 use Rattle.rs_msg.specs.Written.{message_bytes}
-use Rattle.rs_site.specs.declared.outs.Told.{Told}
-use Rattle.rs_site.specs.Asking.{has_part}
-use Rattle.rs_site.specs.Parts.{parts_of, part_bytes, message_of_part}
+use Rattle.rs_session.specs.declared.told.Told.{Told}
+use Rattle.rs_session.specs.Parts.{has_part}
+use Rattle.rs_session.specs.Parts.{parts_of, part_bytes, message_of_part}
 
 -- the parts of a text, one after the other, are the text
 abbrev pub PartsAreText : Type 0

@@ -4,9 +4,9 @@ use Rattle.std.specs.Prelude.{bytes_eq}
 use Rattle.std.proofs.lemmas.Cmp.{nat_list_cmp_total}
 use Rattle.std.proofs.lemmas.Map.Lookups.{exact_bytes}
 use Rattle.std.proofs.lemmas.Slice.Eq.{bytes_eq-Decides}
-use Rattle.rs_mean.proofs.Entries.{apart, lookup_put, lookup_beside}
-use Rattle.rs_site.specs.declared.session.Session.{Session}
-use Rattle.rs_site.specs.Sessions.{Book, session_of, with_session}
+use Rattle.law_map.proofs.Entries.{apart, lookup_put, lookup_beside}
+use Rattle.rs_session.specs.declared.session.Session.{Session}
+use Rattle.rs_session.specs.Sessions.{Book, session_of, with_session}
 
 -- the user has the stored session
 pub session_put : (user : List ℕ) (session : Session) (book : Book) → session_of user (with_session user session book) ≡ session

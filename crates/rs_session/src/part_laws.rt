@@ -1,7 +1,7 @@
 //! Laws of the parts of texts, and of their messages. Each function here is a law: its contract states it, and its body
 //! does nothing.
 
-ghost use Rattle.rs_site.specs.PartLaws.{HasEachPart, PartFits, PartIsWithin, PartsAreText};
+ghost use Rattle.rs_session.specs.PartLaws.{HasEachPart, PartFits, PartIsWithin, PartsAreText};
 
 /// The parts of a text, one after the other, are the text.
 pub fn parts_are_text()

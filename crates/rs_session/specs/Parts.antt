@@ -1,12 +1,20 @@
 -- The parts of a text, and the message that carries one part of a printed reply to a peer.
-use Rattle.std.specs.Prelude.{ℕ, ◌*◌, ◌&&◌, nat_lt, List, length, take, drop, Option, Some, None, if◌then◌else◌}
+use Rattle.std.specs.Prelude.{ℕ, ◌*◌, Bool, ◌&&◌, nat_lt, List, length, take, drop, Option, Some, None, if◌then◌else◌}
 use Rattle.std.specs.Int.{div_ceil}
 use Rattle.rs_base.specs.declared.txn.Origin.{Origin}
+use Rattle.rs_base.specs.declared.reply.Reply.{Reply}
 use Rattle.rs_print.specs.Replies.{printed_reply}
 use Rattle.rs_msg.specs.declared.message.Message.{Message}
 use Rattle.rs_msg.specs.declared.message.Message.TheVariants as messages
-use Rattle.rs_site.specs.declared.outs.Told.{Told}
-use Rattle.rs_site.specs.Asking.{has_part, part_size}
+use Rattle.rs_session.specs.declared.told.Told.{Told}
+
+-- the size of each part of a reply but the last, in bytes
+abbrev pub part_size : ℕ
+part_size = 30000
+
+-- the printed reply has this part, counted from 0
+abbrev pub has_part : Origin → Reply → ℕ → Bool
+has_part origin reply part = nat_lt (part * part_size) (length (printed_reply origin reply))
 
 -- the number of parts of a text: one for each 30,000 bytes, the last may be short
 abbrev pub parts_of : List ℕ → ℕ

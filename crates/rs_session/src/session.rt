@@ -6,8 +6,8 @@ ghost use Rattle.std.specs.Cmp.Lexicographic.{slice_cmp};
 ghost use Rattle.std.specs.Map.{set_value, remove_entry};
 ghost use Rattle.std.specs.Option.{option_copied};
 ghost use Rattle.std.specs.Ordering.{nat_cmp};
-ghost use Rattle.rs_site.specs.declared.session.Session.{Session};
-ghost use Rattle.rs_site.specs.Sessions as spec;
+ghost use Rattle.rs_session.specs.declared.session.Session.{Session};
+ghost use Rattle.rs_session.specs.Sessions as spec;
 
 use rs_base::{Ident, NoMemory, Reply};
 use std::alloc::Global;
@@ -28,7 +28,7 @@ pub struct Sessions {
 }
 
 impl Model for Sessions {
-    ghost use Rattle.rs_site.specs.Sessions.{Book};
+    ghost use Rattle.rs_session.specs.Sessions.{Book};
 
     ghost Value = { Book };
 
@@ -89,7 +89,7 @@ impl Sessions {
     }
 
     /// Restores the session that was stored before the last `put`. It takes no memory.
-    pub(crate) fn put_back(&mut self, user: &Ident, before: Option<Session>)
+    pub fn put_back(&mut self, user: &Ident, before: Option<Session>)
         ensures { (book : spec.Book) (session : Session) → spec.IsInOrder book → self.old ≡ spec.with_session user.now session book → before ≡ spec.kept_of user.now book → self.new ≡ book }
     {
         match before {

@@ -1,5 +1,0 @@
-use Rattle.rs_site.proofs.Divided.{has_each_part}
-use Rattle.rs_site.proofs.part_laws.has_each_part.Goals as goal
-
-pub returns : goal.returns
-returns c = has_each_part

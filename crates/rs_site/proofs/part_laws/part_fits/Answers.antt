@@ -1,5 +1,0 @@
-use Rattle.rs_site.proofs.Divided.{part_fits}
-use Rattle.rs_site.proofs.part_laws.part_fits.Goals as goal
-
-pub returns : goal.returns
-returns c = part_fits

@@ -1,5 +1,0 @@
-use Rattle.rs_site.proofs.Divided.{part_is_within}
-use Rattle.rs_site.proofs.part_laws.part_is_within.Goals as goal
-
-pub returns : goal.returns
-returns c = part_is_within

@@ -1,0 +1,32 @@
+//! Replies that are sent again.
+
+ghost use Rattle.std.specs.Prelude.{◌≡◌, IfOk};
+ghost use Rattle.rs_site.specs.Asking as spec;
+ghost use Rattle.rs_session.specs.Sessions.{session_of};
+
+use crate::outs::{Outs, no_outs, reply_with};
+use crate::site::Site;
+use rs_base::{NoMemory, Origin, Peer};
+use rs_session::has_part;
+use std::alloc::Global;
+
+impl Site {
+    /// Sends the stored reply to the user's last request again, if there is one, and it has this part.
+    pub(crate) fn repeated(
+        &self,
+        alloc: Global,
+        from: &Peer,
+        origin: &Origin,
+        part: u32,
+    ) -> Result<Outs, NoMemory>
+        ensures { IfOk result (λ outs. spec.repeated self.now from.now origin.now part (session_of origin.now.user self.now.sessions).reply ≡ (self.now, outs)) }
+    {
+        let Some(reply) = self.sessions.reply(&origin.user) else {
+            return Ok(no_outs(alloc));
+        };
+        if !has_part(alloc, origin, reply, part)? {
+            return Ok(no_outs(alloc));
+        }
+        reply_with(alloc, from, origin, part, reply.copy(alloc)?)
+    }
+}
