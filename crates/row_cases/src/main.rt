@@ -58,8 +58,7 @@ fn check<R: Files + AllocGlobal + Print, C: Calls>(
         }
         count = count.saturating_add(1);
         let (call, wanted) = line.split_once(" -> ").unwrap_or((line, ""));
-        let difference =
-            difference(rt.alloc(), &mut calls, call, wanted).map_err(|_| AllocError)?;
+        let difference = difference(rt.alloc(), &mut calls, call, wanted).map_err(|_| AllocError)?;
         if let Some(came) = difference {
             let came = shown(came.as_slice());
             println!(rt; "{file}:{number}: {call}: wanted {wanted}, came {came:?}")?;

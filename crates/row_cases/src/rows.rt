@@ -13,12 +13,7 @@ pub struct RowCalls {
 }
 
 /// Appends the number that the row gets, or why it can't be inserted.
-fn insert(
-    alloc: Global,
-    table: &mut TableRows,
-    row: Row,
-    out: &mut Bytes,
-) -> Result<(), NoMemory> {
+fn insert(alloc: Global, table: &mut TableRows, row: Row, out: &mut Bytes) -> Result<(), NoMemory> {
     if !table.has_room() {
         return out.extend(b"full");
     }
@@ -30,12 +25,7 @@ fn insert(
 }
 
 /// Inserts this number of rows of one integer, and appends the number of rows then.
-fn fill(
-    alloc: Global,
-    table: &mut TableRows,
-    count: u64,
-    out: &mut Bytes,
-) -> Result<(), NoMemory> {
+fn fill(alloc: Global, table: &mut TableRows, count: u64, out: &mut Bytes) -> Result<(), NoMemory> {
     let mut numbers = Bytes::new(alloc);
     for _ in 0..count {
         let row = one_item(alloc, Value::Int(0))?;

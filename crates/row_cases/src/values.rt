@@ -46,11 +46,7 @@ pub fn append_row(alloc: Global, row: &[Value], out: &mut Bytes) -> Result<(), N
 }
 
 /// Appends a row, or `none`.
-pub fn append_found(
-    alloc: Global,
-    row: Option<&Row>,
-    out: &mut Bytes,
-) -> Result<(), NoMemory> {
+pub fn append_found(alloc: Global, row: Option<&Row>, out: &mut Bytes) -> Result<(), NoMemory> {
     match row {
         Some(row) => append_row(alloc, row.as_slice(), out),
         None => out.extend(b"none"),

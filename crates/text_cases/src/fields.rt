@@ -3,43 +3,45 @@
 use crate::escape::unescaped;
 use crate::words::Words;
 use case_tools::Output;
-use rs_base::NoMemory;
+use rs_base::{Bytes, NoMemory};
 use rs_codec::{Fields, put_byte, put_count, put_int, put_text, put_u32, put_u64};
 use std::alloc::Global;
 
+/// Appends the encoding of a field of this kind: a number, or this text.
+fn put_field(
+    kind: &str,
+    words: &mut Words<'_>,
+    text: &[u8],
+    out: &mut Bytes,
+) -> Result<(), NoMemory> {
+    match kind {
+        "byte" => put_byte(out, words.byte()),
+        "u32" => put_u32(out, words.small()),
+        "u64" => put_u64(out, words.number()),
+        "count" => put_count(out, words.number()),
+        "int" => put_int(out, words.integer()),
+        _ => put_text(out, text),
+    }
+}
+
 /// Appends the encoding of a field of this kind and value.
 fn put(kind: &str, value: &str, out: &mut Output) -> Result<(), NoMemory> {
-    let mut words = Words::new(value);
     let text = unescaped(out.alloc, value)?;
-    let appended = match kind {
-        "byte" => put_byte(out.target(), words.byte()),
-        "u32" => put_u32(out.target(), words.small()),
-        "u64" => put_u64(out.target(), words.number()),
-        "count" => put_count(out.target(), words.number()),
-        "int" => put_int(out.target(), words.integer()),
-        _ => put_text(out.target(), text.as_slice()),
-    };
+    let appended = put_field(kind, &mut Words::new(value), text.as_slice(), out.target());
     out.note(appended);
     Ok(())
 }
 
-/// Reports whether a field of this kind and value is read next.
-fn is_next(
-    alloc: Global,
-    kind: &str,
-    value: &str,
-    fields: &mut Fields<'_>,
-) -> Result<bool, NoMemory> {
-    let mut words = Words::new(value);
-    let text = unescaped(alloc, value)?;
-    Ok(match kind {
+/// Reports whether a field of this kind is read next: a number, or this text.
+fn is_next(kind: &str, words: &mut Words<'_>, text: &[u8], fields: &mut Fields<'_>) -> bool {
+    match kind {
         "byte" => fields.take_byte() == Some(words.byte()),
         "u32" => fields.take_u32() == Some(words.small()),
         "u64" => fields.take_u64() == Some(words.number()),
         "count" => fields.take_count() == Some(words.number()),
         "int" => fields.take_int() == Some(words.integer()),
-        _ => fields.take_text() == Some(text.as_slice()),
-    })
+        _ => fields.take_text() == Some(text),
+    }
 }
 
 /// Appends the encodings of the fields.
@@ -59,7 +61,8 @@ pub fn append_fields(items: &str, out: &mut Output) -> Result<(), NoMemory> {
     let mut fields = Fields::new(bytes.as_slice());
     for item in items.split(", ") {
         let (kind, value) = item.split_once(' ').unwrap_or((item, ""));
-        if !is_next(out.alloc, kind, value, &mut fields)? {
+        let text = unescaped(out.alloc, value)?;
+        if !is_next(kind, &mut Words::new(value), text.as_slice(), &mut fields) {
             out.text(" (read otherwise)");
         }
     }

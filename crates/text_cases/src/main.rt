@@ -45,24 +45,39 @@ impl Cases<'_> {
             "events" => schedules::append_events(input, out),
             "fields" => fields::append_fields(input, out),
             "refused" => fields::append_refused(input, out),
-            "decoded" => messages::append_decoded(input, out),
-            _ => self.append_read(&mut Words::new(input), out),
+            _ => messages::append_decoded(input, out),
         }
     }
 
     /// Appends what the calls of this kind give for what the words say.
     fn append_read(&self, words: &mut Words<'_>, out: &mut Output) -> Result<(), NoMemory> {
         match self.kind {
-            "resolved" => names::append_resolved(words, out),
-            "encoded" => messages::append_encoded(words, out)?,
-            "values" => values::append_value(words, out)?,
-            "replies" => replies::append_reply(words, out)?,
-            _ => out.text("(no such kind)"),
+            "encoded" => messages::append_encoded(words, out),
+            "values" => values::append_value(words, out),
+            "replies" => replies::append_reply(words, out),
+            _ => {
+                names::append_resolved(words, out);
+                Ok(())
+            }
         }
+    }
+
+    /// Appends what the calls of this kind give for an input, or that it is not read.
+    fn append_input(&self, input: &str, out: &mut Output) -> Result<(), NoMemory> {
+        let mut words = Words::new(input);
+        if !self.is_of_words() {
+            return self.append(input, out);
+        }
+        self.append_read(&mut words, out)?;
         if !words.are_read() {
             out.text("(a line that is not read)");
         }
         Ok(())
+    }
+
+    /// Reports whether the cases are read word by word.
+    fn is_of_words(&self) -> bool {
+        matches!(self.kind, "resolved" | "encoded" | "values" | "replies")
     }
 
     /// Checks the case of a line, and reports it if it does not hold.
@@ -80,7 +95,7 @@ impl Cases<'_> {
         expected.append(wanted_bytes.as_slice());
         let mut came = Output::new(out.alloc);
         came.text(BEFORE);
-        self.append(input, &mut came)?;
+        self.append_input(input, &mut came)?;
         if came.as_slice() != expected.as_slice() {
             report(place, number, line, came.as_slice(), out);
         }

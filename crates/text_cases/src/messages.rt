@@ -70,14 +70,19 @@ fn append_reply(reply: &ReplyPart, out: &mut Output) {
     out.append(reply.bytes.as_slice());
 }
 
-/// Appends the message that a datagram says, or `malformed`.
-pub fn append_decoded(input: &str, out: &mut Output) -> Result<(), NoMemory> {
-    let datagram = unescaped(out.alloc, input)?;
-    match decode(out.alloc, datagram.as_slice()) {
+/// Appends the message, or `malformed`.
+fn append_message(message: Result<Message, ReadFault>, out: &mut Output) {
+    match message {
         Ok(Message::Ask(ask)) => append_ask(&ask, out),
         Ok(Message::Reply(reply)) => append_reply(&reply, out),
         Err(ReadFault::Malformed) => out.text("malformed"),
-        Err(ReadFault::NoMemory) => return Err(NoMemory),
+        Err(ReadFault::NoMemory) => out.note(Err(NoMemory)),
     }
+}
+
+/// Appends the message that a datagram says, or `malformed`.
+pub fn append_decoded(input: &str, out: &mut Output) -> Result<(), NoMemory> {
+    let datagram = unescaped(out.alloc, input)?;
+    append_message(decode(out.alloc, datagram.as_slice()), out);
     Ok(())
 }

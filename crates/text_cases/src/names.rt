@@ -3,24 +3,28 @@
 use crate::escape::unescaped;
 use crate::words::Words;
 use case_tools::Output;
-use rs_base::{NameText, NoMemory};
+use rs_base::{NameText, NoMemory, Swn};
 use rs_name::{parse_swn, resolve};
+
+/// Appends the four parts of a name, or `none`.
+fn append_parts(name: Option<Swn>, out: &mut Output) {
+    let Some(name) = name else {
+        out.text("none");
+        return;
+    };
+    out.append(name.creator.as_bytes());
+    out.text(" ");
+    out.number(u64::from(name.creator_site.number()));
+    out.text(" ");
+    out.append(name.object.as_bytes());
+    out.text(" ");
+    out.number(u64::from(name.birth.number()));
+}
 
 /// Appends the four parts of the name that this text is, or `none`.
 pub fn append_name(input: &str, out: &mut Output) -> Result<(), NoMemory> {
     let text = unescaped(out.alloc, input)?;
-    match parse_swn(text.as_slice()) {
-        Some(name) => {
-            out.append(name.creator.as_bytes());
-            out.text(" ");
-            out.number(u64::from(name.creator_site.number()));
-            out.text(" ");
-            out.append(name.object.as_bytes());
-            out.text(" ");
-            out.number(u64::from(name.birth.number()));
-        }
-        None => out.text("none"),
-    }
+    append_parts(parse_swn(text.as_slice()), out);
     Ok(())
 }
 

@@ -19,20 +19,29 @@ fn order_of_two(alloc: Global, words: &mut Words<'_>) -> Result<Ordering, NoMemo
     Ok(order_of_values(&one, &other))
 }
 
-/// Appends the order of two values, names, transactions, enlistments or requests.
-pub fn append_order(words: &mut Words<'_>, out: &mut Output) -> Result<(), NoMemory> {
-    let order = match words.next() {
-        "value" => order_of_two(out.alloc, words)?,
-        "swn" => order_of_names(&words.swn(), &words.swn()),
-        "txn" => order_of_txns(&words.txn(), &words.txn()),
-        "enlist" => order_of_enlists(&words.enlist(), &words.enlist()),
-        _ => order_of_origins(&words.origin(), &words.origin()),
-    };
-    out.text(match order {
+/// Reads two values, names, transactions, enlistments or requests, and orders them.
+fn order_of(alloc: Global, words: &mut Words<'_>) -> Result<Ordering, NoMemory> {
+    match words.next() {
+        "value" => order_of_two(alloc, words),
+        "swn" => Ok(order_of_names(&words.swn(), &words.swn())),
+        "txn" => Ok(order_of_txns(&words.txn(), &words.txn())),
+        "enlist" => Ok(order_of_enlists(&words.enlist(), &words.enlist())),
+        _ => Ok(order_of_origins(&words.origin(), &words.origin())),
+    }
+}
+
+fn name_of(order: Ordering) -> &'static str {
+    match order {
         Ordering::Less => "less",
         Ordering::Equal => "equal",
         Ordering::Greater => "greater",
-    });
+    }
+}
+
+/// Appends the order of two values, names, transactions, enlistments or requests.
+pub fn append_order(words: &mut Words<'_>, out: &mut Output) -> Result<(), NoMemory> {
+    let order = order_of(out.alloc, words)?;
+    out.text(name_of(order));
     Ok(())
 }
 
@@ -73,7 +82,8 @@ fn arith_of(word: &str) -> Arith {
 pub fn append_computed(words: &mut Words<'_>, out: &mut Output) {
     let one = words.integer();
     let arith = arith_of(words.next());
-    match compute(arith, one, words.integer()) {
+    let other = words.integer();
+    match compute(arith, one, other) {
         Some(integer) => out.value(&Value::Int(integer)),
         None => out.text("none"),
     }

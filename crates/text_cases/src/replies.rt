@@ -3,7 +3,9 @@
 use crate::values::read_row;
 use crate::words::Words;
 use case_tools::Output;
-use rs_base::{Answer, Answers, Bytes, Denial, NoMemory, Reason, Reply, Resource, Rows, one_item};
+use rs_base::{
+    Answer, Answers, Bytes, Denial, NoMemory, Origin, Reason, Reply, Resource, Rows, one_item,
+};
 use std::alloc::Global;
 
 /// Reads rows, separated by `;`.
@@ -81,18 +83,29 @@ fn read_reply(alloc: Global, words: &mut Words<'_>) -> Result<Reply, NoMemory> {
     }
 }
 
+fn printed(alloc: Global, origin: &Origin, reply: &Reply) -> Output {
+    let mut out = Output::new(alloc);
+    out.reply(origin, reply);
+    out
+}
+
+fn copy_note(reply: &Output, copy: &Output) -> &'static str {
+    if reply.as_slice() == copy.as_slice() {
+        ""
+    } else {
+        " (its copy is printed otherwise)"
+    }
+}
+
 /// Appends the printed reply to `SITE USER EPOCH NUMBER`, as its copy is printed too.
 pub fn append_reply(words: &mut Words<'_>, out: &mut Output) -> Result<(), NoMemory> {
     let origin = words.origin();
     let reply = read_reply(out.alloc, words)?;
     let copy = reply.copy(out.alloc)?;
-    let mut first = Output::new(out.alloc);
-    first.reply(&origin, &reply);
-    let mut second = Output::new(out.alloc);
-    second.reply(&origin, &copy);
-    if first.as_slice() != second.as_slice() {
-        out.text("(its copy is printed otherwise) ");
-    }
     out.reply(&origin, &reply);
+    out.text(copy_note(
+        &printed(out.alloc, &origin, &reply),
+        &printed(out.alloc, &origin, &copy),
+    ));
     Ok(())
 }

@@ -2,7 +2,7 @@
 
 use crate::escape::unescaped;
 use case_tools::Output;
-use rs_base::{NoMemory, SiteNo};
+use rs_base::{NoMemory, Origin, SiteNo};
 use rs_sched::{Event, EventLines, SchedFault, Why, parse_schedule, print_event};
 
 /// Gives the name of a cause.
@@ -58,19 +58,29 @@ fn print_lines(source: &[u8], out: &mut Output) -> Result<(), SchedFault> {
     Ok(())
 }
 
-/// Appends the printed events of a schedule that is read as a whole or event by event, or its refusal.
-pub fn append_schedule(input: &str, whole: bool, out: &mut Output) -> Result<(), NoMemory> {
-    let source = unescaped(out.alloc, input)?;
-    let mut printed = Output::new(out.alloc);
-    let outcome = if whole {
-        print_schedule(source.as_slice(), &mut printed)
+/// Prints the events of a schedule, which is read as a whole or event by event.
+fn print_events(source: &[u8], whole: bool, out: &mut Output) -> Result<(), SchedFault> {
+    if whole {
+        print_schedule(source, out)
     } else {
-        print_lines(source.as_slice(), &mut printed)
-    };
+        print_lines(source, out)
+    }
+}
+
+/// Appends the printed events, or the refusal.
+fn append_outcome(outcome: Result<(), SchedFault>, printed: &Output, out: &mut Output) {
     match outcome {
         Ok(()) => out.append(printed.as_slice()),
         Err(fault) => append_refusal(fault, out),
     }
+}
+
+/// Appends the printed events of a schedule that is read as a whole or event by event, or its refusal.
+pub fn append_schedule(input: &str, whole: bool, out: &mut Output) -> Result<(), NoMemory> {
+    let source = unescaped(out.alloc, input)?;
+    let mut printed = Output::new(out.alloc);
+    let outcome = print_events(source.as_slice(), whole, &mut printed);
+    append_outcome(outcome, &printed, out);
     Ok(())
 }
 
@@ -93,38 +103,41 @@ fn of(out: &mut Output, name: &str, number: u64) {
     and(out, number);
 }
 
-/// Appends the name of an event at a site, and three numbers of which the first may be left out.
-fn stop(out: &mut Output, name: &str, site: SiteNo, call: Option<u64>, writes: u64, bytes: u64) {
-    at(out, name, site);
-    if let Some(call) = call {
-        and(out, call);
-    }
-    and(out, writes);
-    and(out, bytes);
+/// Appends two further numbers.
+fn and_both(out: &mut Output, one: u64, other: u64) {
+    and(out, one);
+    and(out, other);
+}
+
+/// Appends an ask.
+fn ask(out: &mut Output, origin: &Origin, text: &[u8]) {
+    at(out, "Ask", origin.site);
+    and_both(out, u64::from(origin.epoch), origin.number);
+    out.text(" ");
+    out.append(origin.user.as_bytes());
+    out.text(" ");
+    out.append(text);
 }
 
 /// Appends an event, field by field.
-fn append_event(event: &Event, out: &mut Output) {
+fn append_fields(event: &Event, out: &mut Output) {
     match event {
         Event::Sites(last) => at(out, "Sites", *last),
-        Event::Ask { origin, text } => {
-            at(out, "Ask", origin.site);
-            and(out, u64::from(origin.epoch));
-            and(out, origin.number);
-            out.text(" ");
-            out.append(origin.user.as_bytes());
-            out.text(" ");
-            out.append(text.as_slice());
-        }
+        Event::Ask { origin, text } => ask(out, origin, text.as_slice()),
         Event::Deliver(number) => of(out, "Deliver", *number),
         Event::Lose(number) => of(out, "Lose", *number),
         Event::Tick(site, ticks) => {
             at(out, "Tick", *site);
             and(out, u64::from(*ticks));
         }
-        Event::Stop(site, writes, bytes) => stop(out, "Stop", *site, None, *writes, *bytes),
+        Event::Stop(site, writes, bytes) => {
+            at(out, "Stop", *site);
+            and_both(out, *writes, *bytes);
+        }
         Event::Arm(site, call, writes, bytes) => {
-            stop(out, "Arm", *site, Some(*call), *writes, *bytes);
+            at(out, "Arm", *site);
+            and(out, *call);
+            and_both(out, *writes, *bytes);
         }
         Event::Restart(site) => at(out, "Restart", *site),
         Event::Settle(None) => out.text("Settle"),
@@ -135,7 +148,6 @@ fn append_event(event: &Event, out: &mut Output) {
             out.append(bytes.as_slice());
         }
     }
-    out.text("; ");
 }
 
 /// Appends the events of a schedule, field by field.
@@ -146,7 +158,8 @@ pub fn append_events(input: &str, out: &mut Output) -> Result<(), NoMemory> {
         return Ok(());
     };
     for event in events.as_slice() {
-        append_event(event, out);
+        append_fields(event, out);
+        out.text("; ");
     }
     Ok(())
 }

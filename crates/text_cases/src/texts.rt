@@ -18,13 +18,17 @@ fn fault_of(alloc: Global, text: &[u8], more: &[u8]) -> Result<Option<usize>, No
     }
 }
 
-/// Appends `ok` for a request, or the byte offset of the fault.
-pub fn append_fault(input: &str, out: &mut Output) -> Result<(), NoMemory> {
-    let text = unescaped(out.alloc, input)?;
-    match fault_of(out.alloc, text.as_slice(), b"")? {
+fn append_offset(fault: Option<usize>, out: &mut Output) {
+    match fault {
         None => out.text("ok"),
         Some(offset) => out.number(offset as u64),
     }
+}
+
+/// Appends `ok` for a request, or the byte offset of the fault.
+pub fn append_fault(input: &str, out: &mut Output) -> Result<(), NoMemory> {
+    let text = unescaped(out.alloc, input)?;
+    append_offset(fault_of(out.alloc, text.as_slice(), b"")?, out);
     Ok(())
 }
 
@@ -36,20 +40,34 @@ fn is_begun(alloc: Global, text: &[u8]) -> Result<bool, NoMemory> {
     Ok(word == end && byte == end)
 }
 
+/// Appends the length of a cut that is a request with and without blanks after it, and nothing if both are at fault where
+/// they end.
+fn append_length(
+    here: Option<usize>,
+    len: usize,
+    after: Option<usize>,
+    len_with_blanks: usize,
+    out: &mut Output,
+) {
+    if here.is_none() && after.is_none() {
+        out.text(" ");
+        out.number(len as u64);
+    } else if here != Some(len) || after != Some(len_with_blanks) {
+        out.text(" ?");
+    }
+}
+
 /// Appends the length of a cut that is a request, or `?` if its continuations are not at fault where it ends.
 fn append_cut(text: &[u8], out: &mut Output) -> Result<(), NoMemory> {
     let mut blank = Bytes::from_slice(out.alloc, text)?;
     blank.extend(b"\r\n\t ")?;
-    let here = fault_of(out.alloc, text, b"")?;
-    let after = fault_of(out.alloc, blank.as_slice(), b"")?;
     if !is_begun(out.alloc, blank.as_slice())? {
         out.text(" ?");
-    } else if here.is_none() && after.is_none() {
-        out.text(" ");
-        out.number(text.len() as u64);
-    } else if here != Some(text.len()) || after != Some(blank.len()) {
-        out.text(" ?");
+        return Ok(());
     }
+    let here = fault_of(out.alloc, text, b"")?;
+    let after = fault_of(out.alloc, blank.as_slice(), b"")?;
+    append_length(here, text.len(), after, blank.len(), out);
     Ok(())
 }
 
@@ -100,9 +118,13 @@ pub fn append_printed(input: &str, out: &mut Output) -> Result<(), NoMemory> {
         return Ok(());
     };
     out.append(once.as_slice());
-    match printed(out.alloc, once.as_slice())? {
-        Some(twice) if twice.as_slice() == once.as_slice() => {}
-        _ => out.text(" (printed otherwise when it is read again)"),
-    }
+    out.text(note_of(once.as_slice(), &printed(out.alloc, once.as_slice())?));
     Ok(())
+}
+
+fn note_of(once: &[u8], twice: &Option<Bytes>) -> &'static str {
+    match twice {
+        Some(twice) if twice.as_slice() == once => "",
+        _ => " (printed otherwise when it is read again)",
+    }
 }

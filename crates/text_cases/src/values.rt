@@ -61,57 +61,102 @@ fn append_text(bytes: &[u8], out: &mut Output) {
     }
 }
 
+fn name_of(kind: Kind) -> &'static str {
+    match kind {
+        Kind::Int => " integer ",
+        Kind::Text => " text ",
+    }
+}
+
 /// Appends a copy of the row, and then the kind and a copy of each value.
 fn append_copies(row: &[Value], out: &mut Output) -> Result<(), NoMemory> {
     out.row(copy_row(out.alloc, row)?.as_slice());
     for value in row {
-        out.text(match value.kind() {
-            Kind::Int => " integer ",
-            Kind::Text => " text ",
-        });
+        out.text(name_of(value.kind()));
         out.value(&value.copy(out.alloc)?);
     }
     Ok(())
 }
 
 /// Appends the size of the row, its copies or the printed row.
-fn append_row(kind: &str, line: &str, out: &mut Output) -> Result<(), NoMemory> {
-    let row = read_row(out.alloc, line)?;
+fn append_row(kind: &str, row: &[Value], out: &mut Output) {
     match kind {
-        "row_size" => out.number(row_size(row.as_slice())),
-        "copy_row" => append_copies(row.as_slice(), out)?,
-        _ => out.row(row.as_slice()),
+        "row_size" => out.number(row_size(row)),
+        "copy_row" => {
+            let copied = append_copies(row, out);
+            out.note(copied);
+        }
+        _ => out.row(row),
     }
-    Ok(())
 }
 
-/// Appends what a call on the bytes of this text returns.
-fn append_bytes(kind: &str, text: &str, out: &mut Output) -> Result<(), NoMemory> {
-    let bytes = unescaped(out.alloc, text)?;
+/// Appends what a call on these bytes returns.
+fn append_bytes(kind: &str, bytes: &[u8], out: &mut Output) {
     match kind {
-        "ident" => append_ident(bytes.as_slice(), out),
-        "text" => append_text(bytes.as_slice(), out),
+        "ident" => append_ident(bytes, out),
+        "text" => append_text(bytes, out),
         _ => out.number(bytes.len() as u64),
     }
-    Ok(())
 }
 
-/// Appends what is printed of the value that a line says, or what the call that it names returns.
-pub fn append_value(words: &mut Words<'_>, out: &mut Output) -> Result<(), NoMemory> {
-    match words.next() {
+/// Appends what is printed of the value that the words say, or what the call that is named returns.
+fn append_words(kind: &str, words: &mut Words<'_>, out: &mut Output) {
+    match kind {
         "site" => append_site(words.any_site(), out),
         "first_site" => append_site(Some(SiteNo::first()), out),
         "number" => out.number(words.number()),
         "count_of" => out.number(count_of(words.integer())),
-        "value" => out.value(&read_value(out.alloc, words.rest())?),
         "txn" => out.txn(&words.txn()),
         "swn" => out.name(&words.swn()),
-        "origin" => out.origin(&words.origin()),
-        "order" => append_order(words, out)?,
         "allows" => append_allowed(words.rest(), out),
         "compute" => append_computed(words, out),
-        kind @ ("ident" | "text" | "len") => append_bytes(kind, words.rest(), out)?,
-        kind => append_row(kind, words.rest(), out)?,
+        _ => out.origin(&words.origin()),
     }
-    Ok(())
+}
+
+/// Appends what is printed of a value, or what a call on the rest of the line returns.
+fn append_rest(kind: &str, line: &str, out: &mut Output) -> Result<(), NoMemory> {
+    match kind {
+        "ident" | "text" | "len" => {
+            append_bytes(kind, unescaped(out.alloc, line)?.as_slice(), out);
+            Ok(())
+        }
+        "value" => {
+            out.value(&read_value(out.alloc, line)?);
+            Ok(())
+        }
+        _ => {
+            append_row(kind, read_row(out.alloc, line)?.as_slice(), out);
+            Ok(())
+        }
+    }
+}
+
+/// Reports whether a line of this kind is read word by word.
+fn is_of_words(kind: &str) -> bool {
+    matches!(
+        kind,
+        "site"
+            | "first_site"
+            | "number"
+            | "count_of"
+            | "txn"
+            | "swn"
+            | "allows"
+            | "compute"
+            | "origin"
+    )
+}
+
+/// Appends what is printed of the value that a line says, or what the call that it names returns.
+pub fn append_value(words: &mut Words<'_>, out: &mut Output) -> Result<(), NoMemory> {
+    let kind = words.next();
+    if kind == "order" {
+        return append_order(words, out);
+    }
+    if is_of_words(kind) {
+        append_words(kind, words, out);
+        return Ok(());
+    }
+    append_rest(kind, words.rest(), out)
 }
