@@ -4,7 +4,7 @@ use anyhow::Result;
 use case_tools::{Transcript, integers};
 use rs_answer::{answer_rows, compare_answers, count_answer, is_count_only};
 use rs_ast::{Shape, ShapeItem, ShapeKey};
-use rs_base::{NoMemory, Rows, Value};
+use rs_base::{Denial, NoMemory, Rows, Value};
 use sqlite_items::Items;
 use std::alloc::Global;
 
@@ -134,11 +134,17 @@ fn answer(out: &mut Transcript, query: Query<'_>) -> Result<()> {
     out.word("answer_rows,");
     out.word(query.shows);
     out.returned();
-    match answer_rows(out.alloc, &shape, joined)? {
+    let answered = answer_rows(out.alloc, &shape, joined)?;
+    rows_or_denial(out, answered);
+    Ok(())
+}
+
+/// Writes rows, or why there are none.
+pub fn rows_or_denial(out: &mut Transcript, answered: Result<Rows, Denial>) {
+    match answered {
         Ok(rows) => out.rows(rows.as_slice()),
         Err(cause) => out.denial(cause),
     }
-    Ok(())
 }
 
 // A query that only counts answers the same from its joined rows and from their number.

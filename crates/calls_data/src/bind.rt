@@ -60,24 +60,27 @@ fn param(text: &[u8]) -> Result<Param> {
 }
 
 /// Binds the names of the statement. A query names the table by a synonym.
-fn bound(alloc: Global, text: &str) -> Result<Result<Bound, Denial>> {
-    let heading = heading(alloc)?;
-    let params = [param(b"t")?, param(b"n")?];
-    let bound_or_denied = match dml(alloc, text.as_bytes())? {
-        Dml::Delete { clauses, .. } => bind_delete(alloc, clauses.as_slice(), &heading, &params)?,
-        Dml::Insert { rows, .. } => bind_insert(alloc, rows.as_slice(), &heading, &params)?,
-        Dml::Update { sets, clauses, .. } => bind_update(
-            alloc,
-            sets.as_slice(),
-            clauses.as_slice(),
-            &heading,
-            &params,
-        )?,
-        Dml::Select(query) => {
-            bind_select(alloc, &query, std::slice::from_ref(&heading), &params)?
+fn bound_of(
+    alloc: Global,
+    dml: &Dml,
+    heading: &Heading,
+    params: &[Param],
+) -> Result<Result<Bound, Denial>, NoMemory> {
+    match dml {
+        Dml::Delete { clauses, .. } => bind_delete(alloc, clauses.as_slice(), heading, params),
+        Dml::Insert { rows, .. } => bind_insert(alloc, rows.as_slice(), heading, params),
+        Dml::Update { sets, clauses, .. } => {
+            bind_update(alloc, sets.as_slice(), clauses.as_slice(), heading, params)
         }
-    };
-    Ok(bound_or_denied)
+        Dml::Select(query) => bind_select(alloc, query, std::slice::from_ref(heading), params),
+    }
+}
+
+fn bound(alloc: Global, text: &str) -> Result<Result<Bound, Denial>> {
+    let params = [param(b"t")?, param(b"n")?];
+    let heading = heading(alloc)?;
+    let dml = dml(alloc, text.as_bytes())?;
+    Ok(bound_of(alloc, &dml, &heading, &params)?)
 }
 
 fn statements(out: &mut Transcript) -> Result<()> {

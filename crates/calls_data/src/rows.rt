@@ -31,15 +31,14 @@ fn sizes(out: &mut Transcript, call: &str, stored: &StoredRows) {
 fn first_rows(out: &mut Transcript, run: RowRun<'_>, count: usize) {
     let mut rest = run.view();
     for _ in 0..count {
-        match rest.split_first() {
-            Some((row, others)) => {
-                out.word("RowRun::split_first");
-                out.returned();
-                out.row(row);
-                rest = others;
-            }
-            None => out.word("RowRun::split_first = none"),
-        }
+        let Some((row, others)) = rest.split_first() else {
+            out.word("RowRun::split_first = none");
+            break;
+        };
+        out.word("RowRun::split_first");
+        out.returned();
+        out.row(row);
+        rest = others;
     }
     out.word("left");
     out.number(rest.len() as u64);

@@ -65,12 +65,24 @@ fn parameter(out: &mut Transcript, position: u8) {
     out.number(u64::from(position));
 }
 
-fn comparison(out: &mut Transcript, cmp: &BoundCmp) {
-    column(out, cmp.left);
-    out.word(match cmp.op {
+fn comparison_name(op: Op) -> &'static str {
+    match op {
         Op::Eq => "=",
         _ => "another comparison",
-    });
+    }
+}
+
+fn arith_name(arith: Arith) -> &'static str {
+    match arith {
+        Arith::Add => "+",
+        Arith::Sub => "-",
+        Arith::Mul => "*",
+    }
+}
+
+fn comparison(out: &mut Transcript, cmp: &BoundCmp) {
+    column(out, cmp.left);
+    out.word(comparison_name(cmp.op));
     match &cmp.right {
         BoundSide::Place(index) => column(out, *index),
         BoundSide::Lit(value) => out.value(value),
@@ -104,20 +116,20 @@ fn inserted(out: &mut Transcript, rows: &[BoundRow]) {
     }
 }
 
+fn assignment(out: &mut Transcript, set: &BoundSet) {
+    out.word("set");
+    column(out, u16::from(set.column));
+    out.word("to");
+    term(out, &set.first);
+    if let Some((arith, second)) = &set.more {
+        out.word(arith_name(*arith));
+        term(out, second);
+    }
+}
+
 fn assignments(out: &mut Transcript, sets: &[BoundSet]) {
     for set in sets {
-        out.word("set");
-        column(out, u16::from(set.column));
-        out.word("to");
-        term(out, &set.first);
-        if let Some((arith, second)) = &set.more {
-            out.word(match arith {
-                Arith::Add => "+",
-                Arith::Sub => "-",
-                Arith::Mul => "*",
-            });
-            term(out, second);
-        }
+        assignment(out, set);
     }
 }
 

@@ -1,5 +1,6 @@
 //! Joined rows of three tables, and of none.
 
+use crate::answer::rows_or_denial;
 use crate::eval::predicates::same_or_below;
 use anyhow::Result;
 use case_tools::Transcript;
@@ -45,10 +46,8 @@ fn joined(out: &mut Transcript, clauses: &[BoundClause], tables: &[StoredRows]) 
     }
     out.word("joined_rows");
     out.returned();
-    match joined_rows(out.alloc, clauses, runs.as_slice())? {
-        Ok(rows) => out.rows(rows.as_slice()),
-        Err(cause) => out.denial(cause),
-    }
+    let joined = joined_rows(out.alloc, clauses, runs.as_slice())?;
+    rows_or_denial(out, joined);
     Ok(())
 }
 

@@ -3,7 +3,7 @@
 use anyhow::Result;
 use case_tools::{Transcript, integers};
 use rs_ast::{Arith, BoundSet, BoundSets, BoundTerm};
-use rs_base::NoMemory;
+use rs_base::{Denial, NoMemory, Row};
 use rs_eval::{compute, set_row};
 use sqlite_items::Items;
 use std::alloc::Global;
@@ -25,21 +25,29 @@ pub fn calls(out: &mut Transcript) -> Result<()> {
     set(out, i64::MAX)
 }
 
+fn name_of(arith: Arith) -> &'static str {
+    match arith {
+        Arith::Add => "+",
+        Arith::Sub => "-",
+        Arith::Mul => "*",
+    }
+}
+
+fn integer_or_none(out: &mut Transcript, integer: Option<i64>) {
+    match integer {
+        Some(integer) => out.integer(integer),
+        None => out.word("none"),
+    }
+}
+
 fn integers_computed(out: &mut Transcript) {
     for (arith, one, other) in COMPUTED {
         out.word("compute");
         out.integer(one);
-        out.word(match arith {
-            Arith::Add => "+",
-            Arith::Sub => "-",
-            Arith::Mul => "*",
-        });
+        out.word(name_of(arith));
         out.integer(other);
         out.returned();
-        match compute(arith, one, other) {
-            Some(integer) => out.integer(integer),
-            None => out.word("none"),
-        }
+        integer_or_none(out, compute(arith, one, other));
         out.end();
     }
 }
@@ -67,9 +75,14 @@ fn set(out: &mut Transcript, parameter: i64) -> Result<()> {
     let values = integers(alloc, &[parameter])?;
     out.word("set_row");
     out.returned();
-    match set_row(alloc, sets.as_slice(), values.as_slice(), row.as_slice())? {
+    let new = set_row(alloc, sets.as_slice(), values.as_slice(), row.as_slice())?;
+    row_or_denial(out, new);
+    Ok(())
+}
+
+fn row_or_denial(out: &mut Transcript, new: Result<Row, Denial>) {
+    match new {
         Ok(new) => out.row(new.as_slice()),
         Err(cause) => out.denial(cause),
     }
-    Ok(())
 }

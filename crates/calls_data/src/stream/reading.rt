@@ -2,6 +2,7 @@
 
 use anyhow::Result;
 use case_tools::Transcript;
+use rs_base::{Bytes, Fault};
 use rs_stream::{MemSource, Source, StdSource, SureSource, read_to_end};
 use std::io::{Error, ErrorKind, Read};
 
@@ -21,11 +22,16 @@ fn read<S: Source>(out: &mut Transcript, source: &mut S, limit: usize) {
     out.word("read_to_end");
     out.number(limit as u64);
     out.returned();
-    match read_to_end(out.alloc, source, limit) {
+    let bytes = read_to_end(out.alloc, source, limit);
+    bytes_or_fault(out, bytes);
+    out.end();
+}
+
+fn bytes_or_fault(out: &mut Transcript, bytes: Result<Bytes, Fault>) {
+    match bytes {
         Ok(bytes) => out.quoted(bytes.as_slice()),
         Err(fault) => out.fault(fault),
     }
-    out.end();
 }
 
 // So short a source is read twice: once for all of its bytes, and once at its end.
@@ -56,18 +62,27 @@ fn read_long<S: Source>(out: &mut Transcript, source: &mut S, limit: usize, long
     out.word("read_to_end");
     out.number(limit as u64);
     out.returned();
-    match read_to_end(out.alloc, source, limit) {
+    let bytes = read_to_end(out.alloc, source, limit);
+    length_or_fault(out, bytes, long);
+    out.end();
+}
+
+fn length_or_fault(out: &mut Transcript, bytes: Result<Bytes, Fault>, long: &[u8]) {
+    match bytes {
         Ok(bytes) => {
             out.number(bytes.len() as u64);
-            out.word(if long.starts_with(bytes.as_slice()) {
-                "of its bytes"
-            } else {
-                "other bytes"
-            });
+            out.word(kind_of(bytes.as_slice(), long));
         }
         Err(fault) => out.fault(fault),
     }
-    out.end();
+}
+
+fn kind_of(bytes: &[u8], long: &[u8]) -> &'static str {
+    if long.starts_with(bytes) {
+        "of its bytes"
+    } else {
+        "other bytes"
+    }
 }
 
 fn pieces(out: &mut Transcript) -> Result<()> {
