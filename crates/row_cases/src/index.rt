@@ -101,12 +101,12 @@ fn drop_row(
 ) -> Result<(), ReadFault> {
     let (value, number) = line.split_once(' ').unwrap_or((line, ""));
     let value = read_value(alloc, value)?;
-    let answer: &[u8] = if index.drop_row(&value, read_number(number)?) {
-        b"true"
-    } else {
-        b"false"
-    };
-    Ok(out.extend(answer)?)
+    let was_there = index.drop_row(&value, read_number(number)?);
+    Ok(out.extend(name_of(was_there))?)
+}
+
+fn name_of(answer: bool) -> &'static [u8] {
+    if answer { b"true" } else { b"false" }
 }
 
 /// Builds an index over a column, by its index.
@@ -139,13 +139,18 @@ impl Calls for IndexCalls {
     fn call(&mut self, alloc: Global, line: &str, out: &mut Bytes) -> Result<(), ReadFault> {
         let (name, rest) = line.split_once(' ').unwrap_or((line, ""));
         match name {
-            "new" => *self = IndexCalls::new(alloc)?,
-            "insert" => insert(alloc, &mut self.table, rest, out)?,
-            "build" => self.index = build(alloc, &self.table, rest)?,
-            "add" => add(alloc, &mut self.index, rest)?,
-            "drop" => drop_row(alloc, &mut self.index, rest, out)?,
-            _ => self.ask(alloc, name, rest, out)?,
+            "new" => {
+                *self = IndexCalls::new(alloc)?;
+                Ok(())
+            }
+            "insert" => insert(alloc, &mut self.table, rest, out),
+            "build" => {
+                self.index = build(alloc, &self.table, rest)?;
+                Ok(())
+            }
+            "add" => add(alloc, &mut self.index, rest),
+            "drop" => drop_row(alloc, &mut self.index, rest, out),
+            _ => self.ask(alloc, name, rest, out),
         }
-        Ok(())
     }
 }

@@ -27,12 +27,19 @@ fn read_side(alloc: Global, word: &str) -> Result<BoundSide, ReadFault> {
     Ok(BoundSide::Lit(read_value(alloc, word)?))
 }
 
+fn read_any_op(word: &str) -> Result<Op, ReadFault> {
+    if word == "<>" {
+        return Ok(Op::Ne);
+    }
+    read_op(word)
+}
+
 /// Reads a comparison `COLUMN:OP:OPERAND`.
 fn read_cmp(alloc: Global, word: &str) -> Result<BoundCmp, ReadFault> {
     let (left, rest) = word.split_once(':').ok_or(ReadFault::Malformed)?;
     let (op, right) = rest.split_once(':').ok_or(ReadFault::Malformed)?;
     let left = left.parse().map_err(|_| ReadFault::Malformed)?;
-    let op = if op == "<>" { Op::Ne } else { read_op(op)? };
+    let op = read_any_op(op)?;
     let right = read_side(alloc, right)?;
     Ok(BoundCmp { left, op, right })
 }
@@ -127,6 +134,19 @@ impl PathCalls {
         }
     }
 
+    /// Appends the path of a section.
+    fn choose(
+        &self,
+        alloc: Global,
+        name: &str,
+        rest: &str,
+        out: &mut Bytes,
+    ) -> Result<(), ReadFault> {
+        let kind = read_section(alloc, name, rest)?;
+        let path = choose(&kind, self.indexes.as_slice());
+        Ok(append_path(alloc, &path, out)?)
+    }
+
     /// Adds an index.
     fn add(&mut self, line: &str) -> Result<(), ReadFault> {
         let index = read_index(line, self.indexes.len() as u64)?;
@@ -139,14 +159,12 @@ impl Calls for PathCalls {
     fn call(&mut self, alloc: Global, line: &str, out: &mut Bytes) -> Result<(), ReadFault> {
         let (name, rest) = line.split_once(' ').unwrap_or((line, ""));
         match name {
-            "new" => self.indexes = IndexOfs::new(alloc),
-            "index" => self.add(rest)?,
-            _ => {
-                let kind = read_section(alloc, name, rest)?;
-                let path = choose(&kind, self.indexes.as_slice());
-                append_path(alloc, &path, out)?;
+            "new" => {
+                self.indexes = IndexOfs::new(alloc);
+                Ok(())
             }
+            "index" => self.add(rest),
+            _ => self.choose(alloc, name, rest, out),
         }
-        Ok(())
     }
 }

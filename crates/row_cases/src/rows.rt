@@ -46,14 +46,33 @@ fn replace(
     if !is_small(row.as_slice()) {
         return Ok(out.extend(b"too large")?);
     }
-    match table.replace(read_number(number)?, row) {
-        Ok(old) => append_row(alloc, old.as_slice(), out)?,
+    let replaced = table.replace(read_number(number)?, row);
+    Ok(append_replaced(alloc, &replaced, out)?)
+}
+
+fn append_replaced(
+    alloc: Global,
+    replaced: &Result<Row, Row>,
+    out: &mut Bytes,
+) -> Result<(), NoMemory> {
+    match replaced {
+        Ok(old) => append_row(alloc, old.as_slice(), out),
         Err(given) => {
             out.extend(b"refused ")?;
-            append_row(alloc, given.as_slice(), out)?;
+            append_row(alloc, given.as_slice(), out)
         }
     }
-    Ok(())
+}
+
+/// Appends the row that is removed, or `none`.
+fn remove(
+    alloc: Global,
+    table: &mut TableRows,
+    number: &str,
+    out: &mut Bytes,
+) -> Result<(), ReadFault> {
+    let row = table.remove(read_number(number)?);
+    Ok(append_found(alloc, row.as_ref(), out)?)
 }
 
 /// Appends each number and its row.
@@ -112,15 +131,14 @@ impl RowCalls {
     /// Makes a call that changes nothing, and appends its answer.
     fn ask(&self, alloc: Global, name: &str, rest: &str, out: &mut Bytes) -> Result<(), ReadFault> {
         match name {
-            "get" => append_found(alloc, self.table.get(read_number(rest)?), out)?,
-            "rows" => append_rows(alloc, &self.table, out)?,
-            "reads" => append_reads(alloc, &self.table, rest, out)?,
-            "count" => print_number(alloc, self.table.count(), out)?,
-            "bytes" => print_number(alloc, self.table.bytes(), out)?,
-            "next" => print_number(alloc, self.table.next(), out)?,
-            _ => return Err(ReadFault::Malformed),
+            "get" => Ok(append_found(alloc, self.table.get(read_number(rest)?), out)?),
+            "rows" => Ok(append_rows(alloc, &self.table, out)?),
+            "reads" => append_reads(alloc, &self.table, rest, out),
+            "count" => Ok(print_number(alloc, self.table.count(), out)?),
+            "bytes" => Ok(print_number(alloc, self.table.bytes(), out)?),
+            "next" => Ok(print_number(alloc, self.table.next(), out)?),
+            _ => Err(ReadFault::Malformed),
         }
-        Ok(())
     }
 }
 
@@ -128,17 +146,16 @@ impl Calls for RowCalls {
     fn call(&mut self, alloc: Global, line: &str, out: &mut Bytes) -> Result<(), ReadFault> {
         let (name, rest) = line.split_once(' ').unwrap_or((line, ""));
         match name {
-            "new" => self.table = TableRows::new(alloc),
-            "copy" => self.copy(alloc)?,
-            "insert" => insert(alloc, &mut self.table, read_row(alloc, rest)?, out)?,
-            "fill" => fill(alloc, &mut self.table, read_number(rest)?, out)?,
-            "replace" => replace(alloc, &mut self.table, rest, out)?,
-            "remove" => {
-                let row = self.table.remove(read_number(rest)?);
-                append_found(alloc, row.as_ref(), out)?;
+            "new" => {
+                self.table = TableRows::new(alloc);
+                Ok(())
             }
-            _ => self.ask(alloc, name, rest, out)?,
+            "copy" => Ok(self.copy(alloc)?),
+            "insert" => Ok(insert(alloc, &mut self.table, read_row(alloc, rest)?, out)?),
+            "fill" => Ok(fill(alloc, &mut self.table, read_number(rest)?, out)?),
+            "replace" => replace(alloc, &mut self.table, rest, out),
+            "remove" => remove(alloc, &mut self.table, rest, out),
+            _ => self.ask(alloc, name, rest, out),
         }
-        Ok(())
     }
 }
