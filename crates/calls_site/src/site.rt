@@ -1,6 +1,6 @@
 //! Calls of rs_site.
 
-use anyhow::{Result, bail, ensure};
+use anyhow::{Context, Result, bail, ensure};
 use case_tools::{Transcript, ident, origin};
 use rs_base::{Bytes, NoMemory, Peer, Reply, SiteNo, one_item};
 use rs_msg::{ASK_LIMIT, Ask, Message, decode, encode};
