@@ -58,6 +58,13 @@ impl Database {
         &self.tables
     }
 
+    /// Returns the tables of a database that is no longer used, sorted by name.
+    pub fn into_tables(self) -> BTreeMap<Swn, Table>
+        ensures { result.entries ≡ self.tables }
+    {
+        self.tables
+    }
+
     /// Returns the table of this name, if there is one.
     pub fn table(&self, name: &Swn) -> Option<&Table>
         ensures { option_copied result ≡ table_named name.now self.now }

@@ -4,7 +4,7 @@ use Rattle.std.specs.Prelude.{◌==◌}
 use Rattle.rs_sched.specs.declared.event.Event.{Event}
 use Rattle.rs_sched.specs.Lines.{onto_first, lines_of}
 use Rattle.rs_sched.specs.Schedule.{AreLines}
-use Rattle.rs_world.specs.Answered.{HaveTransactions}
+use Rattle.law_world.specs.Answered.{HaveTransactions}
 use Rattle.rs_run.specs.Refusal.{IsSource}
 
 few_lines : (bytes : List ℕ) → length (lines_of bytes) ≤ length bytes

@@ -7,7 +7,7 @@ use Rattle.rs_sched.specs.declared.fault.SchedFault.TheVariants as scheds
 use Rattle.rs_sched.specs.Lines.{without_returns, is_comment}
 use Rattle.rs_sched.specs.Reader.{line_at, sites_after}
 use Rattle.rs_sched.specs.Next.{Left, next_in, next_of, event_by, FailsNext}
-use Rattle.rs_world.specs.Accepted.{may_come, is_open_after}
+use Rattle.rs_course.specs.Played.{may_come, is_open_after}
 use Rattle.rs_run.specs.declared.source.Cause.TheVariants as causes
 use Rattle.rs_run.specs.declared.source.SourceFault.{SourceFault}
 use Rattle.rs_run.specs.SourceReader.{Read, refused, with_events, ended, further_by, source_at, of_sched, FailsSource, GivesSource}

@@ -12,7 +12,7 @@ use Rattle.rs_sched.specs.Reader.{lines_at, line_at, further, sites_after, event
 use Rattle.rs_sched.specs.Reading.{FailsSchedule}
 use Rattle.rs_sched.proofs.ScheduleLaws.{events_are, events_again, fault_is}
 use Rattle.rs_sched.proofs.FaultLaws.{fault_again}
-use Rattle.rs_world.specs.Accepted.{are_accepted}
+use Rattle.rs_course.specs.Played.{are_accepted}
 use Rattle.rs_run.specs.declared.source.Cause.{Cause}
 use Rattle.rs_run.specs.declared.source.Cause.TheVariants as causes
 use Rattle.rs_run.specs.declared.source.Refusal.{Refusal}

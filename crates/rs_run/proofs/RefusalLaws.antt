@@ -15,7 +15,7 @@ use Rattle.rs_sched.specs.Reader.{lines_at, line_at, further, sites_after, event
 use Rattle.rs_sched.proofs.CauseLaws.{first_is}
 use Rattle.rs_sched.proofs.LineLaws.{line_of_part}
 use Rattle.rs_sched.proofs.ScheduleLaws.{not_ltb, Feedless, lines_feedless, Few, Completes, Follows, line_follows, comment_more, no_comment_line, next_of, events_are, events_again, fault_is}
-use Rattle.rs_world.specs.Accepted.{may_come, is_open_after, are_accepted}
+use Rattle.rs_course.specs.Played.{may_come, is_open_after, are_accepted}
 use Rattle.rs_run.specs.declared.source.Cause.{Cause}
 use Rattle.rs_run.specs.declared.source.Cause.TheVariants as causes
 use Rattle.rs_run.specs.declared.source.Refusal.{Refusal}

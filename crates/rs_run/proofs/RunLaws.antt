@@ -6,27 +6,29 @@ use Rattle.std.specs.declared.alloc.Global.{Global}
 use Rattle.std.proofs.lemmas.List.{take_all, take_at, append-nil}
 use Rattle.rs_stream.specs.Streams.{AppendsPrefix}
 use Rattle.rs_sched.specs.declared.event.Event.{Event}
-use Rattle.rs_world.specs.declared.report.Report.{Report}
-use Rattle.rs_world.specs.Answered.{EachAskIsAnswered}
-use Rattle.rs_world.specs.Explains.{Explains}
+use Rattle.rs_course.specs.Course.{course}
+use Rattle.rs_course.specs.Report.{report_of}
+use Rattle.law_world.proofs.Answering.{answers}
+use Rattle.law_world.proofs.Explaining.{explains}
 use Rattle.rs_world.specs.ReportText.{printed_report}
 use Rattle.rs_run.specs.declared.run.Finding.{Finding}
 use Rattle.rs_run.specs.declared.run.Finding.TheVariants as findings
 use Rattle.rs_run.specs.Refusal.{IsSource}
 use Rattle.rs_run.specs.Run.{IsReplay, most_read, IsNoSource, Reports, Refuses, OwesReplay, Owes, WritesPrefix, ReadsRefused, WritesRefusal, HoldsSource, HoldsNoSource, status_of, FoundIn, Finds}
+use Rattle.rs_run.proofs.FewEvents.{few_events}
 use Rattle.rs_run.proofs.ReadingOf.{source_is_played}
 
 -- ---- from bytes to the report
 
--- the report of the course of the events that were read
-pub reports : (bytes text start : List ℕ) (given : List Event) (report : Report) → IsSource bytes given → Explains given report → EachAskIsAnswered given report → start ≡ [] → text ≡ start ++ printed_report report → Reports bytes text
-reports bytes text start given report source explains answers empty printed = record {
+-- the text is the report of the events that were read
+pub reported : (bytes text : List ℕ) (given : List Event) → IsSource bytes given → text ≡ printed_report (report_of (course given)) → Reports bytes text
+reported bytes text given source printed = record {
   given = given;
   is_source = source;
-  report = report;
-  explains = explains;
-  answers = answers;
-  prints = printed ∙ ap (λ (prefix : List ℕ). prefix ++ printed_report report) empty;
+  report = report_of (course given);
+  explains = explains given source.schedule.valid source.accepted;
+  answers = λ calm. answers given source.schedule.valid source.accepted (few_events bytes given source);
+  prints = printed;
 }
 
 -- refused bytes are no source

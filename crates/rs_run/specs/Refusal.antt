@@ -6,7 +6,7 @@ use Rattle.rs_sched.specs.Lines.{lines_of, without_returns}
 use Rattle.rs_sched.specs.Encoding.{line_of}
 use Rattle.rs_sched.specs.Schedule.{AreLines, IsValid, IsSchedule}
 use Rattle.rs_sched.specs.Faults.{text_of, IsFault}
-use Rattle.rs_world.specs.Accepted.{may_come, is_open_after, are_accepted}
+use Rattle.rs_course.specs.Played.{may_come, is_open_after, are_accepted}
 use Rattle.rs_run.specs.declared.source.Cause.{Cause}
 use Rattle.rs_run.specs.declared.source.Cause.TheVariants as causes
 

@@ -1,13 +1,14 @@
 -- What a run of the program does with its words, its source and its sink.
-use Rattle.std.specs.Prelude.{◌≡◌, ℕ, List, [], ◌∷◌, map, take, codes, string_bytes, Option, Some, None, IfSome, ◌⊎◌}
+use Rattle.std.specs.Prelude.{◌≡◌, ℕ, List, [], ◌∷◌, map, take, codes, string_bytes, Option, Some, None, IfSome, false, IsTrue, ◌⊎◌}
 use Rattle.std.specs.Io.KnownBytes.{Appends, IsAtEnd, Keeps}
 use Rattle.std.specs.Prelude.{String}
 use Rattle.std.specs.declared.alloc.Global.{Global}
 use Rattle.rs_stream.specs.Streams.{AppendsPrefix}
 use Rattle.rs_sched.specs.declared.event.Event.{Event}
-use Rattle.rs_world.specs.declared.report.Report.{Report}
-use Rattle.rs_world.specs.Answered.{EachAskIsAnswered}
-use Rattle.rs_world.specs.Explains.{Explains}
+use Rattle.rs_course.specs.declared.report.Report.{Report}
+use Rattle.rs_course.specs.Calm.{is_calm}
+use Rattle.law_world.specs.Answered.{EachAskIsAnswered}
+use Rattle.law_world.specs.Explains.{Explains}
 use Rattle.rs_world.specs.ReportText.{printed_report}
 use Rattle.rs_run.specs.declared.source.Cause.{Cause}
 use Rattle.rs_run.specs.declared.run.Finding.{Finding}
@@ -27,13 +28,13 @@ abbrev pub IsNoSource : List ℕ → Type 0
 IsNoSource bytes = (given : List Event) → IsSource bytes given → ⊥
 
 -- The text is the report of these bytes: they are a source of events, and the text is that of a report that explains them,
--- and by which each of their asks is answered.
+-- and by which each of their asks is answered, if they are calm.
 pub record Reports (bytes text : List ℕ) : Type 0 where
   pub given : List Event
   pub is_source : IsSource bytes given
   pub report : Report
   pub explains : Explains given report
-  pub answers : EachAskIsAnswered given report
+  pub answers : IsTrue (is_calm false given) → EachAskIsAnswered given report
   pub prints : text ≡ printed_report report
 
 -- The text names the line at which these bytes are refused, and why.

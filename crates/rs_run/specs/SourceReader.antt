@@ -7,7 +7,7 @@ use Rattle.rs_sched.specs.declared.fault.SchedFault.{SchedFault}
 use Rattle.rs_sched.specs.declared.fault.SchedFault.TheVariants as scheds
 pub use Rattle.rs_sched.specs.Lines.{lines_of, without_returns, is_comment}
 use Rattle.rs_sched.specs.Reader.{line_at, sites_after, events_of}
-pub use Rattle.rs_world.specs.Accepted.{may_come, is_open_after, are_accepted}
+pub use Rattle.rs_course.specs.Played.{may_come, is_open_after, are_accepted}
 use Rattle.rs_run.specs.declared.source.Cause.{Cause}
 use Rattle.rs_run.specs.declared.source.Cause.TheVariants as causes
 use Rattle.rs_run.specs.declared.source.Refusal.{Refusal}

@@ -11,7 +11,6 @@ use std::alloc::Global;
 
 /// Returns the text of the report of a source, or the line at which the bytes are refused. The bytes and their events are
 /// freed before the report is put together.
-#[tactic(auto, using(crate::proofs::FewEvents::few_events))]
 pub fn report_text(alloc: Global, bytes: Bytes) -> Result<Bytes, SourceFault>
     ensures reported { IfOk result (λ text. Reports bytes text) }
     ensures refused { (refusal : Refusal) → result ≡ Err (SourceFault.Refused refusal) → IsRefusal bytes refusal.line refusal.cause }

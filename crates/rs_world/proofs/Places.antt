@@ -5,7 +5,7 @@ use Rattle.std.specs.List.{enumerate_from}
 use Rattle.std.proofs.lemmas.List.{take_more, length-take, append-nil}
 use Rattle.std.proofs.lemmas.List.Concat.{flat_map-append}
 
-enumerate_from-push : {X : Type 0} (n : ℕ) (xs : List X) (x : X) → enumerate_from n (xs ++ x ∷ []) ≡ enumerate_from n xs ++ (n + length xs, x) ∷ []
+pub enumerate_from-push : {X : Type 0} (n : ℕ) (xs : List X) (x : X) → enumerate_from n (xs ++ x ∷ []) ≡ enumerate_from n xs ++ (n + length xs, x) ∷ []
 enumerate_from-push {X} n [] x = ap (λ (k : ℕ). (k, x) ∷ []) (omega arith)
 enumerate_from-push {X} n (y ∷ ys) x =
     let position : (n + 1) + length ys ≡ n + length (y ∷ ys) = omega arith in

@@ -1,8 +1,4 @@
-pub mod Accepted
-pub mod Answered
-pub mod Course
-pub mod Explains
-pub mod History
-pub mod States
+pub mod Entries
+pub mod Inside
 pub mod ReportText
 pub mod Sites

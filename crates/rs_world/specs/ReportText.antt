@@ -1,14 +1,13 @@
 -- The text of a report.
-use Rattle.std.specs.Prelude.{ℕ, List, ◌++◌, flat_map, length, decimal, codes}
+use Rattle.std.specs.Prelude.{ℕ, List, ◌++◌, flat_map, length, decimal, codes, Option, Some, None}
 use Rattle.std.specs.List.{enumerate_from}
-use Rattle.rs_base.specs.declared.name.Swn.{Swn}
 use Rattle.rs_base.specs.Printing.{printed_swn}
 use Rattle.rs_print.specs.Replies.{printed_row, printed_txn, printed_origin, printed_reply}
-use Rattle.rs_mean.specs.declared.table.Table.{Table}
 use Rattle.rs_site.specs.declared.outs.Decided.{Decided}
-use Rattle.rs_world.specs.declared.report.Given.{Given}
-use Rattle.rs_world.specs.declared.report.SiteView.{SiteView}
-use Rattle.rs_world.specs.declared.report.Report.{Report}
+use Rattle.rs_course.specs.declared.report.Given.{Given}
+use Rattle.rs_course.specs.declared.report.SiteView.{SiteView}
+use Rattle.rs_course.specs.declared.report.Report.{Report}
+use Rattle.rs_course.specs.declared.report.TableView.{TableView}
 
 abbrev pub printed_given : Given → List ℕ
 printed_given given = printed_reply given.origin given.reply
@@ -18,15 +17,20 @@ abbrev pub printed_entry : ℕ × Decided → List ℕ
 printed_entry (i, entry) = decimal i ++ codes " " ++ printed_txn entry.txn ++ codes " " ++ printed_origin entry.origin ++ codes " " ++ entry.text ++ codes "\n"
 
 -- a line with its name, the transaction that created it and the number of its rows
-unfoldable pub printed_table_line : Swn → Table → List ℕ
-printed_table_line name table = codes "table " ++ printed_swn name ++ codes " made " ++ printed_txn table.made ++ codes " rows " ++ decimal (length table.rows) ++ codes "\n"
+unfoldable pub printed_table_line : TableView → List ℕ
+printed_table_line table = codes "table " ++ printed_swn table.name ++ codes " made " ++ printed_txn table.made ++ codes " rows " ++ decimal (length table.rows) ++ codes "\n"
 
 -- that line, and a line for each row
-abbrev pub printed_table : Swn × Table → List ℕ
-printed_table named = printed_table_line named.0 named.1 ++ flat_map printed_row named.1.rows
+abbrev pub printed_table : TableView → List ℕ
+printed_table table = printed_table_line table ++ flat_map printed_row table.rows
+
+-- whether the site is up, and in which epoch
+abbrev pub printed_state : Option ℕ → List ℕ
+printed_state (Some epoch) = codes " up " ++ decimal epoch ++ codes "\n"
+printed_state None = codes " down\n"
 
 abbrev pub printed_site : SiteView → List ℕ
-printed_site view = codes "site " ++ decimal view.site ++ codes " up " ++ decimal view.epoch ++ codes "\n" ++ flat_map printed_table view.tables.tables
+printed_site view = codes "site " ++ decimal view.site ++ printed_state view.up ++ flat_map printed_table view.tables
 
 -- the number of entries, and a line for each
 abbrev pub printed_history : List Decided → List ℕ

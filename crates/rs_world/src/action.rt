@@ -1,13 +1,14 @@
 //! The actions of a world, one at a time.
 
-ghost use Rattle.std.specs.Prelude.{◌≡◌, replicate, fold, IfOk, OnOk, IsTrue, ◌↔◌, ◌≤◌, length};
+ghost use Rattle.std.specs.Prelude.{◌≡◌, replicate, fold, None, IfOk, OnOk, IsTrue, ◌↔◌};
 ghost use Rattle.rs_msg.specs.declared.message.Message.TheVariants as messages;
 ghost use Rattle.rs_site.specs.declared.input.Input.TheVariants as inputs;
-ghost use Rattle.rs_world.specs.Course as spec;
+ghost use Rattle.rs_course.specs.Course as spec;
 
 use crate::sites::Sites;
-use crate::world::{Datagram, World};
+use crate::world::World;
 use rs_base::{Bytes, NoMemory, Origin, Peer, ReadFault, SiteNo};
+use rs_course::Datagram;
 use rs_msg::{Ask, Message, decode, encode};
 use rs_site::Input;
 use std::alloc::Global;
@@ -81,15 +82,16 @@ impl World {
         }
     }
 
+    /// Returns whether no datagram is pending.
     fn is_settled(&self) -> bool
-        ensures { IsTrue result ↔ (length self.now.sent ≤ self.now.delivered) }
+        ensures { IsTrue result ↔ (spec.lowest_pending self.now ≡ None) }
     {
         self.sent.len() <= self.delivered
     }
 
     /// Delivers the first datagram that wasn't delivered yet, if there is one.
     fn deliver_next(&mut self, alloc: Global) -> Result<(), NoMemory>
-        ensures { OnOk result (self.new ≡ spec.act self.old spec.Deliver) }
+        ensures { OnOk result (self.new ≡ spec.act self.old spec.GiveNext) }
     {
         let Some(datagram) = self.sent.as_slice().get(self.delivered) else {
             return Ok(());
@@ -103,7 +105,7 @@ impl World {
     /// Delivers at most `most` datagrams, and no more than are left.
     #[tactic(auto, using(crate::proofs::Deliveries::none_left, crate::proofs::Deliveries::one_of))]
     fn deliver_most(&mut self, alloc: Global, most: usize) -> Result<(), NoMemory>
-        ensures { OnOk result (self.new ≡ fold spec.act self.old (replicate most spec.Deliver)) }
+        ensures { OnOk result (self.new ≡ fold spec.act self.old (replicate most spec.GiveNext)) }
     {
         for _ in 0..most {
             if self.is_settled() {
@@ -114,7 +116,6 @@ impl World {
         Ok(())
     }
 
-    #[tactic(auto, unfolding(crate::specs::Course::deliveries))]
     pub(crate) fn settle(&mut self, alloc: Global) -> Result<(), NoMemory>
         ensures { OnOk result (self.new ≡ fold spec.act self.old spec.deliveries) }
     {

@@ -1,8 +1,8 @@
-//! A world of sites: its course by the events of a schedule, and its report.
+//! A world of sites: the engine that plays the events of a schedule, and its report.
 #![tactic(auto)]
 
 mod action;
-pub mod laws;
+mod history;
 mod print;
 mod queue;
 mod report;
@@ -10,7 +10,7 @@ mod sites;
 mod stepping;
 mod world;
 
+pub use history::History;
 pub use print::print_report;
-pub use report::{Given, ReplyList, Report, SiteView, SiteViews};
 pub use sites::Sites;
-pub use world::{Datagram, World};
+pub use world::World;

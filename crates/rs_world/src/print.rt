@@ -5,9 +5,8 @@ ghost use Rattle.std.specs.List.{enumerate_from};
 ghost use Rattle.rs_print.specs.Replies.{printed_row};
 ghost use Rattle.rs_world.specs.ReportText as spec;
 
-use crate::report::{Given, Report, SiteView};
-use rs_base::{Bytes, NoMemory, Swn};
-use rs_mean::{Database, Table};
+use rs_base::{Bytes, NoMemory};
+use rs_course::{Given, Report, SiteView, TableView};
 use rs_print::append;
 use rs_rows::RowRun;
 use rs_site::Decided;
@@ -67,11 +66,11 @@ fn print_rows(rows: &RowRun<'_>, out: &mut Bytes) -> Result<(), NoMemory>
 }
 
 #[tactic(auto, unfolding(crate::specs::ReportText::printed_table_line))]
-fn print_table_line(name: &Swn, table: &Table, out: &mut Bytes) -> Result<(), NoMemory>
-    ensures { OnOk result (out.new ≡ out.old ++ spec.printed_table_line name.now table.now) }
+fn print_table_line(table: &TableView, out: &mut Bytes) -> Result<(), NoMemory>
+    ensures { OnOk result (out.new ≡ out.old ++ spec.printed_table_line table.now) }
 {
     out.extend(b"table ")?;
-    append::swn(out, name)?;
+    append::swn(out, &table.name)?;
     out.extend(b" made ")?;
     append::txn(out, &table.made)?;
     out.extend(b" rows ")?;
@@ -79,20 +78,33 @@ fn print_table_line(name: &Swn, table: &Table, out: &mut Bytes) -> Result<(), No
     out.extend(b"\n")
 }
 
-fn print_table(name: &Swn, table: &Table, out: &mut Bytes) -> Result<(), NoMemory>
-    ensures { OnOk result (out.new ≡ out.old ++ spec.printed_table (name.now, table.now)) }
+fn print_table(table: &TableView, out: &mut Bytes) -> Result<(), NoMemory>
+    ensures { OnOk result (out.new ≡ out.old ++ spec.printed_table table.now) }
 {
-    print_table_line(name, table, out)?;
+    print_table_line(table, out)?;
     print_rows(&table.rows.as_run(), out)
 }
 
-fn print_tables(database: &Database, out: &mut Bytes) -> Result<(), NoMemory>
-    ensures { OnOk result (out.new ≡ out.old ++ flat_map spec.printed_table database.now.tables) }
+fn print_tables(tables: &[TableView], out: &mut Bytes) -> Result<(), NoMemory>
+    ensures { OnOk result (out.new ≡ out.old ++ flat_map spec.printed_table tables.now) }
 {
-    for (name, table) in database.tables() {
-        print_table(name, table, out)?;
+    for table in tables {
+        print_table(table, out)?;
     }
     Ok(())
+}
+
+fn print_state(up: Option<u32>, out: &mut Bytes) -> Result<(), NoMemory>
+    ensures { OnOk result (out.new ≡ out.old ++ spec.printed_state up) }
+{
+    match up {
+        Some(epoch) => {
+            out.extend(b" up ")?;
+            append::number(out, u64::from(epoch))?;
+            out.extend(b"\n")
+        }
+        None => out.extend(b" down\n"),
+    }
 }
 
 fn print_site(view: &SiteView, out: &mut Bytes) -> Result<(), NoMemory>
@@ -100,10 +112,8 @@ fn print_site(view: &SiteView, out: &mut Bytes) -> Result<(), NoMemory>
 {
     out.extend(b"site ")?;
     append::number(out, u64::from(view.site.number()))?;
-    out.extend(b" up ")?;
-    append::number(out, u64::from(view.epoch))?;
-    out.extend(b"\n")?;
-    print_tables(&view.tables, out)
+    print_state(view.up, out)?;
+    print_tables(view.tables.as_slice(), out)
 }
 
 fn print_sites(sites: &[SiteView], out: &mut Bytes) -> Result<(), NoMemory>

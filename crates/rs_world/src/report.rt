@@ -1,52 +1,47 @@
-//! The report of a world.
+//! What a site shows in a report.
 
-ghost use Rattle.std.specs.Prelude.{◌≡◌};
-ghost use Rattle.rs_world.specs.Course.{view_of};
+ghost use Rattle.std.specs.Prelude.{◌≡◌, [], ◌∷◌, ◌++◌, map, filter, Some, IfOk, OnOk};
+ghost use Rattle.rs_course.specs.Report.{is_at_site, table_view, tables_at, view_when};
 
-use rs_base::{Origin, Reply, SiteNo};
-use rs_mean::Database;
-use rs_site::{Decideds, Site};
-use sqlite_items::Items;
+use rs_base::{NoMemory, SiteNo, Swn};
+use rs_course::{SiteView, TableView, TableViews};
+use rs_mean::{Database, Table};
+use rs_site::Site;
+use std::alloc::Global;
 
-/// A reply, and the request that it answers, as it was asked.
-#[derive(Drop)]
-pub struct Given {
-    pub origin: Origin,
-    pub reply: Reply,
-}
-
-/// Replies in the order in which they were given.
-pub type ReplyList = Items<Given>;
-
-/// The view of a site that is up: its epoch and its tables.
-#[derive(Drop)]
-pub struct SiteView {
-    pub site: SiteNo,
-    pub epoch: u32,
-    pub tables: Database,
-}
-
-impl SiteView {
-    /// Returns the view of a site.
-    pub fn of(site: Site) -> SiteView
-        ensures { result ≡ view_of site }
-    {
-        SiteView {
-            site: site.me(),
-            epoch: site.epoch(),
-            tables: site.into_database(),
-        }
+/// Appends the view of the table, if the site of this number stores it.
+fn add_view(number: SiteNo, name: Swn, table: Table, views: &mut TableViews) -> Result<(), NoMemory>
+    ensures { OnOk result (views.new ≡ views.old ++ map table_view (filter (is_at_site number) ((name, table) ∷ []))) }
+{
+    if table.place != number {
+        return Ok(());
     }
+    views.push(TableView {
+        name,
+        made: table.made,
+        rows: table.rows,
+    })?;
+    Ok(())
 }
 
-/// The view of each site, sorted by number.
-pub type SiteViews = Items<SiteView>;
+/// Moves the tables that the site of this number stores into their views.
+fn table_views(alloc: Global, number: SiteNo, database: Database) -> Result<TableViews, NoMemory>
+    ensures { IfOk result (λ tables. tables ≡ tables_at number database) }
+{
+    let mut views = TableViews::new(alloc);
+    for (name, table) in database.into_tables() {
+        add_view(number, name, table, &mut views)?;
+    }
+    Ok(views)
+}
 
-/// The replies, the committed executions in their serial order, the number of stored sections that ran, and the sites.
-#[derive(Drop)]
-pub struct Report {
-    pub replies: ReplyList,
-    pub history: Decideds,
-    pub runs: u64,
-    pub sites: SiteViews,
+/// Returns the view of the site of this number, which is up.
+pub fn site_view(alloc: Global, number: SiteNo, site: Site) -> Result<SiteView, NoMemory>
+    ensures { IfOk result (λ view. view ≡ view_when number (Some site)) }
+{
+    Ok(SiteView {
+        site: number,
+        up: Some(site.epoch()),
+        tables: table_views(alloc, number, site.into_database())?,
+    })
 }

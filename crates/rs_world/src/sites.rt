@@ -1,30 +1,33 @@
 //! The sites of a world.
 
 ghost use Rattle.std.specs.Prelude.{◌≡◌, ◌-◌, [], map, IfOk, OnErr, slice_get};
-ghost use Rattle.std.specs.List.{range_with_len};
+ghost use Rattle.std.specs.List.{enumerate_from, range_with_len};
 ghost use Rattle.rs_site.specs.State.{opened};
-ghost use Rattle.rs_world.specs.Course.{view_of};
+ghost use Rattle.rs_course.specs.Report.{view_of};
 ghost use Rattle.rs_world.specs.Sites as spec;
 
-use crate::report::{SiteView, SiteViews};
+use crate::report::site_view;
 use rs_base::{NoMemory, SiteNo};
+use rs_course::SiteViews;
 use rs_site::{Input, Outs, Site};
 use std::alloc::Global;
 use std::marker::Model;
 
-/// Sites 1 and up. Contracts see the list of their states.
+/// Sites 1 and up, at most 16. Contracts see the list of their states.
 #[derive(Drop)]
 pub struct Sites {
     sites: Vec<Site>,
 }
 
 impl Model for Sites {
-    ghost use Rattle.std.specs.Prelude.{List};
+    ghost use Rattle.std.specs.Prelude.{List, ◌≤◌, length};
     ghost use Rattle.rs_site.specs.State.{SiteState};
 
     ghost Value = { List SiteState };
 
     ghost view = { λ it. it.sites.items };
+
+    ghost invariant = { λ it. length it.sites.items ≤ 16 };
 }
 
 impl Sites {
@@ -71,12 +74,17 @@ impl Sites {
 
     /// Returns the view of each site.
     pub fn into_views(self, alloc: Global) -> Result<SiteViews, NoMemory>
-        ensures { IfOk result (λ views. views ≡ map view_of self) }
+        ensures { IfOk result (λ views. views ≡ map view_of (enumerate_from 1 (spec.places_of self))) }
     {
         let Sites { sites } = self;
         let mut views = SiteViews::new(alloc);
+        let mut before = 0u16;
         for site in sites {
-            views.push(SiteView::of(site))?;
+            let Some(number) = SiteNo::new(before + 1) else {
+                unreachable!();
+            };
+            views.push(site_view(alloc, number, site)?)?;
+            before += 1;
         }
         Ok(views)
     }

@@ -1,12 +1,12 @@
 //! A site of the world handles an input.
 
-ghost use Rattle.std.specs.Prelude.{◌≡◌, ◌++◌, map, flat_map, OnOk};
-ghost use Rattle.rs_world.specs.Course as spec;
+ghost use Rattle.std.specs.Prelude.{◌≡◌, ◌++◌, map, flat_map, Some, OnOk};
+ghost use Rattle.rs_course.specs.Course as spec;
 
 use crate::queue::reversed;
-use crate::report::{Given, ReplyList};
-use crate::world::{Datagram, World};
+use crate::world::World;
 use rs_base::{Bytes, Datagrams, NoMemory, Peer, SiteNo};
+use rs_course::{Datagram, Given, ReplyList};
 use rs_site::{Input, Outs, Tolds};
 use sqlite_items::Items;
 use std::alloc::Global;
@@ -69,8 +69,7 @@ impl World {
         } = outs;
         send_all(alloc, &mut self.sent, site, sends)?;
         give_all(alloc, &mut self.replies, replies)?;
-        self.history.append(decided)?;
-        Ok(())
+        self.history.append_new(alloc, decided)
     }
 
     /// Gives the site of this number an input, if there is such a site.
@@ -80,7 +79,7 @@ impl World {
         site: SiteNo,
         input: &Input,
     ) -> Result<(), NoMemory>
-        ensures { OnOk result (self.new ≡ spec.stepped_by self.old site input.now) }
+        ensures { OnOk result (self.new ≡ spec.stepped_by self.old (Some (site, input.now))) }
     {
         match self.sites.step(alloc, site, input)? {
             Some(outs) => self.take_outs(alloc, site, outs),

@@ -1,51 +1,51 @@
-//! A world of sites, and its actions.
+//! A world of sites, and the events that it plays.
 
-ghost use Rattle.std.specs.Prelude.{◌≡◌, List, false, IsTrue, OnOk, IfOk};
-ghost use Rattle.rs_sched.specs.declared.event.Event.{Event};
-ghost use Rattle.rs_sched.specs.Schedule.{IsValid};
-ghost use Rattle.rs_world.specs.Accepted.{are_accepted};
-ghost use Rattle.rs_world.specs.Answered.{EachAskIsAnswered, HaveTransactions};
-ghost use Rattle.rs_world.specs.Course as spec;
-ghost use Rattle.rs_world.specs.Explains.{Explains};
+ghost use Rattle.std.specs.Prelude.{◌≡◌, OnOk, IfOk};
+ghost use Rattle.rs_course.specs.Course as spec;
+ghost use Rattle.rs_course.specs.Report.{report_of};
+ghost use Rattle.rs_course.specs.World.{start};
 
-use crate::report::{ReplyList, Report};
+use crate::history::History;
 use crate::sites::Sites;
-use rs_base::{Bytes, NoMemory, Peer, SiteNo};
+use rs_base::NoMemory;
+use rs_course::{Datagram, ReplyList, Report};
 use rs_sched::Event;
-use rs_site::Decideds;
 use sqlite_items::Items;
 use std::alloc::Global;
+use std::marker::Model;
 
-/// A datagram as it was sent to a site.
-#[derive(Drop)]
-pub struct Datagram {
-    pub from: Peer,
-    pub to: SiteNo,
-    pub bytes: Bytes,
-}
-
-/// Sites 1 and up, the datagrams in the order in which they were sent, the number of them delivered, the replies and the
-/// committed executions, in their order.
+/// A world of sites. It changes by `step` alone.
 #[derive(Drop)]
 pub struct World {
-    pub sites: Sites,
-    pub sent: Items<Datagram>,
-    pub delivered: usize,
-    pub replies: ReplyList,
-    pub history: Decideds,
+    pub(crate) sites: Sites,
+    /// The datagrams in the order in which they were sent.
+    pub(crate) sent: Items<Datagram>,
+    /// The number of them that were delivered, from the first on.
+    pub(crate) delivered: usize,
+    pub(crate) replies: ReplyList,
+    pub(crate) history: History,
+}
+
+impl Model for World {
+    ghost use Rattle.rs_course.specs.World.{World};
+    ghost use Rattle.rs_world.specs.Inside.{world_of};
+
+    ghost Value = { World };
+
+    ghost view = { world_of };
 }
 
 impl World {
     /// Makes the world before the first event.
     pub fn new(alloc: Global) -> World
-        ensures { result ≡ spec.start }
+        ensures { result ≡ start }
     {
         World {
             sites: Sites::new(alloc),
             sent: Items::new(alloc),
             delivered: 0,
             replies: ReplyList::new(alloc),
-            history: Decideds::new(alloc),
+            history: History::new(alloc),
         }
     }
 
@@ -77,8 +77,9 @@ impl World {
         Ok(world)
     }
 
-    fn reported(self, alloc: Global) -> Result<Report, NoMemory>
-        ensures { IfOk result (λ report. report ≡ spec.report_of self) }
+    /// Returns the report of a world that is no longer used.
+    pub fn into_report(self, alloc: Global) -> Result<Report, NoMemory>
+        ensures { IfOk result (λ report. report ≡ report_of self) }
     {
         let World {
             sites,
@@ -88,19 +89,9 @@ impl World {
         } = self;
         Ok(Report {
             replies,
-            history,
+            history: history.into_entries(),
             runs: 0,
             sites: sites.into_views(alloc)?,
         })
-    }
-
-    /// Returns the report of the world. It explains each valid and accepted list of events that led to the world, and if
-    /// they are fewer than 2 ^ 64 - 1, each ask of these is answered.
-    pub fn into_report(self, alloc: Global) -> Result<Report, NoMemory>
-        ensures value { IfOk result (λ report. report ≡ spec.report_of self) }
-        ensures explains { IfOk result (λ report. (events : List Event) → IsValid events → IsTrue (are_accepted false events) → self ≡ spec.course events → Explains events report) }
-        ensures answers { IfOk result (λ report. (events : List Event) → IsValid events → IsTrue (are_accepted false events) → HaveTransactions events → self ≡ spec.course events → EachAskIsAnswered events report) }
-    {
-        self.reported(alloc)
     }
 }

@@ -1,7 +1,7 @@
 use Rattle.std.proofs.Common.{List, false, IsTrue, subst}
 use Rattle.std.proofs.lemmas.Result.{err_from_is_err_and}
 use Rattle.rs_sched.specs.declared.event.Event.{Event}
-use Rattle.rs_world.specs.Accepted.{are_accepted}
+use Rattle.rs_course.specs.Played.{are_accepted}
 use Rattle.rs_run.proofs.ReadingOf.{bad_reading, played_reading, lines_reading}
 use Rattle.rs_run.proofs.source.read_source.Goals as goal
 

@@ -1,5 +1,5 @@
 use Rattle.std.proofs.Common.{◌≡◌, ◌++◌, map, reverse, length}
-use Rattle.rs_world.specs.Course.{given_of}
+use Rattle.rs_course.specs.Course.{given_of}
 use Rattle.rs_world.proofs.stepping.give_all.Given as goal
 
 abbrev pub invariant-loop-reported : goal.invariant-loop-reported

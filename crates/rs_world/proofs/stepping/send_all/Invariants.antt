@@ -1,5 +1,5 @@
 use Rattle.std.proofs.Common.{◌≡◌, ◌++◌, flat_map, reverse, length}
-use Rattle.rs_world.specs.Course.{sent_by}
+use Rattle.rs_course.specs.Course.{sent_by}
 use Rattle.rs_world.proofs.stepping.send_all.Given as goal
 
 abbrev pub invariant-loop-to : goal.invariant-loop-to

@@ -1,5 +1,0 @@
-use Rattle.rs_world.proofs.Explaining.{explains}
-use Rattle.rs_world.proofs.laws.explained.Goals as goal
-
-pub returns : goal.returns
-returns c = explains
