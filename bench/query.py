@@ -1,8 +1,11 @@
 #!/usr/bin/env python3
-"""Times queries and changes over large tables: a join of two tables of 1,000 rows, a GROUP BY and an UPDATE of 50,000.
+"""Times queries and changes over large tables: joins on a key of two tables of 1,000 to 64,000 rows, a count over three
+tables of 1,000 rows of which none satisfies a clause over the last, a GROUP BY and an UPDATE of 50,000.
 
-Each statement is asked 40 times, and the same schedule without it is taken off. Bounds: a join of 1,000 by 1,000 rows takes
-at most 0.1 s, and twice the rows take at most 2.6 times the time. The status says whether they held (see program.py).
+Each statement is asked 40 times, and the same schedule without it is taken off. Bounds: the joins of 1,000 by 1,000 and of
+16,000 by 16,000 rows take at most 0.1 s each, and twice the rows from 16,000 on at most 2.4 times the time; the count takes
+at most 0.01 s; twice the rows of a GROUP BY and of an UPDATE take at most 2.6 times the time. The status says whether they
+held (see program.py).
 """
 
 from program import Bounds, Runs, Schedule
@@ -11,6 +14,7 @@ TIMES = 40
 PIECE = 500
 
 JOIN = "SELECT COUNT(*) FROM t a, u b WHERE a.k = b.k"
+NO_ROW = "SELECT COUNT(*) FROM t a, t b, t c WHERE c.k = -1"
 GROUP = "SELECT v, COUNT(*), SUM(k) FROM t GROUP BY v"
 UPDATE = "UPDATE t SET v = v + 1"
 
@@ -36,9 +40,18 @@ def cost_of(tables, text):
 
 
 bounds = Bounds()
-seconds, noise = cost_of([("t", 1_000), ("u", 1_000)], JOIN)
-print(f"join of two tables of 1,000 rows: {seconds:.4f} s, give or take {noise:.4f} s")
-bounds.at_most("seconds", seconds, 0.1)
+half = None
+for rows in (1_000, 16_000, 32_000, 64_000):
+    seconds, noise = cost_of([("t", rows), ("u", rows)], JOIN)
+    print(f"join of two tables of {rows:,} rows: {seconds:.4f} s, give or take {noise:.4f} s")
+    if rows <= 16_000:
+        bounds.at_most("seconds", seconds, 0.1)
+    else:
+        bounds.ratio("times that of half as many rows", seconds, half[0], max(noise, half[1]), 2.4)
+    half = seconds, noise
+seconds, noise = cost_of([("t", 1_000)], NO_ROW)
+print(f"count over three tables of 1,000 rows, no row of the last: {seconds:.4f} s, give or take {noise:.4f} s")
+bounds.at_most("seconds", seconds, 0.01)
 for name, text in (("GROUP BY", GROUP), ("UPDATE", UPDATE)):
     half, half_noise = cost_of([("t", 25_000)], text)
     whole, noise = cost_of([("t", 50_000)], text)
