@@ -32,14 +32,16 @@ rises slots i j d rising less within =
 
 -- what a binary search finds
 pub found_by_search : (number : ℕ) (slots : List Slot) (r : Result ℕ ℕ) → IsStrictlySortedBy nat_cmp (slot_numbers slots) → IsSearchInRange r (length slots) → IsBinarySearchResult (λ slot. nat_cmp slot.number number) slots r → MatchOption (result_ok r) (Lacks number slots) (HasAt number slots)
-found_by_search number slots (Ok at) rising within found = (within, λ d. ranked (get_or slots at d).number number Equal (sym (found d)))
+found_by_search number slots (Ok at) rising within found = record { within = within; same = λ d. ranked (get_or slots at d).number number Equal (sym (found d)) }
 found_by_search number slots (Err at) rising within found =
     let parted = found (searchable_from_sorted nat_cmp_total (λ (slot : Slot). slot.number) slots number (λ k d low high. not_less _ _ (rises slots k (k + 1) d rising (omega arith) high))) in
-    λ k d inside same.
-    elim (cases_lt k at) [
-      | inl before ↦ (let less : (get_or slots k d).number < number = ranked (get_or slots k d).number number Less (sym (parted.0 k d (omega arith) before)) in omega arith)
-      | inr after ↦ (let less : number < (get_or slots k d).number = ranked (get_or slots k d).number number Greater (sym (parted.1 k d after inside)) in omega arith)
-    ]
+    record {
+      none = λ k d inside same.
+          elim (cases_lt k at) [
+            | inl before ↦ (let less : (get_or slots k d).number < number = ranked (get_or slots k d).number number Less (sym (parted.0 k d (omega arith) before)) in omega arith)
+            | inr after ↦ (let less : number < (get_or slots k d).number = ranked (get_or slots k d).number number Greater (sym (parted.1 k d after inside)) in omega arith)
+          ];
+    }
 
 -- ---- one slot before others
 
@@ -78,15 +80,17 @@ pub absent : (number : ℕ) (slots : List Slot) → Lacks number slots → row_o
 absent number [] lacks = refl
 absent number (slot ∷ slots) lacks =
     let Other : Slot → Type 0 = λ other. other.number ≢ number in
-    let differ : slot.number ≢ number = All-head Other slot slots lacks in
+    let differ : slot.number ≢ number = All-head Other slot slots lacks.none in
     found_after number slot.number slot.row (rows_in slots) (ne_eqb number slot.number (λ same. differ (sym same)))
-    ∙ absent number slots (All-tail Other slot slots lacks)
+    ∙ absent number slots (record { none = All-tail Other slot slots lacks.none })
 
 -- the slots after one have other numbers
 after : (slot : Slot) (slots : List Slot) → IsStrictlySortedBy nat_cmp (slot_numbers (slot ∷ slots)) → Lacks slot.number slots
-after slot slots rising = λ k d inside same.
-    let less : slot.number < (get_or slots k d).number = rises (slot ∷ slots) zero (suc k) d rising (omega arith) (omega arith) in
-    omega arith
+after slot slots rising = record {
+  none = λ k d inside same.
+      let less : slot.number < (get_or slots k d).number = rises (slot ∷ slots) zero (suc k) d rising (omega arith) (omega arith) in
+      omega arith;
+}
 
 -- so does the slot before one
 apart : (number : ℕ) (slot : Slot) (slots : List Slot) (at : ℕ) (d : Slot) → IsStrictlySortedBy nat_cmp (slot_numbers (slot ∷ slots)) → at < length slots → (get_or slots at d).number ≡ number → (number == slot.number) ≡ false
@@ -94,49 +98,63 @@ apart number slot slots at d rising within same =
     let less : slot.number < (get_or slots at d).number = rises (slot ∷ slots) zero (suc at) d rising (omega arith) (omega arith) in
     ne_eqb number slot.number (λ equal. omega arith)
 
-pub row_found : (number : ℕ) (slots : List Slot) (at : ℕ) (d : Slot) → IsStrictlySortedBy nat_cmp (slot_numbers slots) → at < length slots → (get_or slots at d).number ≡ number → row_of number (rows_in slots) ≡ (get_or slots at d).row
-row_found number [] at d rising within same = absurd (omega arith)
-row_found number (slot ∷ slots) zero d rising within same =
+found_at : (number : ℕ) (slots : List Slot) (at : ℕ) (d : Slot) → IsStrictlySortedBy nat_cmp (slot_numbers slots) → at < length slots → (get_or slots at d).number ≡ number → row_of number (rows_in slots) ≡ (get_or slots at d).row
+found_at number [] at d rising within same = absurd (omega arith)
+found_at number (slot ∷ slots) zero d rising within same =
     let Claim : ℕ → Type 0 = λ n. row_of n (rows_in (slot ∷ slots)) ≡ slot.row in
     subst Claim same (found_first slot.number slot.row (rows_in slots) (absent slot.number slots (after slot slots rising)))
-row_found number (slot ∷ slots) (suc at) d rising within same =
+found_at number (slot ∷ slots) (suc at) d rising within same =
     let inside : at < length slots = omega arith in
     found_after number slot.number slot.row (rows_in slots) (apart number slot slots at d rising inside same)
-    ∙ row_found number slots at d (sorted_tail nat_cmp slot.number (slot_numbers slots) rising) inside same
+    ∙ found_at number slots at d (sorted_tail nat_cmp slot.number (slot_numbers slots) rising) inside same
 
 -- the slot with the number is made empty
-pub row_taken : (number : ℕ) (slots : List Slot) (at : ℕ) (d emptied : Slot) → IsStrictlySortedBy nat_cmp (slot_numbers slots) → at < length slots → (get_or slots at d).number ≡ number → emptied.row ≡ None → rows_in (set slots at emptied) ≡ without number (rows_in slots)
-row_taken number [] at d emptied rising within same none = absurd (omega arith)
-row_taken number (slot ∷ slots) zero d emptied rising within same none =
+taken_at : (number : ℕ) (slots : List Slot) (at : ℕ) (d emptied : Slot) → IsStrictlySortedBy nat_cmp (slot_numbers slots) → at < length slots → (get_or slots at d).number ≡ number → emptied.row ≡ None → rows_in (set slots at emptied) ≡ without number (rows_in slots)
+taken_at number [] at d emptied rising within same none = absurd (omega arith)
+taken_at number (slot ∷ slots) zero d emptied rising within same none =
     let Claim : ℕ → Type 0 = λ n. without n (rows_in (slot ∷ slots)) ≡ rows_in slots in
     let gone : Claim number = subst Claim same (gone_first slot.number slot.row (rows_in slots) ∙ without_none slot.number (rows_in slots) (absent slot.number slots (after slot slots rising))) in
     rw none (sym gone)
-row_taken number (slot ∷ slots) (suc at) d emptied rising within same none =
+taken_at number (slot ∷ slots) (suc at) d emptied rising within same none =
     let inside : at < length slots = omega arith in
-    ap (λ (rows : RowsByNumber). put_first slot.number slot.row rows) (row_taken number slots at d emptied (sorted_tail nat_cmp slot.number (slot_numbers slots) rising) inside same none)
+    ap (λ (rows : RowsByNumber). put_first slot.number slot.row rows) (taken_at number slots at d emptied (sorted_tail nat_cmp slot.number (slot_numbers slots) rising) inside same none)
     ∙ sym (kept_first number slot.number slot.row (rows_in slots) (apart number slot slots at d rising inside same))
 
 -- the row of the slot with the number, if it has one, is another one
-pub row_swapped : (number : ℕ) (slots : List Slot) (at : ℕ) (d filled : Slot) (row : List Value) → IsStrictlySortedBy nat_cmp (slot_numbers slots) → at < length slots → (get_or slots at d).number ≡ number
+swapped_at : (number : ℕ) (slots : List Slot) (at : ℕ) (d filled : Slot) (row : List Value) → IsStrictlySortedBy nat_cmp (slot_numbers slots) → at < length slots → (get_or slots at d).number ≡ number
     → filled.number ≡ number → filled.row ≡ option_map (λ _. row) (get_or slots at d).row → rows_in (set slots at filled) ≡ with_row number row (rows_in slots)
-row_swapped number [] at d filled row rising within same named stored = absurd (omega arith)
-row_swapped number (slot ∷ slots) zero d filled row rising within same named stored =
+swapped_at number [] at d filled row rising within same named stored = absurd (omega arith)
+swapped_at number (slot ∷ slots) zero d filled row rising within same named stored =
     let Claim : ℕ → Type 0 = λ n. with_row n row (rows_in (slot ∷ slots)) ≡ put_first n (option_map (λ _. row) slot.row) (rows_in slots) in
     let others : with_row slot.number row (rows_in slots) ≡ rows_in slots = with_row_none slot.number row (rows_in slots) (absent slot.number slots (after slot slots rising)) in
     let written : Claim number = subst Claim same (set_first slot.number slot.row row (rows_in slots) ∙ ap (λ (rows : RowsByNumber). put_first slot.number (option_map (λ _. row) slot.row) rows) others) in
     rw (named, stored) (sym written)
-row_swapped number (slot ∷ slots) (suc at) d filled row rising within same named stored =
+swapped_at number (slot ∷ slots) (suc at) d filled row rising within same named stored =
     let inside : at < length slots = omega arith in
-    ap (λ (rows : RowsByNumber). put_first slot.number slot.row rows) (row_swapped number slots at d filled row (sorted_tail nat_cmp slot.number (slot_numbers slots) rising) inside same named stored)
+    ap (λ (rows : RowsByNumber). put_first slot.number slot.row rows) (swapped_at number slots at d filled row (sorted_tail nat_cmp slot.number (slot_numbers slots) rising) inside same named stored)
     ∙ sym (same_first number slot.number slot.row row (rows_in slots) (apart number slot slots at d rising inside same))
 
--- a slot is written that keeps its number
-pub numbers_stay : (slots : List Slot) (at : ℕ) (d written : Slot) → at < length slots → written.number ≡ (get_or slots at d).number → slot_numbers (set slots at written) ≡ slot_numbers slots
-numbers_stay slots at d written within same =
+stay_at : (slots : List Slot) (at : ℕ) (d written : Slot) → at < length slots → written.number ≡ (get_or slots at d).number → slot_numbers (set slots at written) ≡ slot_numbers slots
+stay_at slots at d written within same =
     let number : Slot → ℕ = λ slot. slot.number in
     map-set number slots at written
     ∙ ap (λ (n : ℕ). set (slot_numbers slots) at n) (same ∙ sym (get_or-map number slots at d d.number within))
     ∙ set-get_or (slot_numbers slots) at d.number
+
+pub row_found : (number : ℕ) (slots : List Slot) (at : ℕ) (d : Slot) → IsStrictlySortedBy nat_cmp (slot_numbers slots) → HasAt number slots at → (get_or slots at d).row ≡ row_of number (rows_in slots)
+row_found number slots at d rising has = sym (found_at number slots at d rising has.within (has.same d))
+
+pub row_taken : (number : ℕ) (slots : List Slot) (at : ℕ) (emptied : Slot) → IsStrictlySortedBy nat_cmp (slot_numbers slots) → HasAt number slots at → emptied.row ≡ None → rows_in (set slots at emptied) ≡ without number (rows_in slots)
+row_taken number slots at emptied rising has none = taken_at number slots at emptied emptied rising has.within (has.same emptied) none
+
+pub row_swapped : (number : ℕ) (slots : List Slot) (at : ℕ) (slot filled : Slot) (row : List Value) → IsStrictlySortedBy nat_cmp (slot_numbers slots) → HasAt number slots at → slot ≡ get_or slots at slot
+    → filled.number ≡ slot.number → filled.row ≡ option_map (λ _. row) slot.row → rows_in (set slots at filled) ≡ with_row number row (rows_in slots)
+row_swapped number slots at slot filled row rising has read named stored =
+    swapped_at number slots at slot filled row rising has.within (has.same slot) (named ∙ ap (λ (s : Slot). s.number) read ∙ has.same slot) (stored ∙ ap (λ (s : Slot). option_map (λ _. row) s.row) read)
+
+-- a slot is written that keeps its number
+pub numbers_stay : (number : ℕ) (slots : List Slot) (at : ℕ) (slot written : Slot) → HasAt number slots at → slot ≡ get_or slots at slot → written.number ≡ slot.number → slot_numbers (set slots at written) ≡ slot_numbers slots
+numbers_stay number slots at slot written has read same = stay_at slots at slot written has.within (same ∙ ap (λ (s : Slot). s.number) read)
 
 -- ---- the slots that have a row
 

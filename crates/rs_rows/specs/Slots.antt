@@ -19,12 +19,13 @@ abbrev pub is_live : Slot → Bool
 is_live slot = is_some slot.row
 
 -- no slot has this number
-abbrev pub Lacks : ℕ → List Slot → Type 0
-Lacks number slots = All (λ slot. slot.number ≢ number) slots
+pub record Lacks (number : ℕ) (slots : List Slot) : Type 0 where
+  pub none : All (λ slot. slot.number ≢ number) slots
 
 -- the slot at this position has this number
-abbrev pub HasAt : ℕ → List Slot → ℕ → Type 0
-HasAt number slots at = (at < length slots) × HoldsAt (λ slot. slot.number ≡ number) slots at
+pub record HasAt (number : ℕ) (slots : List Slot) (at : ℕ) : Type 0 where
+  pub within : at < length slots
+  pub same : HoldsAt (λ slot. slot.number ≡ number) slots at
 
 -- the numbers rise and are below the next, and the rows are counted
 pub record AreCounted (slots : List Slot) (live next : ℕ) : Type 0 where
