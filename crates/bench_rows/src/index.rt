@@ -4,7 +4,7 @@ use crate::random::Random;
 use rs_ast::Op;
 use rs_base::{NoMemory, ReadFault, Value, one_item};
 use rs_index::Index;
-use rs_rows::{TableRows, is_small};
+use rs_rows::{TableRows, fits_row};
 use std::alloc::Global;
 
 /// Makes an integer of this number, if it has 63 bits.
@@ -17,7 +17,7 @@ fn table(alloc: Global, size: u64) -> Result<TableRows, NoMemory> {
     let mut table = TableRows::new(alloc);
     for n in 0..size {
         let row = one_item(alloc, value_of(n))?;
-        if table.has_room() && is_small(row.as_slice()) {
+        if table.has_room() && fits_row(row.as_slice()) {
             table.insert(row)?;
         }
     }

@@ -2,7 +2,7 @@
 
 use crate::random::Random;
 use rs_base::{NoMemory, ReadFault, Row, Value, one_item};
-use rs_rows::{TableRows, is_small};
+use rs_rows::{TableRows, fits_row};
 use std::alloc::Global;
 
 /// Makes a row of one integer.
@@ -13,7 +13,7 @@ fn row_of(alloc: Global, n: i64) -> Result<Row, NoMemory> {
 /// Inserts a row of one integer, if there is room, and returns its number.
 fn insert(alloc: Global, table: &mut TableRows) -> Result<u64, NoMemory> {
     let row = row_of(alloc, 7)?;
-    if table.has_room() && is_small(row.as_slice()) {
+    if table.has_room() && fits_row(row.as_slice()) {
         return table.insert(row);
     }
     Ok(0)
@@ -60,7 +60,7 @@ fn replaces(alloc: Global, table: &mut TableRows, count: u64) -> Result<u64, NoM
     let mut found = 0u64;
     for _ in 0..count {
         let row = row_of(alloc, 8)?;
-        if is_small(row.as_slice()) && table.replace(random.below(table.next()), row).is_ok() {
+        if fits_row(row.as_slice()) && table.replace(random.below(table.next()), row).is_ok() {
             found = found.saturating_add(1);
         }
     }

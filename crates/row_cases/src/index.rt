@@ -8,7 +8,7 @@ use rs_access::{Access, FullScan, IndexScan, ValueList};
 use rs_ast::Op;
 use rs_base::{Bytes, NoMemory, ReadFault, print_number};
 use rs_index::Index;
-use rs_rows::{TableRows, is_small};
+use rs_rows::{TableRows, fits_row};
 use std::alloc::Global;
 
 /// A table, and the index that the calls are made on.
@@ -49,7 +49,7 @@ fn insert(
     out: &mut Bytes,
 ) -> Result<(), ReadFault> {
     let row = read_row(alloc, line)?;
-    if table.has_room() && is_small(row.as_slice()) {
+    if table.has_room() && fits_row(row.as_slice()) {
         let number = table.insert(row)?;
         print_number(alloc, number, out)?;
     }

@@ -3,7 +3,7 @@
 use crate::calls::Calls;
 use crate::values::{append_found, append_numbers, append_row, read_number, read_row};
 use rs_base::{Bytes, NoMemory, ReadFault, Row, Value, one_item, print_number};
-use rs_rows::{Counted, ReadRows, TableRows, is_small};
+use rs_rows::{Counted, ReadRows, TableRows, fits_row};
 use std::alloc::Global;
 
 /// The table that the calls are made on.
@@ -17,7 +17,7 @@ fn insert(alloc: Global, table: &mut TableRows, row: Row, out: &mut Bytes) -> Re
     if !table.has_room() {
         return out.extend(b"full");
     }
-    if !is_small(row.as_slice()) {
+    if !fits_row(row.as_slice()) {
         return out.extend(b"too large");
     }
     let number = table.insert(row)?;
@@ -43,7 +43,7 @@ fn replace(
 ) -> Result<(), ReadFault> {
     let (number, row) = line.split_once(' ').unwrap_or((line, ""));
     let row = read_row(alloc, row)?;
-    if !is_small(row.as_slice()) {
+    if !fits_row(row.as_slice()) {
         return Ok(out.extend(b"too large")?);
     }
     let replaced = table.replace(read_number(number)?, row);

@@ -1,10 +1,10 @@
 -- What a map's calls do to its entries, in the words of a table's rows.
-use Rattle.std.proofs.Common.{◌≡◌, ℕ, ◌+◌, ◌-◌, ◌*◌, ◌^◌, min, ◌<◌, ◌≤◌, ◌==◌, Bool, true, false, not, cond, if◌then◌else◌, List, [], ◌∷◌, ◌++◌, map, filter, length, sum_by, Option, Some, None, Ok, ok_or, IfSome, All, subst, refl, sym, ap, ◌∙◌, inl, inr, arith, length-append, is_eq, nat_cmp, Less}
+use Rattle.std.proofs.Common.{◌≡◌, ℕ, ◌+◌, ◌-◌, ◌*◌, ◌^◌, min, ◌<◌, ◌≤◌, ◌==◌, Bool, true, false, not, if◌then◌else◌, List, [], ◌∷◌, ◌++◌, map, filter, length, sum_by, Option, Some, None, Result, Ok, ok_or, OnErr, IfSome, All, subst, refl, sym, ap, ◌∙◌, inl, inr, arith, length-append, nat_cmp, Less}
 use Rattle.std.proofs.lemmas.Bool.{cases_Bool, le-ltb, ne_eqb}
 use Rattle.std.proofs.lemmas.Cmp.{ranked}
 use Rattle.std.proofs.lemmas.List.{length-map, map-append}
 use Rattle.std.proofs.lemmas.List.Elements.{All-push, All-weaker, All-filter, All-map, All-from_recursion, filter_agree, recursion_from_All}
-use Rattle.std.proofs.lemmas.List.Sums.{sum_by_push, sum_by-le, length-filter, count_by-le-length}
+use Rattle.std.proofs.lemmas.List.Sums.{sum_by_push, sum_by-cons, sum_by-le, length-filter, count_by-le-length}
 use Rattle.std.proofs.lemmas.Map.{NonePasses, none_passes_from_lookup}
 use Rattle.std.proofs.lemmas.Map.Entries.{none_past_head, sum_by-remove_entry, sum_by-set_value, All-lookup}
 use Rattle.std.proofs.lemmas.Map.Keys.{IsDistinct-from_sorted, IsDistinct-tail, sorted_head, sorted_tail}
@@ -13,7 +13,6 @@ use Rattle.std.specs.Cmp.{IsEquivalence, eq_by_cmp_equiv, nat_cmp_total, unsigne
 use Rattle.std.specs.List.{AllByRecursion, IsDistinct}
 use Rattle.std.specs.List.Sorted.{IsStrictlySortedBy}
 use Rattle.std.specs.Map.{keys_of, lookup, remove_entry, set_value, values_of}
-use Rattle.std.specs.Ordering.{eq_by_cmp}
 use Rattle.rs_base.specs.Sizes.{row_size}
 use Rattle.rs_base.specs.declared.value.Value.{Value}
 use Rattle.rs_rows.specs.TableRows.{TableRows, RowsByNumber, numbers, row_of, bytes_of, without, with_row, inserted, removed, replaced, IsSmall, HasRoom, IsTable}
@@ -129,6 +128,19 @@ bytes_replaced number old row table t found =
     let there : lookup (is_at (nat_cmp number)) table.rows ≡ Some old = found_by_number number table.rows ∙ found in
     rw (replaced_entry number row table.rows t.rising) at (sum_by-set_value row_size (is_at (nat_cmp number)) table.rows old row there)
 
+-- one row fewer
+pub count_removed : (number : ℕ) (row : List Value) (rows : RowsByNumber) → IsStrictlySortedBy nat_cmp (numbers rows) → row_of number rows ≡ Some row → length (without number rows) + 1 ≡ length rows
+count_removed number row rows rising found =
+    let there : lookup (is_at (nat_cmp number)) rows ≡ Some row = found_by_number number rows ∙ found in
+    let one : List Value → ℕ = λ _. 1 in
+    let fewer = rw (removed_entry number rows rising, there) at (sum_by-remove_entry one (is_at (nat_cmp number)) rows) in
+    let all : (entries : RowsByNumber) → sum_by one (values_of entries) ≡ length entries = counted in
+    omega (arith, fewer, all (without number rows), all rows)
+  where
+    counted : (entries : RowsByNumber) → sum_by (λ (_ : List Value). 1) (values_of entries) ≡ length entries
+    counted [] = refl
+    counted (entry ∷ entries) = omega (arith, sum_by-cons (λ (_ : List Value). 1) entry.1 (values_of entries), counted entries)
+
 pub table_inserted : (row : List Value) (table : TableRows) → IsTable table → HasRoom table → IsSmall row → IsStrictlySortedBy nat_cmp (numbers (inserted row table).rows) → IsTable (inserted row table)
 table_inserted row table t room small rising = record {
   rising = rising;
@@ -171,51 +183,51 @@ pub found_from_ok : {X : Type 0} (found : Option X) (given x : X) → ok_or foun
 found_from_ok None given x same = cc
 found_from_ok (Some y) given x same = cc
 
--- what holds of the fields after a row was removed
-pub record Removed (table : TableRows) (rows : RowsByNumber) (bytes size : ℕ) : Type 0 where
-  pub within : size ≤ bytes
-  pub left : IsTable (record table { rows = rows })
-  pub exact : bytes - size ≡ bytes_of rows
+-- an error comes only if there is no such row
+pub on_none_found : {X : Type 0} (P : Type 0) (found : Option X) (given : X) (answer : Result X X) → answer ≡ ok_or found given → (found ≡ None → P) → OnErr answer P
+on_none_found P None given answer same holds = rw same (holds refl)
+on_none_found P (Some x) given answer same holds = rw same tt
 
-pub kept_removed : (number : ℕ) (row : List Value) (table : TableRows) (rows : RowsByNumber) (bytes size : ℕ) → IsTable table → bytes ≡ bytes_of table.rows
-    → rows ≡ without number table.rows → IsStrictlySortedBy nat_cmp (numbers rows) → row_of number table.rows ≡ Some row → size ≡ min (row_size row) (2 ^ 64 - 1) → Removed table rows bytes size
-kept_removed number row table rows bytes size t exact same rising found sized =
+-- what holds of the fields after a row was removed
+pub record Removed (new : TableRows) (bytes size : ℕ) : Type 0 where
+  pub within : size ≤ bytes
+  pub left : IsTable new
+  pub exact : bytes - size ≡ bytes_of new.rows
+
+pub kept_removed : (number : ℕ) (row : List Value) (table new : TableRows) (bytes size : ℕ) → IsTable table → bytes ≡ bytes_of table.rows
+    → new ≡ removed number table → IsStrictlySortedBy nat_cmp (numbers new.rows) → row_of number table.rows ≡ Some row → size ≡ min (row_size row) (2 ^ 64 - 1) → Removed new bytes size
+kept_removed number row table new bytes size t exact same rising found sized =
     let small : row_size row ≤ 1024 = small_found number row table t found in
     let all : bytes_of (without number table.rows) + row_size row ≡ bytes_of table.rows = bytes_removed number row table t found in
-    let left : IsTable (removed number table) = table_removed number table t (subst (λ (rs : RowsByNumber). IsStrictlySortedBy nat_cmp (numbers rs)) same rising) in
+    let left : IsTable (removed number table) = table_removed number table t (subst (λ (it : TableRows). IsStrictlySortedBy nat_cmp (numbers it.rows)) same rising) in
     let rest : bytes - size ≡ bytes_of (without number table.rows) = omega arith in
     record {
       within = omega arith;
-      left = subst (λ (rs : RowsByNumber). IsTable (record table { rows = rs })) (sym same) left;
-      exact = rest ∙ ap bytes_of (sym same);
+      left = subst IsTable (sym same) left;
+      exact = rest ∙ ap (λ (it : TableRows). bytes_of it.rows) (sym same);
     }
 
-size_within : (number : ℕ) (row : List Value) (table : TableRows) (bytes size : ℕ) → IsTable table → bytes ≡ bytes_of table.rows → row_of number table.rows ≡ Some row → size ≡ min (row_size row) (2 ^ 64 - 1) → size ≤ bytes
-size_within number row table bytes size t exact found sized =
-    let all : bytes_of (without number table.rows) + row_size row ≡ bytes_of table.rows = bytes_removed number row table t found in
-    omega arith
-
 -- what holds of the fields after a row was replaced
-pub record Replaced (table : TableRows) (rows : RowsByNumber) (bytes size more : ℕ) : Type 0 where
+pub record Replaced (new : TableRows) (bytes size more : ℕ) : Type 0 where
   pub within : size ≤ bytes
   pub fits : bytes - size + more < 2 ^ 64
-  pub left : IsTable (record table { rows = rows })
-  pub exact : bytes - size + more ≡ bytes_of rows
+  pub left : IsTable new
+  pub exact : bytes - size + more ≡ bytes_of new.rows
 
-pub kept_replaced : (number : ℕ) (old row : List Value) (table : TableRows) (rows : RowsByNumber) (bytes size more : ℕ) → IsTable table → bytes ≡ bytes_of table.rows → IsSmall row
-    → rows ≡ with_row number row table.rows → IsStrictlySortedBy nat_cmp (numbers rows) → row_of number table.rows ≡ Some old → size ≡ min (row_size old) (2 ^ 64 - 1) → more ≡ min (row_size row) (2 ^ 64 - 1)
-    → Replaced table rows bytes size more
-kept_replaced number old row table rows bytes size more t exact fresh same rising found sized grown =
+pub kept_replaced : (number : ℕ) (old row : List Value) (table new : TableRows) (bytes size more : ℕ) → IsTable table → bytes ≡ bytes_of table.rows → IsSmall row
+    → new ≡ replaced number row table → IsStrictlySortedBy nat_cmp (numbers new.rows) → row_of number table.rows ≡ Some old → size ≡ min (row_size old) (2 ^ 64 - 1) → more ≡ min (row_size row) (2 ^ 64 - 1)
+    → Replaced new bytes size more
+kept_replaced number old row table new bytes size more t exact fresh same rising found sized grown =
     let small : row_size old ≤ 1024 = small_found number old table t found in
     let few : row_size row ≤ 1024 = fresh in
     let all : bytes_of (with_row number row table.rows) + row_size old ≡ bytes_of table.rows + row_size row = bytes_replaced number old row table t found in
-    let left : IsTable (replaced number row table) = table_replaced number row table t fresh (subst (λ (rs : RowsByNumber). IsStrictlySortedBy nat_cmp (numbers rs)) same rising) in
+    let left : IsTable (replaced number row table) = table_replaced number row table t fresh (subst (λ (it : TableRows). IsStrictlySortedBy nat_cmp (numbers it.rows)) same rising) in
     let most : bytes_of table.rows ≤ 67108864 = bytes_within table t in
-    let within : size ≤ bytes = size_within number old table bytes size t exact found sized in
+    let without_old : bytes_of (without number table.rows) + row_size old ≡ bytes_of table.rows = bytes_removed number old table t found in
     let rest : bytes - size + more ≡ bytes_of (with_row number row table.rows) = omega arith in
     record {
-      within = within;
+      within = omega arith;
       fits = omega arith;
-      left = subst (λ (rs : RowsByNumber). IsTable (record table { rows = rs })) (sym same) left;
-      exact = rest ∙ ap bytes_of (sym same);
+      left = subst IsTable (sym same) left;
+      exact = rest ∙ ap (λ (it : TableRows). bytes_of it.rows) (sym same);
     }

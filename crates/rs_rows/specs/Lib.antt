@@ -4,5 +4,6 @@ pub mod Inside
 pub mod Limits
 pub mod RowIter
 pub mod Sizes
+pub mod Slots
 pub mod TableInside
 pub mod TableRows

@@ -4,9 +4,9 @@ use Rattle.rs_rows.specs.TableRows.{TableRows, IsTable, bytes_of}
 use Rattle.rs_rows.specs.declared.table_rows.TableRows.TheInside.{Inside}
 
 abbrev pub table_of : Inside → TableRows
-table_of a = record { rows = a.rows.entries; next = a.next }
+table_of a = a.rows
 
 -- it is a table, and the stored size is that of its rows
 pub record IsKept (a : Inside) : Type 0 where
-  pub table : IsTable (table_of a)
-  pub bytes : a.bytes ≡ bytes_of a.rows.entries
+  pub table : IsTable a.rows
+  pub bytes : a.bytes ≡ bytes_of a.rows.rows

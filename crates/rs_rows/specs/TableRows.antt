@@ -1,5 +1,5 @@
 -- The rows of a table by number: what each change does, what a number finds, and what is true of every table.
-use Rattle.std.specs.Prelude.{◌≡◌, ℕ, ◌+◌, ◌^◌, ◌<◌, ◌≤◌, ◌==◌, not, if◌then◌else◌, Option, List, [], ◌∷◌, ◌++◌, length, map, filter, sum_by, All}
+use Rattle.std.specs.Prelude.{ℕ, ◌+◌, ◌^◌, ◌<◌, ◌≤◌, ◌==◌, not, if◌then◌else◌, Option, List, [], ◌∷◌, ◌++◌, length, map, filter, sum_by, All}
 use Rattle.std.specs.List.Sorted.{IsStrictlySortedBy}
 use Rattle.std.specs.Map.{lookup}
 use Rattle.std.specs.Ordering.{nat_cmp}
@@ -58,7 +58,7 @@ replaced number row table = record table { rows = with_row number row table.rows
 
 -- ---- limits
 
--- a row that a table may have
+-- a row that a table may have; `fits_row` of Limits is its test
 abbrev pub IsSmall : List Value → Type 0
 IsSmall row = row_size row ≤ max_row_bytes
 

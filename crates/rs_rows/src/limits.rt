@@ -1,9 +1,8 @@
 //! The limits of rows and tables.
 
-ghost use Rattle.std.specs.Prelude.{◌≡◌, ◌↔◌, ◌&&◌, ◌++◌, IsTrue};
+ghost use Rattle.std.specs.Prelude.{◌≡◌, ◌&&◌, ◌++◌};
 ghost use Rattle.std.specs.List.{list_all};
 ghost use Rattle.rs_rows.specs.Limits as spec;
-ghost use Rattle.rs_rows.specs.TableRows.{IsSmall};
 
 use crate::row_run::RowRun;
 use crate::stored_rows::StoredRows;
@@ -17,13 +16,6 @@ pub const MAX_ROWS: usize = 65_536;
 
 /// The largest size of a table, in bytes.
 pub const MAX_TABLE_BYTES: u64 = 8_388_608;
-
-/// Returns whether a table by number may have this row.
-pub fn is_small(row: &[Value]) -> bool
-    ensures { IsTrue result ↔ IsSmall row.now }
-{
-    row_size(row) <= MAX_ROW_BYTES
-}
 
 /// Returns whether a table may hold the row.
 pub fn fits_row(row: &[Value]) -> bool

@@ -5,13 +5,12 @@ ghost use Rattle.std.specs.List.Sorted.{IsStrictlySortedBy};
 ghost use Rattle.std.specs.Ordering.{nat_cmp};
 ghost use Rattle.rs_rows.specs.TableRows.{empty, inserted, removed, replaced, row_of, numbers, bytes_of, HasRoom, IsSmall, IsTable};
 
-use crate::by_number::{RowMap, push, swap, take};
 use crate::limits::MAX_ROWS;
 use crate::row_iter::RowIter;
-use rs_base::{NoMemory, Row, copy_row, row_size};
+use crate::slots::Slots;
+use rs_base::{NoMemory, Row, row_size};
 use sqlite_items::Items;
 use std::alloc::Global;
-use std::collections::BTreeMap;
 use std::marker::Model;
 
 /// The first number that no row may have.
@@ -21,8 +20,7 @@ const NUMBERS: u64 = 1 << 63;
 /// most 65,536 rows, each of at most 1,024 bytes.
 #[derive(Drop)]
 pub struct TableRows {
-    rows: RowMap,
-    next: u64,
+    rows: Slots,
     bytes: u64,
 }
 
@@ -43,14 +41,12 @@ impl TableRows {
         ensures { result ≡ empty }
     {
         TableRows {
-            rows: BTreeMap::new(alloc),
-            next: 0,
+            rows: Slots::new(alloc),
             bytes: 0,
         }
     }
 
-    /// Stores the row at the end and returns its number. On out of memory nothing changes. Logarithmic in the number of
-    /// rows.
+    /// Stores the row at the end and returns its number. On out of memory nothing changes. Amortized constant.
     pub fn insert(&mut self, row: Row) -> Result<u64, NoMemory>
         requires room { HasRoom self.old }
         requires small { IsSmall row }
@@ -58,21 +54,20 @@ impl TableRows {
         ensures ok { OnOk result (self.new ≡ inserted row self.old) }
         ensures err { OnErr result (self.new ≡ self.old) }
     {
-        let number = self.next;
+        let number = self.rows.next();
         let bytes = row_size(row.as_slice());
-        push(&mut self.rows, number, row)?;
-        self.next += 1;
+        self.rows.push(row)?;
         self.bytes += bytes;
         Ok(number)
     }
 
-    /// Removes the row with this number and returns it, if there is one. Logarithmic in the number of rows.
+    /// Removes the row with this number and returns it, if there is one. Amortized logarithmic in the number of rows.
     pub fn remove(&mut self, number: u64) -> Option<Row>
         ensures row { result ≡ row_of number self.old.rows }
         ensures rows { self.new ≡ removed number self.old }
         ensures none { IfNone result (self.new ≡ self.old) }
     {
-        let row = take(&mut self.rows, number)?;
+        let row = self.rows.take(number)?;
         self.bytes -= row_size(row.as_slice());
         Some(row)
     }
@@ -86,7 +81,7 @@ impl TableRows {
         ensures err { OnErr result (self.new ≡ self.old) }
     {
         let bytes = row_size(row.as_slice());
-        let found = swap(&mut self.rows, number, row);
+        let found = self.rows.swap(number, row);
         if let Ok(old) = &found {
             self.bytes = self.bytes - row_size(old.as_slice()) + bytes;
         }
@@ -97,7 +92,7 @@ impl TableRows {
     pub fn get(&self, number: u64) -> Option<&Row>
         ensures { option_copied result ≡ row_of number self.now.rows }
     {
-        self.rows.get(&number)
+        self.rows.get(number)
     }
 
     /// Returns the numbers and rows in order of insertion.
@@ -105,7 +100,7 @@ impl TableRows {
         ensures rows { result ≡ self.now.rows }
         ensures table { IsTable self.now }
     {
-        RowIter::new(self.rows.iter())
+        self.rows.iter()
     }
 
     /// Returns the row numbers in order of insertion.
@@ -113,8 +108,11 @@ impl TableRows {
         ensures numbers { IfOk result (λ found. found ≡ numbers self.now.rows) }
         ensures rising { IsStrictlySortedBy nat_cmp (numbers self.now.rows) }
     {
-        let numbers: Vec<u64> = self.rows.keys().copied().collect(alloc)?;
-        Ok(Items::from_vec(numbers))
+        let mut numbers = Items::new(alloc);
+        for (number, _) in self.rows.iter() {
+            numbers.push(number)?;
+        }
+        Ok(numbers)
     }
 
     /// Returns the number of rows.
@@ -136,27 +134,22 @@ impl TableRows {
     pub fn has_room(&self) -> bool
         ensures { IsTrue result ↔ HasRoom self.now }
     {
-        self.rows.len() < MAX_ROWS && self.next < NUMBERS
+        self.rows.len() < MAX_ROWS && self.rows.next() < NUMBERS
     }
 
     /// Returns the number that the next insert gives.
     pub fn next(&self) -> u64
         ensures { result ≡ self.now.next }
     {
-        self.next
+        self.rows.next()
     }
 
     /// Copies the rows with their numbers, and the next number.
     pub fn copy(&self, alloc: Global) -> Result<TableRows, NoMemory>
         ensures { IfOk result (λ copy. copy ≡ self.now) }
     {
-        let mut rows = BTreeMap::new(alloc);
-        for (number, row) in &self.rows {
-            push(&mut rows, *number, copy_row(alloc, row.as_slice())?)?;
-        }
         Ok(TableRows {
-            rows,
-            next: self.next,
+            rows: self.rows.copy(alloc)?,
             bytes: self.bytes,
         })
     }
