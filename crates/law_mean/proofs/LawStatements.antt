@@ -38,7 +38,7 @@ use Rattle.rs_mean.specs.Columns.{names_differ, has_name}
 use Rattle.rs_mean.specs.Database.{Database, table_named, target_of}
 use Rattle.rs_mean.specs.Effects.{done}
 use Rattle.rs_mean.specs.Meaning.{effect_of_stmt, effect_of, meaning}
-use Rattle.rs_mean.specs.Names.{name_of, own_synonym, site_test, table_tests}
+use Rattle.rs_mean.specs.Names.{name_of, names_no_site, own_synonym, site_test, table_tests}
 use Rattle.rs_eval.specs.RowChanges.{given_rows, has_room, inserted, updated_rows, may_become, within_limits, updated, other_rows, matching_count}
 use Rattle.rs_mean.specs.RowStatements.{rows_in, heading_in, answering, inserting, updating, once_bound, tables_in, select, insert, update, delete, effect_of_dml}
 use Rattle.rs_join.specs.Selected.{selected}
@@ -51,6 +51,7 @@ use Rattle.law_mean.proofs.LawEffects.{IsSo, so_denied, so_done, so_unless}
 pub record Creates (db : Database) (txn : Txn) (name : Swn) (columns : List ColDef) (change : Change) (given : List Answer) : Type 0 where
   pub is : change ≡ changes.PutTable name (new_table txn name columns)
   pub answers : given ≡ answers.Ok ∷ []
+  pub home : names_no_site db name ≡ false
   pub differ : names_differ columns ≡ true
   pub absent : table_named name db ≡ None
 
@@ -60,10 +61,11 @@ create_so db txn name columns =
     (λ e.
     let no_table : Test = test (is_some (table_named name db)) denials.TableExists in
     let one_name : Test = test (not (names_differ columns)) denials.TwoColumns in
-    let names = passed one_name (no_table ∷ []) (passed (site_test db name) (one_name ∷ no_table ∷ []) e).1 in
+    let sites = passed (site_test db name) (one_name ∷ no_table ∷ []) e in
+    let names = passed one_name (no_table ∷ []) sites.1 in
     let found = passed no_table [] names.1 in
     so_done (Creates db txn name columns) (changes.PutTable name (new_table txn name columns)) answers.Ok
-    (record { is = refl; answers = refl; differ = holds_if (names_differ columns) names.0; absent = absent_if (table_named name db) found.0 }))
+    (record { is = refl; answers = refl; home = sites.0; differ = holds_if (names_differ columns) names.0; absent = absent_if (table_named name db) found.0 }))
 
 -- the table is there
 abbrev pub IsThere : Database → Swn → Type 0

@@ -1,5 +1,7 @@
 -- Invariants of each table, whatever statement is done.
-use Rattle.std.proofs.Common.{List, sym, subst, arith}
+use Rattle.std.proofs.Common.{◌≡◌, ◌≤◌, false, List, sym, subst, arith}
+use Rattle.std.specs.Prelude.{nat_lt}
+use Rattle.std.proofs.lemmas.Bool.Decides.{nat_tests}
 use Rattle.rs_base.specs.declared.name.Swn.{Swn}
 use Rattle.rs_base.specs.declared.reply.Answer.{Answer}
 use Rattle.rs_ast.specs.declared.stmt.Dml.{Dml}
@@ -9,11 +11,12 @@ use Rattle.rs_mean.specs.declared.built.Stmt.TheVariants as stmts
 use Rattle.rs_mean.specs.declared.change.Change.{Change}
 use Rattle.rs_mean.specs.declared.execution.Execution.{Execution}
 use Rattle.rs_mean.specs.Database.{Database, table_named}
-use Rattle.law_mean.specs.Laws.{EachTable, IsWithin, HasDistinctColumns, HasDistinctIndexes, IsTyped, MakesFewColumns}
-use Rattle.rs_mean.specs.Names.{name_of}
+use Rattle.law_mean.specs.Laws.{EachTable, IsAtSite, IsWithin, HasDistinctColumns, HasDistinctIndexes, IsTyped, MakesFewColumns}
+use Rattle.rs_mean.specs.Names.{name_of, names_no_site}
 use Rattle.rs_mean.specs.TableStatements.{new_index}
 use Rattle.law_mean.proofs.LawKept.{Keeps, each_named, empty_within, indexed_within, longer_within, set_within, others_within, columns_distinct, added_distinct, left_distinct}
 use Rattle.law_mean.proofs.LawStatements.{DoesOfDml, Does, index_in, sets_in}
+use Rattle.law_mean.proofs.LawTests.{neither}
 use Rattle.law_mean.proofs.LawTyped.{empty_typed, indexed_typed, longer_typed, updated_typed, others_typed}
 
 module _ (db : Database) (execution : Execution) (change : Change) (given : List Answer) where
@@ -40,6 +43,27 @@ module _ (db : Database) (execution : Execution) (change : Change) (given : List
     stays_within (stmts.CreateSynonym synonym written) so = subst (Keeps IsWithin db) (sym so.is) tt
     stays_within (stmts.DropSynonym synonym) so = subst (Keeps IsWithin db) (sym so.is) tt
     stays_within (stmts.Dml dml) so = dml_within dml so
+
+  module _ (each : EachTable (IsAtSite db.sites) db) where
+    dml_places : (dml : Dml) → DoesOfDml db execution dml change given → Keeps (IsAtSite db.sites) db change
+    dml_places (dmls.Select query) so = subst (Keeps (IsAtSite db.sites) db) (sym so.is) tt
+    dml_places (dmls.Insert written rows) so = subst (Keeps (IsAtSite db.sites) db) (sym so.is) (each_named (IsAtSite db.sites) db each (name_of db execution written))
+    dml_places (dmls.Update written sets clauses) so = subst (Keeps (IsAtSite db.sites) db) (sym so.is) (each_named (IsAtSite db.sites) db each (name_of db execution written))
+    dml_places (dmls.Delete written clauses) so = subst (Keeps (IsAtSite db.sites) db) (sym so.is) (each_named (IsAtSite db.sites) db each (name_of db execution written))
+
+    birth_within : (name : Swn) → names_no_site db name ≡ false → name.birth ≤ db.sites
+    birth_within name home =
+        let low = (neither (nat_lt db.sites name.creator_site) (nat_lt db.sites name.birth) home).1 in
+        grind (arith, nat_tests, low)
+
+    pub places_stay : (stmt : Stmt) → Does db execution stmt change given → Keeps (IsAtSite db.sites) db change
+    places_stay (stmts.CreateTable written columns) so = subst (Keeps (IsAtSite db.sites) db) (sym so.is) (birth_within (name_of db execution written) so.home)
+    places_stay (stmts.DropTable written) so = subst (Keeps (IsAtSite db.sites) db) (sym so.is) tt
+    places_stay (stmts.CreateIndex index written column) so = subst (Keeps (IsAtSite db.sites) db) (sym so.is) (each_named (IsAtSite db.sites) db each (name_of db execution written))
+    places_stay (stmts.DropIndex index written) so = subst (Keeps (IsAtSite db.sites) db) (sym so.is) (each_named (IsAtSite db.sites) db each (name_of db execution written))
+    places_stay (stmts.CreateSynonym synonym written) so = subst (Keeps (IsAtSite db.sites) db) (sym so.is) tt
+    places_stay (stmts.DropSynonym synonym) so = subst (Keeps (IsAtSite db.sites) db) (sym so.is) tt
+    places_stay (stmts.Dml dml) so = dml_places dml so
 
   module _ (each : EachTable HasDistinctColumns db) where
     dml_columns : (dml : Dml) → DoesOfDml db execution dml change given → Keeps HasDistinctColumns db change

@@ -20,7 +20,7 @@ use Rattle.rs_mean.specs.declared.table.Table.{Table}
 use Rattle.rs_mean.specs.Changes.{changed, with_rows}
 use Rattle.rs_mean.specs.Columns.{has_name}
 use Rattle.rs_mean.specs.Database.{Database, table_named, target_of}
-use Rattle.law_mean.specs.Laws.{AnswersAreTyped, DeniedChangesNothing, SelectChangesNothing, SitesStay, NamesStayInOrder, SynonymsStayInOrder, OthersStay, SynonymsStay, OtherSynonymsStay, IndexIsMade, IndexIsDropped, SynonymIsMade, SynonymIsDropped, TableIsMade, TableIsDropped, RowsAreAppended, RowsAreTakenOut, RowsAreChanged, EachTable, IsWithin, TablesStayWithin, HasDistinctColumns, ColumnsStayDistinct, HasDistinctIndexes, IndexesStayDistinct, IsTyped, RowsStayTyped, written_of, synonym_of}
+use Rattle.law_mean.specs.Laws.{AnswersAreTyped, DeniedChangesNothing, SelectChangesNothing, SitesStay, NamesStayInOrder, SynonymsStayInOrder, OthersStay, SynonymsStay, OtherSynonymsStay, IndexIsMade, IndexIsDropped, SynonymIsMade, SynonymIsDropped, TableIsMade, TableIsDropped, RowsAreAppended, RowsAreTakenOut, RowsAreChanged, EachTable, IsAtSite, IsWithin, TablesStayAtSites, TablesStayWithin, HasDistinctColumns, ColumnsStayDistinct, HasDistinctIndexes, IndexesStayDistinct, IsTyped, RowsStayTyped, written_of, synonym_of}
 use Rattle.rs_mean.specs.Meaning.{effect_of, meaning}
 use Rattle.rs_mean.specs.Names.{name_of, own_synonym}
 use Rattle.rs_eval.specs.RowChanges.{other_rows, matching_count}
@@ -34,7 +34,7 @@ use Rattle.law_mean.proofs.LawRows.{given_as_written, as_many_updated, matching_
 use Rattle.law_mean.proofs.LawShown.{rows_shown}
 use Rattle.law_mean.proofs.LawSynonyms.{TouchesSynonym, other_synonyms_at, synonyms_in_order}
 use Rattle.law_mean.proofs.LawTouches.{touches, of_tables, touches_synonym}
-use Rattle.law_mean.proofs.LawStays.{stays_within, columns_stay, indexes_stay, stays_typed}
+use Rattle.law_mean.proofs.LawStays.{stays_within, places_stay, columns_stay, indexes_stay, stays_typed}
 use Rattle.law_mean.proofs.LawStatements.{Does, does, effect_so, scope_in, sets_in}
 use Rattle.law_mean.proofs.LawTables.{sites_stay_at, change_in_order, TouchesOnly, others_stay_at, IsOfTables, synonyms_stay_at, named_put, named_dropped, named_changing}
 use Rattle.rs_mean.proofs.Orders.{synonym_total}
@@ -248,6 +248,15 @@ tables_stay_within = (
   λ sites. All-nil IsWithin,
   λ db execution each.
       each_after IsWithin db execution each (λ given so. stays_within db execution (effect_of db execution).change given each execution.stmt so),
+)
+
+pub tables_stay_at_sites : TablesStayAtSites
+unfolding meaning
+tables_stay_at_sites = (
+  λ sites. All-nil (IsAtSite sites),
+  λ db execution each.
+      subst (λ (n : ℕ). EachTable (IsAtSite n) (changed (effect_of db execution).change db)) (sym (sites_stay db execution))
+      (each_after (IsAtSite db.sites) db execution each (λ given so. places_stay db execution (effect_of db execution).change given each execution.stmt so)),
 )
 
 pub columns_stay_distinct : ColumnsStayDistinct

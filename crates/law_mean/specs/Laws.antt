@@ -239,6 +239,16 @@ HasDistinctIndexes table = AllPairs (λ one other. (one.name ≢ other.name) × 
 abbrev pub IndexesStayDistinct : Type 0
 IndexesStayDistinct = StaysInEachTable HasDistinctIndexes
 
+-- the table is stored at one of this many sites
+abbrev pub IsAtSite : ℕ → Table → Type 0
+IsAtSite sites table = table.place ≤ sites
+
+-- each table is stored at one of the sites of its database
+abbrev pub TablesStayAtSites : Type 0
+TablesStayAtSites =
+    ((sites : ℕ) → EachTable (IsAtSite sites) (empty sites))
+    × ((db : Database) (execution : Execution) → EachTable (IsAtSite db.sites) db → EachTable (IsAtSite (after db execution).sites) (after db execution))
+
 -- ---- kinds
 
 -- The table has at most 16 columns, and each of its rows has a value for each, of its kind.

@@ -1,7 +1,7 @@
 //! Laws of every execution, whatever the database. Each function here is a law: its contract states it, and its body
 //! does nothing.
 
-ghost use Rattle.law_mean.specs.Laws.{AnswersAreTyped, ColumnsStayDistinct, DeniedChangesNothing, IndexIsDropped, IndexIsMade, IndexesStayDistinct, NamesStayInOrder, OtherSynonymsStay, OthersStay, RowsAreAppended, RowsAreChanged, RowsAreTakenOut, RowsStayTyped, SelectChangesNothing, SitesStay, SynonymIsDropped, SynonymIsMade, SynonymsStay, SynonymsStayInOrder, TableIsDropped, TableIsMade, TablesStayWithin};
+ghost use Rattle.law_mean.specs.Laws.{AnswersAreTyped, ColumnsStayDistinct, DeniedChangesNothing, IndexIsDropped, IndexIsMade, IndexesStayDistinct, NamesStayInOrder, OtherSynonymsStay, OthersStay, RowsAreAppended, RowsAreChanged, RowsAreTakenOut, RowsStayTyped, SelectChangesNothing, SitesStay, SynonymIsDropped, SynonymIsMade, SynonymsStay, SynonymsStayInOrder, TableIsDropped, TableIsMade, TablesStayAtSites, TablesStayWithin};
 
 /// A denied execution changes nothing.
 pub fn denied_changes_nothing()
@@ -93,6 +93,11 @@ pub fn synonym_is_dropped()
 /// and after each execution.
 pub fn tables_stay_within()
     ensures { TablesStayWithin }
+{}
+
+/// Each table is stored at one of the sites, at first and after each execution.
+pub fn tables_stay_at_sites()
+    ensures { TablesStayAtSites }
 {}
 
 /// No table has two columns of one name, at first and after each execution.

@@ -12,10 +12,10 @@ use Rattle.rs_course.specs.Played.{are_accepted}
 use Rattle.rs_course.specs.Report.{report_of, tables_at}
 use Rattle.rs_course.specs.World.{World}
 use Rattle.rs_mean.specs.Database.{Database, IsInOrder}
+use Rattle.rs_mean.specs.Expected.{expected}
 use Rattle.rs_site.specs.State.{SiteState}
 use Rattle.rs_site.specs.declared.outs.Decided.{Decided}
 use Rattle.law_world.specs.Explains.{Explains, IsMeaningAt}
-use Rattle.law_world.specs.Stores.{expected}
 use Rattle.law_world.proofs.Added.{entries_added}
 use Rattle.law_world.proofs.Growing.{no_runs}
 use Rattle.law_world.proofs.HistoryFields as history

@@ -9,6 +9,7 @@ use Rattle.rs_base.specs.declared.reply.Denial.{Denial}
 use Rattle.rs_base.specs.declared.reply.Reply.{Reply}
 use Rattle.rs_base.specs.declared.reply.Reply.TheVariants as replies
 use Rattle.rs_mean.specs.Database.{IsInOrder}
+use Rattle.rs_mean.specs.Expected.{expected}
 use Rattle.rs_mean.specs.Meaning.{Outcome}
 use Rattle.rs_sched.specs.declared.event.Event.{Event}
 use Rattle.rs_site.specs.Asking.{reply_of}
@@ -24,7 +25,7 @@ use Rattle.rs_course.specs.History.{database_of, outcome_after, with_entries}
 use Rattle.rs_course.specs.Moments.{IsStep, Accepts, actions, sites_of, world_after}
 use Rattle.rs_course.specs.Report.{report_of, tables_at}
 use Rattle.rs_course.specs.World.{site_at}
-use Rattle.law_world.specs.Stores.{IsApplied, content_of, expected}
+use Rattle.law_world.specs.Stores.{IsApplied, content_of}
 
 -- the reply is the final one of an accepted request
 abbrev pub IsFinal : Reply → Type 0
