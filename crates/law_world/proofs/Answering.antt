@@ -1,6 +1,5 @@
 -- Each ask is answered, by the course of each valid and accepted list of few events.
 use Rattle.std.proofs.Common.{◌≡◌, ◌<◌, ℕ, zero, suc, ◌-◌, false, List, [], ◌∷◌, ◌++◌, map, length, Option, Some, None, IsTrue, refl, sym, ap, subst, ◌∙◌, arith, append_assoc, length-append}
-use Rattle.std.specs.Prelude.{flat_map}
 use Rattle.std.specs.List.{slice_get, range_with_len, Contains}
 use Rattle.std.proofs.lemmas.List.{append-nil, length-map, length-replicate, take_all}
 use Rattle.std.proofs.lemmas.List.Concat.{flat_map-append}

@@ -9,7 +9,7 @@ use Rattle.rs_site.specs.Step.{site_step}
 use Rattle.rs_site.specs.declared.input.Input.{Input}
 use Rattle.std.proofs.Common.{ℕ, Option, Some, None}
 use Rattle.rs_course.specs.declared.report.Given.{Given}
-use Rattle.rs_course.specs.Course.{Action, Open, Post, Give, GiveNext, Lose, Tick, Stop, Arm, Restart, Noise, gives, moved, stepped, stepped_by, taken, without, act}
+use Rattle.rs_course.specs.Course.{Action, Open, Post, Give, GiveNext, Lose, Tick, Stop, Arm, Restart, Noise, gives, stepped, stepped_by, taken, without, act}
 use Rattle.rs_course.specs.Moments.{world_after}
 use Rattle.rs_course.specs.World.{World, start, site_at}
 use Rattle.law_world.proofs.Fresh.{grows_entries}

@@ -23,7 +23,7 @@ use Rattle.rs_sched.specs.declared.event.Event.TheVariants as events
 use Rattle.rs_course.specs.declared.datagram.Datagram.{Datagram}
 use Rattle.rs_course.specs.declared.report.Given.{Given}
 use Rattle.rs_course.specs.History.{with_entries}
-use Rattle.rs_course.specs.World.{World, Place, start, site_at}
+use Rattle.rs_course.specs.World.{World, start, site_at}
 
 -- ---- actions
 

@@ -11,7 +11,7 @@ use Rattle.rs_sched.specs.Encoding.{line_of}
 use Rattle.rs_sched.specs.Schedule.{AreLines}
 use Rattle.rs_sched.specs.Faults.{IsFault}
 use Rattle.rs_sched.specs.Reader as sched
-use Rattle.rs_sched.specs.Reader.{lines_at, line_at, further, sites_after, events_of}
+use Rattle.rs_sched.specs.Reader.{lines_at, line_at, sites_after, events_of}
 use Rattle.rs_sched.proofs.CauseLaws.{first_is}
 use Rattle.rs_sched.proofs.LineLaws.{line_of_part}
 use Rattle.rs_sched.proofs.ScheduleLaws.{not_ltb, Feedless, lines_feedless, Few, Completes, Follows, line_follows, comment_more, no_comment_line, next_of, events_are, events_again, fault_is}

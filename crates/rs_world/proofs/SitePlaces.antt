@@ -1,13 +1,13 @@
 -- The sites of a world as places.
-use Rattle.std.proofs.Common.{◌≡◌, ℕ, zero, suc, ◌+◌, ◌-◌, List, [], ◌∷◌, map, length, Option, Some, None, refl, sym, ap, subst, ◌∙◌}
-use Rattle.std.specs.List.{slice_get, slice_set, range_with_len}
+use Rattle.std.proofs.Common.{◌≡◌, ℕ, zero, suc, ◌-◌, List, [], ◌∷◌, map, Option, Some, None, refl, sym, ap, ◌∙◌}
+use Rattle.std.specs.List.{slice_get, slice_set}
 use Rattle.rs_base.specs.Reading.{◌>>=◌}
 use Rattle.rs_site.specs.declared.input.Input.{Input}
 use Rattle.rs_site.specs.declared.outs.Outs.{Outs}
 use Rattle.rs_site.specs.State.{SiteState}
 use Rattle.rs_site.specs.Step.{site_step}
 use Rattle.rs_course.specs.Course.{after_outs, stepped}
-use Rattle.rs_course.specs.World.{World, Place, site_at}
+use Rattle.rs_course.specs.World.{Place, site_at}
 use Rattle.rs_world.specs.Inside.{world_of}
 use Rattle.rs_world.specs.Sites.{place_of, places_of, sites_after, outs_of}
 use Rattle.rs_world.specs.declared.world.World.TheInside.{Inside}

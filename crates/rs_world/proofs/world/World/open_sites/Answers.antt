@@ -1,4 +1,4 @@
-use Rattle.std.proofs.Common.{◌≡◌, List, ap, ◌∙◌}
+use Rattle.std.proofs.Common.{List, ap, ◌∙◌}
 use Rattle.std.specs.List.{range_with_len}
 use Rattle.rs_site.specs.State.{SiteState, opened}
 use Rattle.rs_course.specs.Course.{Open, act}
