@@ -13,7 +13,7 @@ use Rattle.std.proofs.lemmas.List.Elements.{All-push, All-weaker, All-from_recur
 use Rattle.std.proofs.lemmas.List.Sorted.{searchable_from_sorted}
 use Rattle.std.proofs.lemmas.Map.Keys.{below_from_sorted, sorted_head, sorted_tail}
 use Rattle.rs_base.specs.declared.value.Value.{Value}
-use Rattle.rs_rows.proofs.TableLaws.{without_none, with_row_none, count_removed}
+use Rattle.rs_rows.proofs.TableLaws.{without_none, with_row_none, on_none_found, count_removed}
 use Rattle.rs_rows.specs.Slots.{slot_numbers, rows_in, is_live, Lacks, HasAt, AreCounted}
 use Rattle.rs_rows.specs.TableRows.{RowsByNumber, numbers, row_of, without, with_row}
 use Rattle.rs_rows.specs.declared.slot.Slot.{Slot}
@@ -282,3 +282,11 @@ swapped_counted number row slots written live next h same rows =
     let set = length-map (rows_in slots) (λ (entry : ℕ × List Value). if number == entry.0 then (entry.0, row) else entry) in
     let all = ap (λ (others : RowsByNumber). length others) rows in
     stay_counted slots written live live next h same (h.exact ∙ sym (all ∙ set))
+
+-- ---- for the search
+
+-- what a function over slots needs
+pub ruleset slot_laws = (absent, row_found, row_taken, row_swapped, without_none, with_row_none)
+
+-- what a function over the fields of slots needs
+pub ruleset count_laws = (none_counted, pushed_counted, taken_counted, none_taken_counted, live_counted, swapped_counted, rows_pushed, live_rows, rows_rise, rows_within, without_none, with_row_none, on_none_found)

@@ -1,4 +1,5 @@
 //! The slots that the rows of a table are stored in, by number.
+#![tactic(auto, using(crate::proofs::SlotLaws::slot_laws))]
 
 ghost use Rattle.std.specs.Prelude.{◌≡◌, filter, ok_or, option_copied, option_map, MatchOption, IfOk, OnErr};
 ghost use Rattle.std.specs.List.Sorted.{IsStrictlySortedBy};
@@ -28,7 +29,6 @@ pub(crate) fn position(slots: &[Slot], number: u64) -> Option<usize>
 }
 
 /// Returns the row with this number, if there is one.
-#[tactic(auto, using(crate::proofs::SlotLaws::absent, crate::proofs::SlotLaws::row_found))]
 pub(crate) fn row_at(slots: &[Slot], number: u64) -> Option<&Row>
     requires { IsStrictlySortedBy nat_cmp (slot_numbers slots.now) }
     ensures { option_copied result ≡ row_of number (rows_in slots.now) }
@@ -38,7 +38,6 @@ pub(crate) fn row_at(slots: &[Slot], number: u64) -> Option<&Row>
 }
 
 /// Takes the row with this number out of its slot, if there is one.
-#[tactic(auto, using(crate::proofs::SlotLaws::absent, crate::proofs::SlotLaws::row_found, crate::proofs::SlotLaws::row_taken, crate::proofs::SlotLaws::numbers_stay, crate::proofs::TableLaws::without_none))]
 pub(crate) fn take_row(slots: &mut Vec<Slot>, number: u64) -> Option<Row>
     requires { IsStrictlySortedBy nat_cmp (slot_numbers slots.old.items) }
     ensures row { result ≡ row_of number (rows_in slots.old.items) }
@@ -50,7 +49,6 @@ pub(crate) fn take_row(slots: &mut Vec<Slot>, number: u64) -> Option<Row>
 }
 
 /// Stores the row in place of the one with this number and returns that one; returns the given row if there is none.
-#[tactic(auto, using(crate::proofs::SlotLaws::absent, crate::proofs::SlotLaws::row_found, crate::proofs::SlotLaws::row_swapped, crate::proofs::SlotLaws::numbers_stay, crate::proofs::TableLaws::with_row_none))]
 pub(crate) fn swap_row(slots: &mut Vec<Slot>, number: u64, row: Row) -> Result<Row, Row>
     requires { IsStrictlySortedBy nat_cmp (slot_numbers slots.old.items) }
     ensures row { result ≡ ok_or (row_of number (rows_in slots.old.items)) row }

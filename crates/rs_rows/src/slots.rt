@@ -1,4 +1,5 @@
 //! Rows in order of insertion, each found by its number.
+#![tactic(auto, using(crate::proofs::SlotLaws::count_laws))]
 
 ghost use Rattle.std.specs.Prelude.{◌≡◌, ◌<◌, ◌^◌, length, ok_or, option_copied, IfOk, IfNone, OnOk, OnErr};
 ghost use Rattle.std.specs.List.Sorted.{IsStrictlySortedBy};
@@ -33,7 +34,6 @@ impl Model for Slots {
 }
 
 impl Slots {
-    #[tactic(auto, using(crate::proofs::SlotLaws::none_counted))]
     pub(crate) fn new(alloc: Global) -> Slots
         ensures { result ≡ empty }
     {
@@ -45,7 +45,6 @@ impl Slots {
     }
 
     /// Stores the row at the end, under the next number. On out of memory nothing changes. Amortized constant.
-    #[tactic(auto, using(crate::proofs::SlotLaws::pushed_counted, crate::proofs::SlotLaws::rows_pushed, crate::proofs::SlotLaws::rows_rise, crate::proofs::SlotLaws::rows_within))]
     pub(crate) fn push(&mut self, row: Row) -> Result<(), NoMemory>
         requires { self.old.next < 2 ^ 63 }
         ensures ok { OnOk result (self.new ≡ inserted row self.old) }
@@ -62,7 +61,6 @@ impl Slots {
     }
 
     /// Removes the row with this number and returns it, if there is one. Amortized logarithmic in the number of rows.
-    #[tactic(auto, using(crate::proofs::SlotLaws::taken_counted, crate::proofs::SlotLaws::none_taken_counted, crate::proofs::SlotLaws::rows_rise, crate::proofs::TableLaws::without_none))]
     pub(crate) fn take(&mut self, number: u64) -> Option<Row>
         ensures row { result ≡ row_of number self.old.rows }
         ensures rows { self.new ≡ removed number self.old }
@@ -76,7 +74,6 @@ impl Slots {
     }
 
     /// Drops the empty slots if they are more than a quarter, and frees their memory.
-    #[tactic(auto, using(crate::proofs::SlotLaws::live_counted, crate::proofs::SlotLaws::live_rows, crate::proofs::SlotLaws::rows_within))]
     fn compact(&mut self)
         ensures { self.new ≡ self.old }
     {
@@ -89,7 +86,6 @@ impl Slots {
 
     /// Stores the row in place of the one with this number and returns that one; returns the given row if there is none.
     /// Logarithmic in the number of rows.
-    #[tactic(auto, using(crate::proofs::SlotLaws::swapped_counted, crate::proofs::SlotLaws::rows_rise, crate::proofs::TableLaws::with_row_none, crate::proofs::TableLaws::on_none_found))]
     pub(crate) fn swap(&mut self, number: u64, row: Row) -> Result<Row, Row>
         ensures row { result ≡ ok_or (row_of number self.old.rows) row }
         ensures rows { self.new ≡ replaced number row self.old }
@@ -128,7 +124,6 @@ impl Slots {
     }
 
     /// Copies the rows with their numbers, and the next number.
-    #[tactic(auto, using(crate::proofs::SlotLaws::live_counted, crate::proofs::SlotLaws::live_rows))]
     pub(crate) fn copy(&self, alloc: Global) -> Result<Slots, NoMemory>
         ensures { IfOk result (λ copy. copy ≡ self.now) }
     {
