@@ -7,6 +7,7 @@ use Rattle.std.proofs.lemmas.Bool.{false≢true}
 use Rattle.std.proofs.lemmas.List.{append-nil, length-append}
 use Rattle.std.proofs.lemmas.Option.{slice_get_cases}
 use Rattle.rs_ast.specs.declared.stmt.Stmt.{Stmt}
+use Rattle.rs_ast.specs.Limits.{KeepsLimits}
 use Rattle.rs_token.specs.declared.token.Token.{Token}
 use Rattle.rs_parse.specs.declared.parser.ParseFault.{ParseFault}
 use Rattle.rs_parse.specs.declared.parser.ParseFault.TheVariants as faults
@@ -17,6 +18,7 @@ use Rattle.rs_parse.specs.Reader.{request_at, at_end, request_of}
 use Rattle.rs_parse.specs.Parsing.{Spells, SomeBegins, IsOffending, IsFault, AtToken, NoToken, AtEnd, Parsed, Statement, FaultAt, offset_of, judged, parsed_of, ParseGives}
 use Rattle.rs_parse.proofs.Readers.{Finds, got_value, got_rest, fault_rest, got-fault, fault-got, got_both, fault_of_both, nil-cons, prefix_is_all}
 use Rattle.rs_parse.proofs.StmtRules.{request_reads}
+use Rattle.rs_parse.proofs.StmtLimits.{request_keeps}
 use Rattle.rs_token.proofs.Splits.{length-starts, end_of_whole}
 
 -- ---- tokens
@@ -171,6 +173,9 @@ fault_offset text offset e = go (request_of (split_of text).tokens) refl e
         NoToken g.0 all (sym g.1)
     go (Fault rest) r e = fault_at text offset rest (fault_found (split_of text).tokens rest r) (ap (offset_or offset) e)
 
+pub spelled_keeps_limits : (text : List ℕ) (stmt : Stmt) → Spells text stmt → KeepsLimits stmt
+spelled_keeps_limits text stmt (whole, is) = request_keeps stmt (split_of text).tokens is
+
 -- ---- calls
 
 pub parse_found : (text : List ℕ) (result : Result Stmt ParseFault) → ParseGives result (parsed_of text) → IfOk result (λ stmt. Spells text stmt)
@@ -182,3 +187,7 @@ parse_only text result exact stmt is = subst (ParseGives result) (unparsed_parse
 
 pub parse_fault : (text : List ℕ) (result : Result Stmt ParseFault) → ParseGives result (parsed_of text) → (offset : ℕ) → result ≡ Err (faults.Syntax offset) → IsFault text offset
 parse_fault text result exact offset e = fault_offset text offset (subst (λ (r : Result Stmt ParseFault). ParseGives r (parsed_of text)) e exact)
+
+pub parse_keeps : (text : List ℕ) (result : Result Stmt ParseFault) → ParseGives result (parsed_of text) → IfOk result (λ stmt. KeepsLimits stmt)
+parse_keeps text (Ok stmt) exact = spelled_keeps_limits text stmt (parsed_spelled text stmt exact)
+parse_keeps text (Err fault) exact = tt

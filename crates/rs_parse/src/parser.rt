@@ -1,6 +1,7 @@
 //! The parser's entry point.
 
 ghost use Rattle.std.specs.Prelude.{◌≡◌, ℕ, Err, IfOk};
+ghost use Rattle.rs_ast.specs.Limits.{KeepsLimits};
 ghost use Rattle.rs_ast.specs.declared.stmt.Stmt.{Stmt};
 ghost use Rattle.rs_parse.specs.Parsing.{Spells, IsFault, Statement, ParseGives, offset_of, parsed_of};
 ghost use Rattle.rs_parse.specs.declared.parser.ParseFault.TheVariants as faults;
@@ -80,6 +81,8 @@ pub fn parse(alloc: Global, text: &[u8]) -> Result<Stmt, ParseFault>
     ensures found { IfOk result (λ stmt. Spells text.now stmt) }
     // The text of a statement is parsed, unless an allocation fails.
     ensures only { (stmt : Stmt) → Spells text.now stmt → ParseGives result (Statement stmt) }
+    // The statement keeps the limits of statements.
+    ensures limits { IfOk result (λ stmt. KeepsLimits stmt) }
     // The text's fault is at the byte offset that is reported.
     ensures fault { (offset : ℕ) → result ≡ Err (faults.Syntax offset) → IsFault text.now offset }
     // The statement or the byte offset is a function of the text.
