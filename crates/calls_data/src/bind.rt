@@ -139,6 +139,9 @@ fn bound_delete(alloc: Global, clauses: Clauses) -> Result<Result<Bound, Denial>
         name: NameText::plain(t),
         clauses,
     };
+    if !stmt.keeps_limits() {
+        bail!("the statement is beyond the limits");
+    }
     let bound_or_denied = bind(
         alloc,
         &stmt,

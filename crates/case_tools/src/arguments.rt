@@ -3,7 +3,7 @@
 use anyhow::{Context, Result, bail};
 use rs_ast::{Dml, Stmt};
 use rs_base::{Ident, NameText, NoMemory, Origin, Row, SiteNo, Swn, Txt, Value};
-use rs_parse::parse;
+use rs_parse::{TEXT_LIMIT, parse};
 use sqlite_items::Items;
 use std::alloc::Global;
 
@@ -51,6 +51,9 @@ pub fn integer_and_text(alloc: Global, number: i64, bytes: &[u8]) -> Result<Row>
 
 /// Returns the statement on rows that has this text.
 pub fn dml(alloc: Global, text: &[u8]) -> Result<Dml> {
+    if TEXT_LIMIT < text.len() {
+        bail!("a text of more than {TEXT_LIMIT} bytes");
+    }
     match parse(alloc, text)? {
         Stmt::Dml(dml) => Ok(dml),
         _ => bail!("no statement on rows"),

@@ -11,10 +11,11 @@ use Rattle.rs_mean.specs.declared.built.Stmt.TheVariants as stmts
 use Rattle.rs_mean.specs.declared.change.Change.{Change}
 use Rattle.rs_mean.specs.declared.execution.Execution.{Execution}
 use Rattle.rs_mean.specs.Database.{Database, table_named}
-use Rattle.law_mean.specs.Laws.{EachTable, IsAtSite, IsWithin, HasDistinctColumns, HasDistinctIndexes, IsTyped, MakesFewColumns}
+use Rattle.law_mean.specs.Laws.{EachTable, IsAtSite, IsWithin, HasDistinctColumns, HasDistinctIndexes, IsTyped}
 use Rattle.rs_mean.specs.Names.{name_of, names_no_site}
 use Rattle.rs_mean.specs.TableStatements.{new_index}
 use Rattle.law_mean.proofs.LawKept.{Keeps, each_named, empty_within, indexed_within, longer_within, set_within, others_within, columns_distinct, added_distinct, left_distinct}
+use Rattle.law_mean.proofs.LawLimits.{IsFew}
 use Rattle.law_mean.proofs.LawStatements.{DoesOfDml, Does, index_in, sets_in}
 use Rattle.law_mean.proofs.LawTests.{neither}
 use Rattle.law_mean.proofs.LawTyped.{empty_typed, indexed_typed, longer_typed, updated_typed, others_typed}
@@ -115,7 +116,7 @@ module _ (db : Database) (execution : Execution) (change : Change) (given : List
         let name : Swn = name_of db execution written in
         subst (Keeps IsTyped db) (sym so.is) (others_typed (table_named name db) so.clauses (each_named IsTyped db each name))
 
-    pub stays_typed : (stmt : Stmt) → MakesFewColumns stmt → Does db execution stmt change given → Keeps IsTyped db change
+    pub stays_typed : (stmt : Stmt) → IsFew stmt → Does db execution stmt change given → Keeps IsTyped db change
     stays_typed (stmts.CreateTable written columns) few so = subst (Keeps IsTyped db) (sym so.is) (empty_typed execution.txn (name_of db execution written) columns few)
     stays_typed (stmts.DropTable written) few so = subst (Keeps IsTyped db) (sym so.is) tt
     stays_typed (stmts.CreateIndex index written column) few so =

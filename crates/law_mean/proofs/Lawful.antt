@@ -1,5 +1,5 @@
 -- The laws.
-use Rattle.std.proofs.Common.{◌≡◌, ℕ, sym, List, [], ◌∷◌, ◌++◌, map, length, is_none, true, false, Option, Some, None, IsSome, refl, ap, ◌∙◌, subst, arith}
+use Rattle.std.proofs.Common.{◌≡◌, ◌≤◌, ℕ, sym, List, [], ◌∷◌, ◌++◌, map, length, is_none, true, false, Option, Some, None, IsSome, refl, ap, ◌∙◌, subst, arith}
 use Rattle.std.specs.List.Sorted.{IsStrictlySortedBy}
 use Rattle.std.specs.Option.{option_map}
 use Rattle.std.proofs.lemmas.List.Elements.{All-nil}
@@ -30,6 +30,7 @@ use Rattle.law_map.proofs.Entries.{lookup_put, lookup_gone}
 use Rattle.law_mean.proofs.LawEffects.{holds_of_change}
 use Rattle.law_mean.proofs.LawIndexes.{name_at, none_of_name}
 use Rattle.law_mean.proofs.LawKept.{Keeps, each_changed, all_differ}
+use Rattle.law_mean.proofs.LawLimits.{IsFew, is_few}
 use Rattle.law_mean.proofs.LawRows.{given_as_written, as_many_updated, matching_at_most, others_and_matching}
 use Rattle.law_mean.proofs.LawShown.{rows_shown}
 use Rattle.law_mean.proofs.LawSynonyms.{TouchesSynonym, other_synonyms_at, synonyms_in_order}
@@ -279,15 +280,17 @@ pub rows_stay_typed : RowsStayTyped
 unfolding meaning
 rows_stay_typed = (
   λ sites. All-nil IsTyped,
-  λ db execution few each.
-      each_after IsTyped db execution each (λ given so. stays_typed db execution (effect_of db execution).change given each execution.stmt few so),
+  λ db execution limited each.
+      each_after IsTyped db execution each
+      (λ given so. stays_typed db execution (effect_of db execution).change given each execution.stmt (is_few execution.stmt limited) so),
 )
 
 -- ---- what a query answers
 
 pub answers_are_typed : AnswersAreTyped
 unfolding meaning
-answers_are_typed db execution query given each few is e =
+answers_are_typed db execution query given each limited is e =
+    let few : length query.from ≤ 6 = subst IsFew is (is_few execution.stmt limited) in
     let so = does db execution (stmts.Dml (dmls.Select query)) given is e in
     let shown = rows_shown db each (λ table. name_of db execution table.name) query few so.rows so.fit so.found in
     (so.rows, shown.0, so.answers, shown.1, shown.2)

@@ -2,6 +2,7 @@ mod LawEffects
 mod LawIndexes
 mod LawKept
 mod LawKinds
+mod LawLimits
 mod LawRows
 mod LawShown
 mod LawStatements

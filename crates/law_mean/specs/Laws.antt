@@ -11,6 +11,7 @@ use Rattle.rs_base.specs.declared.value.Kind.{Kind}
 use Rattle.rs_base.specs.declared.value.Kind.TheVariants as kinds
 use Rattle.rs_base.specs.declared.value.Value.{Value}
 use Rattle.rs_base.specs.Sizes.{row_size}
+use Rattle.rs_ast.specs.Limits.{KeepsLimits}
 use Rattle.rs_ast.specs.declared.change.Set.{Set}
 use Rattle.rs_ast.specs.declared.change.Term.TheVariants as terms
 use Rattle.rs_ast.specs.declared.clause.Clause.{Clause}
@@ -21,6 +22,7 @@ use Rattle.rs_ast.specs.declared.select.Item.TheVariants as items
 use Rattle.rs_ast.specs.declared.select.Select.{Select}
 use Rattle.rs_ast.specs.declared.stmt.Dml.{Dml}
 use Rattle.rs_ast.specs.declared.stmt.Dml.TheVariants as dmls
+use Rattle.rs_ast.specs.declared.stmt.Stmt as limited
 use Rattle.rs_scope.specs.declared.scope.ScopeColumn.{ScopeColumn}
 use Rattle.rs_scope.specs.Scope.{column_kind, query_scope}
 use Rattle.rs_answer.specs.Kinds.{HasKinds, AreKindsOf}
@@ -29,6 +31,7 @@ use Rattle.rs_mean.specs.declared.built.Stmt.TheVariants as stmts
 use Rattle.rs_mean.specs.declared.execution.Execution.{Execution}
 use Rattle.rs_mean.specs.declared.synonym.Synonym.{Synonym}
 use Rattle.rs_mean.specs.declared.table.Table.{Table}
+use Rattle.rs_mean.specs.Built.{built_of}
 use Rattle.rs_mean.specs.Changes.{with_rows}
 use Rattle.rs_mean.specs.Database.{Database, empty, table_named, IsInOrder, target_of, AreSynonymsInOrder}
 use Rattle.rs_rows.specs.Sizes.{rows_size}
@@ -256,22 +259,16 @@ pub record IsTyped (table : Table) : Type 0 where
   pub few : length table.columns ≤ 16
   pub kinds : All (HasKinds (map (λ column. column.kind) table.columns)) table.rows
 
--- the statement makes no table of more than 16 columns; none that is written does
-abbrev pub MakesFewColumns : Stmt → Type 0
-MakesFewColumns (stmts.CreateTable written columns) = length columns ≤ 16
-MakesFewColumns (stmts.DropTable written) = Unit {0}
-MakesFewColumns (stmts.CreateIndex index written column) = Unit {0}
-MakesFewColumns (stmts.DropIndex index written) = Unit {0}
-MakesFewColumns (stmts.CreateSynonym synonym written) = Unit {0}
-MakesFewColumns (stmts.DropSynonym synonym) = Unit {0}
-MakesFewColumns (stmts.Dml dml) = Unit {0}
+-- the statement is one that keeps the limits of statements, as each that a text spells does
+abbrev pub IsLimited : Stmt → Type 0
+IsLimited stmt = (parsed : limited.Stmt) × (built_of parsed ≡ Some stmt) × KeepsLimits parsed
 
--- each row of each table has a value for each column, of its kind, at first and after each execution that makes no table of
--- more than 16 columns
+-- each row of each table has a value for each column, of its kind, at first and after each execution of a statement that keeps
+-- the limits
 abbrev pub RowsStayTyped : Type 0
 RowsStayTyped =
     ((sites : ℕ) → EachTable IsTyped (empty sites))
-    × ((db : Database) (execution : Execution) → MakesFewColumns execution.stmt → EachTable IsTyped db → EachTable IsTyped (after db execution))
+    × ((db : Database) (execution : Execution) → IsLimited execution.stmt → EachTable IsTyped db → EachTable IsTyped (after db execution))
 
 ---- a query's answer
 
@@ -292,9 +289,9 @@ abbrev pub kinds_shown : List ScopeColumn → Option (List Item) → List (Optio
 kinds_shown columns None = map (λ column. Some column.kind) columns
 kinds_shown columns (Some shown) = map (kind_shown columns) shown
 
--- over typed tables, a query of at most 6 tables that is answered has a kind for each item, and each row that it answers a value for each, of its kind
+-- over typed tables, a query that keeps the limits and is answered has a kind for each item, and each row that it answers a value for each, of its kind
 abbrev pub AnswersAreTyped : Type 0
 AnswersAreTyped = (db : Database) (execution : Execution) (query : Select) (given : List Answer)
-    → EachTable IsTyped db → length query.from ≤ 6 → execution.stmt ≡ stmts.Dml (dmls.Select query) → (meaning db execution).1 ≡ Ok given
+    → EachTable IsTyped db → IsLimited execution.stmt → execution.stmt ≡ stmts.Dml (dmls.Select query) → (meaning db execution).1 ≡ Ok given
     → (rows : List (List Value)) × (known : List Kind) × (given ≡ answers.Rows rows ∷ [])
     × AreKindsOf (kinds_shown (columns_named db execution query) query.items) known × All (HasKinds known) rows

@@ -110,14 +110,14 @@ pub fn indexes_stay_distinct()
     ensures { IndexesStayDistinct }
 {}
 
-/// Each row of each table has a value for each column, of its kind, at first and after each execution, if no CREATE TABLE
-/// has more than 16 columns, as none that is written has.
+/// Each row of each table has a value for each column, of its kind, at first and after each execution of a statement that
+/// keeps the limits, as each that is written does.
 pub fn rows_stay_typed()
     ensures { RowsStayTyped }
 {}
 
-/// Over typed tables, a SELECT of at most 6 tables, as one that is written has, that is answered has a kind for each item:
-/// that of its column, and INT for COUNT and SUM. Each row that it answers has a value for each, of its kind.
+/// Over typed tables, a SELECT that keeps the limits, as each that is written does, and is answered has a kind for each
+/// item: that of its column, and INT for COUNT and SUM. Each row that it answers has a value for each, of its kind.
 pub fn answers_are_typed()
     ensures { AnswersAreTyped }
 {}

@@ -1,5 +1,6 @@
 -- The laws of texts.
 use Rattle.std.specs.Prelude.{◌≡◌, ℕ, List, ◌⊎◌}
+use Rattle.rs_ast.specs.Limits.{KeepsLimits}
 use Rattle.rs_ast.specs.declared.stmt.Stmt.{Stmt}
 use Rattle.rs_unparse.specs.Printed.{printed_stmt}
 use Rattle.rs_parse.specs.Parsing.{Spells, IsFault}
@@ -23,3 +24,7 @@ SpelledHasNoFault = (text : List ℕ) (stmt : Stmt) (offset : ℕ) → Spells te
 -- the printed text of a statement that has a text is one of its texts
 abbrev pub PrintedIsRead : Type 0
 PrintedIsRead = (text : List ℕ) (stmt : Stmt) → Spells text stmt → Spells (printed_stmt stmt) stmt
+
+-- a statement that has a text keeps the limits of statements
+abbrev pub SpelledKeepsLimits : Type 0
+SpelledKeepsLimits = (text : List ℕ) (stmt : Stmt) → Spells text stmt → KeepsLimits stmt

@@ -4,5 +4,6 @@
 mod laws;
 
 pub use laws::{
-    fault_once, printed_is_read, spelled_has_no_fault, spelled_or_faulty, statement_once,
+    fault_once, printed_is_read, spelled_has_no_fault, spelled_keeps_limits, spelled_or_faulty,
+    statement_once,
 };

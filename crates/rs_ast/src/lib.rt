@@ -6,6 +6,7 @@ mod change;
 mod clause;
 mod column;
 mod entry;
+mod limits;
 mod select;
 mod shape;
 mod stmt;

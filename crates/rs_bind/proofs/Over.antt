@@ -1,13 +1,15 @@
 -- A statement that is bound, and not denied, is over its entries.
 use Rattle.std.proofs.Common.{◌≡◌, ℕ, ◌≤◌, List, [], ◌∷◌, ◌++◌, map, length, Option, Some, None, Ok, IsTrue, not, refl, ap, ap₂, subst, arith}
-use Rattle.std.specs.Prelude.{flat_map, All}
+use Rattle.std.specs.Prelude.{◌&&◌, nat_le, flat_map, All}
 use Rattle.std.specs.List.{list_all}
+use Rattle.std.proofs.lemmas.Bool.{and_parts, leb-true}
 use Rattle.std.proofs.lemmas.List.{length-map}
 use Rattle.std.proofs.lemmas.List.Elements.{All-head, All-tail}
 use Rattle.rs_base.specs.declared.name.Swn.{Swn}
 use Rattle.rs_base.specs.declared.reply.Denial.{Denial}
 use Rattle.rs_base.specs.declared.reply.Denial.TheVariants as denials
 use Rattle.rs_base.specs.declared.value.Kind.{Kind}
+use Rattle.rs_ast.specs.Limits.{up_to, one_to, clauses_keep_limits, items_keep_limits, DmlKeepsLimits}
 use Rattle.rs_ast.specs.declared.change.Set.{Set}
 use Rattle.rs_ast.specs.declared.change.Term.{Term}
 use Rattle.rs_ast.specs.declared.clause.Clause.{Clause}
@@ -15,10 +17,11 @@ use Rattle.rs_ast.specs.declared.entry.Entry.{Entry}
 use Rattle.rs_ast.specs.declared.select.Key.{Key}
 use Rattle.rs_ast.specs.declared.select.Select.{Select}
 use Rattle.rs_ast.specs.declared.select.TableRef.{TableRef}
+use Rattle.rs_ast.specs.declared.stmt.Dml.{Dml}
 use Rattle.rs_ast.specs.declared.stmt.Dml.TheVariants as dmls
 use Rattle.rs_plan.specs.declared.bound.Bound.{Bound}
 use Rattle.rs_plan.specs.declared.bound.Bound.TheVariants as bounds
-use Rattle.rs_plan.specs.Over.{kinds_of, clauses_fit, set_fits, row_fits, AreEntriesOf, IsOver, IsShapeOver, IsInsertOver, IsUpdateOver, IsDeleteOver}
+use Rattle.rs_plan.specs.Over.{kinds_of, clauses_fit, set_fits, row_fits, AreEntriesOf, IsNarrow, IsOver, IsShapeOver, IsInsertOver, IsUpdateOver, IsDeleteOver}
 use Rattle.rs_scope.specs.declared.heading.Heading.{Heading}
 use Rattle.rs_scope.specs.declared.scope.Param.{Param}
 use Rattle.rs_scope.specs.declared.scope.ScopeColumn.{ScopeColumn}
@@ -29,12 +32,13 @@ use Rattle.rs_scope.specs.Predicates.{bound_clauses}
 use Rattle.rs_bind_query.specs.Denials.{all_differ, items_tests, key_tests, names_tests, grouping_test, keys_tests, select_tests}
 use Rattle.rs_bind_change.specs.Denials.{insert_tests, sets_tests, update_tests, delete_tests}
 use Rattle.rs_scope.specs.Denials.{test, column_tests, first_denial, clauses_tests}
-use Rattle.rs_bind.specs.Entries.{defined, heading_of, headings_of}
+use Rattle.rs_bind.specs.Binding.{bound_of}
+use Rattle.rs_bind.specs.Entries.{defined, heading_of, headings_of, table_count}
 use Rattle.rs_bind.specs.Laws.{BoundIsOver}
 use Rattle.rs_scope.specs.Scope.{as_u16, aliases_of, query_scope, scope_column, table_scope}
 use Rattle.rs_bind.proofs.OverChanges.{rows_over, sets_over}
 use Rattle.rs_bind.proofs.OverClauses.{clauses_over}
-use Rattle.rs_bind.proofs.OverScope.{kinds_in, table_kinds, query_kinds, IsNarrow, kinds_are_few}
+use Rattle.rs_bind.proofs.OverScope.{kinds_in, table_kinds, query_kinds, kinds_are_few}
 use Rattle.rs_bind.proofs.OverShape.{shape_over}
 use Rattle.rs_bind.proofs.OverTests.{first_passes, both_pass}
 
@@ -179,14 +183,34 @@ module _ (entry : Entry) (names : List Swn) (are : AreEntriesOf names (entry ∷
 
 -- ---- statements
 
+-- at most 6 tables
+pub tables_are_few : (stmt : Dml) → DmlKeepsLimits stmt → table_count stmt ≤ 6
+tables_are_few (dmls.Select select) limits =
+    let tables = items_keep_limits select.items && one_to 6 select.from in
+    let clauses = tables && clauses_keep_limits select.clauses in
+    let group = clauses && up_to 16 select.group in
+    let kept = (and_parts tables (clauses_keep_limits select.clauses) (and_parts clauses (up_to 16 select.group) (and_parts group (up_to 16 select.order) limits).0).0).0 in
+    let few = (and_parts (items_keep_limits select.items) (one_to 6 select.from) kept).1 in
+    leb-true (length select.from) 6 (and_parts (nat_le 1 (length select.from)) (up_to 6 select.from) few).1
+tables_are_few (dmls.Insert name rows) limits = omega arith
+tables_are_few (dmls.Update name sets clauses) limits = omega arith
+tables_are_few (dmls.Delete name clauses) limits = omega arith
+
 pub bound_is_over : BoundIsOver
-bound_is_over (dmls.Select select) names entries params bound are long e = select_over names entries are params select bound long cc
-bound_is_over (dmls.Insert name rows) names [] params bound are long e = absurd cc
-bound_is_over (dmls.Insert name rows) names (entry ∷ []) params bound are long e = insert_over entry names are params rows bound cc
-bound_is_over (dmls.Insert name rows) names (entry ∷ other ∷ entries) params bound are long e = absurd cc
-bound_is_over (dmls.Update name sets clauses) names [] params bound are long e = absurd cc
-bound_is_over (dmls.Update name sets clauses) names (entry ∷ []) params bound are long e = update_over entry names are params sets clauses bound cc
-bound_is_over (dmls.Update name sets clauses) names (entry ∷ other ∷ entries) params bound are long e = absurd cc
-bound_is_over (dmls.Delete name clauses) names [] params bound are long e = absurd cc
-bound_is_over (dmls.Delete name clauses) names (entry ∷ []) params bound are long e = delete_over entry names are params clauses bound cc
-bound_is_over (dmls.Delete name clauses) names (entry ∷ other ∷ entries) params bound are long e = absurd cc
+bound_is_over stmt entries params bound limits narrow long e = go stmt entries are long e
+  where
+    are : AreEntriesOf (map (λ (entry : Entry). entry.name) entries) entries
+    are = record { in_order = refl; few = let few = tables_are_few stmt limits in omega arith; narrow = narrow }
+
+    go : (stmt : Dml) (entries : List Entry) → AreEntriesOf (map (λ (entry : Entry). entry.name) entries) entries → length entries ≡ table_count stmt
+        → bound_of stmt (headings_of entries) params ≡ Some (Ok bound) → IsOver bound entries
+    go (dmls.Select select) entries are long e = select_over (map (λ (entry : Entry). entry.name) entries) entries are params select bound long cc
+    go (dmls.Insert name rows) [] are long e = absurd cc
+    go (dmls.Insert name rows) (entry ∷ []) are long e = insert_over entry (entry.name ∷ []) are params rows bound cc
+    go (dmls.Insert name rows) (entry ∷ other ∷ entries) are long e = absurd cc
+    go (dmls.Update name sets clauses) [] are long e = absurd cc
+    go (dmls.Update name sets clauses) (entry ∷ []) are long e = update_over entry (entry.name ∷ []) are params sets clauses bound cc
+    go (dmls.Update name sets clauses) (entry ∷ other ∷ entries) are long e = absurd cc
+    go (dmls.Delete name clauses) [] are long e = absurd cc
+    go (dmls.Delete name clauses) (entry ∷ []) are long e = delete_over entry (entry.name ∷ []) are params clauses bound cc
+    go (dmls.Delete name clauses) (entry ∷ other ∷ entries) are long e = absurd cc

@@ -14,7 +14,7 @@ use Rattle.rs_ast.specs.declared.column.ColRef.{ColRef}
 use Rattle.rs_ast.specs.declared.entry.Column.{Column}
 use Rattle.rs_ast.specs.declared.entry.Entry.{Entry}
 use Rattle.rs_ast.specs.declared.select.TableRef.{TableRef}
-use Rattle.rs_plan.specs.Over.{kinds_of, is_column_index}
+use Rattle.rs_plan.specs.Over.{kinds_of, is_column_index, IsNarrow}
 use Rattle.rs_scope.specs.declared.scope.ScopeColumn.{ScopeColumn}
 use Rattle.rs_scope.specs.Denials.{column_tests, first_denial, test}
 use Rattle.rs_bind.specs.Entries.{defined, heading_of, headings_of}
@@ -46,9 +46,6 @@ query_kinds (ref ∷ refs) (entry ∷ entries) long =
     ∙ ap₂ (λ (ones others : List Kind). ones ++ others) (kinds_as (alias_of ref (heading_of entry)) entry.columns) (query_kinds refs entries (omega arith))
 
 ---- the number of columns
-
-abbrev pub IsNarrow : Entry → Type 0
-IsNarrow entry = length entry.columns ≤ 16
 
 pub kinds_are_few : (entries : List Entry) → All IsNarrow entries → length (kinds_of entries) ≤ length entries * 16
 kinds_are_few [] narrow = omega arith

@@ -1,8 +1,9 @@
 //! Binding of statements over entries.
 
-ghost use Rattle.std.specs.Prelude.{◌≡◌, [], ◌∷◌, map, zip, length, IfOk, Some};
+ghost use Rattle.std.specs.Prelude.{◌≡◌, ◌≤◌, [], ◌∷◌, map, zip, length, All, IfOk, Some};
 ghost use Rattle.std.specs.Option.{option_copied};
-ghost use Rattle.rs_plan.specs.Over.{AreEntriesOf, IsOver};
+ghost use Rattle.rs_ast.specs.Limits.{DmlKeepsLimits};
+ghost use Rattle.rs_plan.specs.Over.{IsNarrow, IsOver};
 ghost use Rattle.rs_bind.specs.Binding.{bound_of};
 ghost use Rattle.rs_bind.specs.Entries as spec;
 
@@ -118,8 +119,9 @@ fn outcome_over(
     }
 }
 
-/// Binds a statement over the tables of these names, which these entries describe, or returns its denial. The parameters
-/// have these names; if there are values, each has the kind of its value. What is bound is over the entries.
+/// Binds a statement that keeps the limits over the tables of these names, which these entries describe, or returns its
+/// denial. The parameters have these names; if there are values, each has the kind of its value. What is bound is over
+/// the entries.
 pub fn bind(
     alloc: Global,
     stmt: &Dml,
@@ -128,8 +130,11 @@ pub fn bind(
     params: &[Ident],
     values: Option<&[Value]>,
 ) -> Result<Result<Bound, Denial>, NoMemory>
+    requires limits { DmlKeepsLimits stmt.now }
     requires count { length entries.now ≡ spec.table_count stmt.now }
-    requires entries { AreEntriesOf names.now entries.now }
+    requires names { names.now ≡ map (λ entry. entry.name) entries.now }
+    requires narrow { All IsNarrow entries.now }
+    requires params { length params.now ≤ 16 }
     requires values { spec.AreValuesOf params.now (option_copied values) }
     ensures outcome { IfOk result (λ outcome. bound_of stmt.now (spec.headings_of entries.now) (spec.params_of params.now (option_copied values.entry)) ≡ Some outcome) }
     ensures over { IfOk result (λ outcome. IfOk outcome (λ bound. IsOver bound entries.now)) }

@@ -7,5 +7,6 @@ pub mod ClauseRules
 pub mod SelectRules
 pub mod DmlRules
 pub mod StmtRules
+pub mod StmtLimits
 pub mod ParseLaws
 pub mod Loops

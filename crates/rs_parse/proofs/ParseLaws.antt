@@ -7,17 +7,20 @@ use Rattle.std.proofs.lemmas.Bool.{false≢true}
 use Rattle.std.proofs.lemmas.List.{append-nil, length-append}
 use Rattle.std.proofs.lemmas.Option.{slice_get_cases}
 use Rattle.rs_ast.specs.declared.stmt.Stmt.{Stmt}
+use Rattle.rs_ast.specs.Limits.{KeepsLimits}
 use Rattle.rs_token.specs.declared.token.Token.{Token}
 use Rattle.rs_parse.specs.declared.parser.ParseFault.{ParseFault}
 use Rattle.rs_parse.specs.declared.parser.ParseFault.TheVariants as faults
+use Rattle.rs_token.specs.declared.token_split.Split.{Split}
 use Rattle.rs_token.specs.Tokens.{split_of}
 use Rattle.rs_parse.specs.Grammar.{IsRequest}
 use Rattle.rs_parse.specs.Read.{Read, Got, Fault, ◌>>=◌}
 use Rattle.rs_parse.specs.Reader.{request_at, at_end, request_of}
-use Rattle.rs_parse.specs.Parsing.{Spells, SomeBegins, IsOffending, IsFault, AtToken, NoToken, AtEnd, Parsed, Statement, FaultAt, offset_of, judged, parsed_of, ParseGives}
+use Rattle.rs_parse.specs.Parsing.{Spells, SomeBegins, IsOffending, IsFault, AtToken, NoToken, AtEnd, Parsed, Statement, FaultAt, offset_of, judged, parsed_of, ParseGives, text_limit}
 use Rattle.rs_parse.proofs.Readers.{Finds, got_value, got_rest, fault_rest, got-fault, fault-got, got_both, fault_of_both, nil-cons, prefix_is_all}
 use Rattle.rs_parse.proofs.StmtRules.{request_reads}
-use Rattle.rs_token.proofs.Splits.{length-starts, end_of_whole}
+use Rattle.rs_parse.proofs.StmtLimits.{request_keeps}
+use Rattle.rs_token.proofs.Splits.{length-starts, end_of_whole, end_within, start_within}
 
 -- ---- tokens
 
@@ -153,6 +156,26 @@ offset_of_token text n left counted more = go (slice_get_cases (split_of text).s
     go (inl h) = h.2 ∙ ap Some (sym (ap (λ (m : ℕ). unwrap_or (slice_get (split_of text).starts m) (split_of text).end) same ∙ ap (λ (found : Option ℕ). unwrap_or found (split_of text).end) h.2))
     go (inr h) = absurd (omega (arith, h.0, counted, more, length-starts text))
 
+-- an offset is in the text or at its end
+pub offset_within : (text : List ℕ) (left : ℕ) → offset_of (split_of text) left ≤ length text
+offset_within text left = go (slice_get (split_of text).starts (length (split_of text).tokens - left)) refl
+  where
+    go : (found : Option ℕ) → slice_get (split_of text).starts (length (split_of text).tokens - left) ≡ found → unwrap_or found (split_of text).end ≤ length text
+    go None e = end_within text
+    go (Some start) e = let within = start_within text (length (split_of text).tokens - left) start e in omega arith
+
+pub end_short : (text : List ℕ) (split : Split) → length text ≤ text_limit → split ≡ split_of text → split.end ≤ text_limit
+end_short text split short e =
+    let within = end_within text in
+    let same : split.end ≡ (split_of text).end = ap (λ (s : Split). s.end) e in
+    omega (arith, within, same, short)
+
+pub offset_short : (text : List ℕ) (split : Split) (left offset : ℕ) → length text ≤ text_limit → split ≡ split_of text → offset ≡ offset_of split left → offset ≤ text_limit
+offset_short text split left offset short e is =
+    let within = offset_within text left in
+    let same : offset ≡ offset_of (split_of text) left = is ∙ ap (λ (s : Split). offset_of s left) e in
+    omega (arith, within, same, short)
+
 fault_at : (text : List ℕ) (offset : ℕ) (rest : List Token) → FaultOf (split_of text).tokens rest → offset_of (split_of text) (length rest) ≡ offset → IsFault text offset
 fault_at text offset [] f e = offset_at text offset f (sym (offset_after text) ∙ e)
 fault_at text offset (t ∷ us) f e =
@@ -171,6 +194,9 @@ fault_offset text offset e = go (request_of (split_of text).tokens) refl e
         NoToken g.0 all (sym g.1)
     go (Fault rest) r e = fault_at text offset rest (fault_found (split_of text).tokens rest r) (ap (offset_or offset) e)
 
+pub spelled_keeps_limits : (text : List ℕ) (stmt : Stmt) → Spells text stmt → KeepsLimits stmt
+spelled_keeps_limits text stmt (whole, is) = request_keeps stmt (split_of text).tokens is
+
 -- ---- calls
 
 pub parse_found : (text : List ℕ) (result : Result Stmt ParseFault) → ParseGives result (parsed_of text) → IfOk result (λ stmt. Spells text stmt)
@@ -182,3 +208,7 @@ parse_only text result exact stmt is = subst (ParseGives result) (unparsed_parse
 
 pub parse_fault : (text : List ℕ) (result : Result Stmt ParseFault) → ParseGives result (parsed_of text) → (offset : ℕ) → result ≡ Err (faults.Syntax offset) → IsFault text offset
 parse_fault text result exact offset e = fault_offset text offset (subst (λ (r : Result Stmt ParseFault). ParseGives r (parsed_of text)) e exact)
+
+pub parse_keeps : (text : List ℕ) (result : Result Stmt ParseFault) → ParseGives result (parsed_of text) → IfOk result (λ stmt. KeepsLimits stmt)
+parse_keeps text (Ok stmt) exact = spelled_keeps_limits text stmt (parsed_spelled text stmt exact)
+parse_keeps text (Err fault) exact = tt

@@ -11,6 +11,10 @@ use Rattle.rs_parse.specs.Grammar.{IsRequest}
 use Rattle.rs_parse.specs.Read.{Read, Got, Fault}
 use Rattle.rs_parse.specs.Reader.{request_of}
 
+-- the most bytes of a text that is parsed
+abbrev pub text_limit : ℕ
+text_limit = 8192
+
 -- the text is that of this statement: it is split to its end, and its tokens are a request by the grammar
 abbrev pub Spells : List ℕ → Stmt → Type 0
 Spells text stmt = ((split_of text).whole ≡ true) × IsRequest stmt (split_of text).tokens

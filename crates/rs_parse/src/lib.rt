@@ -14,4 +14,4 @@ mod statement;
 mod terms;
 mod token;
 
-pub use parser::{ParseFault, parse};
+pub use parser::{ParseFault, TEXT_LIMIT, parse};

@@ -138,11 +138,14 @@ row_fits columns row = list_all is_given row && pointwise (λ term kind. kinds_f
 
 -- ---- statements
 
+abbrev pub IsNarrow : Entry → Type 0
+IsNarrow entry = length entry.columns ≤ 16
+
 -- There is an entry for each table, in order, with its name: at most 6 entries, of at most 16 columns each.
 pub record AreEntriesOf (names : List Swn) (entries : List Entry) : Type 0 where
   pub in_order : names ≡ map (λ entry. entry.name) entries
   pub few : length entries ≤ 6
-  pub narrow : All (λ entry. length entry.columns ≤ 16) entries
+  pub narrow : All IsNarrow entries
 
 pub record IsSelectOver (names : List Swn) (aliases : List (List ℕ)) (widths : List ℕ) (clauses : List (List BoundCmp)) (shape : Shape) (entries : List Entry) : Type 0 where
   pub tables : AreEntriesOf names entries

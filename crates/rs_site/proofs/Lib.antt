@@ -1,4 +1,5 @@
 pub mod Said
+mod Rooms
 pub mod Asked
 pub mod FirstPart
 pub mod Lawful

@@ -1,6 +1,6 @@
 -- The supported statement of a request's text, if there is one, and else the byte offset of the reply. A statement that
 -- isn't supported is answered as a text without a parse, at offset 0.
-use Rattle.std.specs.Prelude.{◌≡◌, ℕ, ◌⊎◌, min, List, Option, None}
+use Rattle.std.specs.Prelude.{◌≡◌, ℕ, ◌⊎◌, List, Option, None}
 use Rattle.rs_base.specs.Reading.{◌>>=◌}
 use Rattle.rs_ast.specs.declared.stmt.Stmt as parsed
 use Rattle.rs_mean.specs.declared.built.Stmt.{Stmt}
@@ -14,9 +14,9 @@ statement_said text = statement_in text >>= built_of
 unfoldable pub statement_of : List ℕ → Option Stmt
 statement_of text = statement_said (parsed_of text)
 
--- the byte offset of a fault as replied, at most 2 ^ 32 - 1
+-- the byte offset of a fault as replied
 abbrev pub offset_said : Parsed → ℕ
-offset_said (FaultAt offset) = min offset 4294967295
+offset_said (FaultAt offset) = offset
 offset_said (Statement stmt) = 0
 
 -- the byte offset that is replied to a text without a supported statement

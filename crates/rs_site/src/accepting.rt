@@ -1,7 +1,8 @@
 //! Accepted asks.
 
-ghost use Rattle.std.specs.Prelude.{◌≡◌, ◌+◌, ◌<◌, IfOk, IfErr, OnOk, OnErr, Some, None, min};
+ghost use Rattle.std.specs.Prelude.{◌≡◌, ◌+◌, ◌<◌, ◌≤◌, length, IfOk, IfErr, OnOk, OnErr, Some, None};
 ghost use Rattle.rs_mean.specs.Changes.{changed};
+ghost use Rattle.rs_parse.specs.Parsing.{text_limit};
 ghost use Rattle.rs_site.specs.Asking as spec;
 ghost use Rattle.rs_site.specs.State.{next_txn};
 ghost use Rattle.rs_site.specs.Statement.{statement_of, offset_replied};
@@ -24,16 +25,10 @@ fn reply_of(outcome: Outcome) -> Reply
     }
 }
 
-/// Returns the byte offset of a fault as replied, at most 2 ^ 32 - 1.
-fn reported(offset: usize) -> u32
-    ensures { result ≡ min offset 4294967295 }
-{
-    u32::try_from(offset).unwrap_or(u32::MAX)
-}
-
 /// Returns the supported statement of a text, or else the byte offset to reply.
 #[tactic(auto, unfolding(crate::specs::Statement::statement_of, crate::specs::Statement::offset_replied))]
 fn statement(alloc: Global, text: &[u8]) -> Result<Result<Stmt, u32>, NoMemory>
+    requires { length text.now ≤ text_limit }
     ensures statement { IfOk result (λ said. IfOk said (λ stmt. statement_of text.now ≡ Some stmt)) }
     ensures none { IfOk result (λ said. OnErr said (statement_of text.now ≡ None)) }
     ensures offset { IfOk result (λ said. IfErr said (λ offset. offset ≡ offset_replied text.now)) }
@@ -43,7 +38,7 @@ fn statement(alloc: Global, text: &[u8]) -> Result<Result<Stmt, u32>, NoMemory>
             Some(stmt) => Ok(Ok(stmt)),
             None => Ok(Err(0)),
         },
-        Err(ParseFault::Syntax { place: offset }) => Ok(Err(reported(offset))),
+        Err(ParseFault::Syntax { place }) => Ok(Err(place)),
         Err(ParseFault::NoMemory) => Err(NoMemory),
     }
 }
@@ -167,6 +162,7 @@ impl Site {
         origin: &Origin,
         text: Bytes,
     ) -> Result<Outs, NoMemory>
+        requires { length text ≤ text_limit }
         ensures ok { IfOk result (λ outs. spec.accepted self.old from.now origin.now text ≡ (self.new, outs)) }
         ensures err { OnErr result (self.new ≡ self.old) }
     {

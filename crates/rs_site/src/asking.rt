@@ -1,6 +1,7 @@
 //! A site's handling of an ask.
 
-ghost use Rattle.std.specs.Prelude.{◌≡◌, ◌+◌, ◌<◌, ◌&&◌, ◌==◌, IfOk, OnErr};
+ghost use Rattle.std.specs.Prelude.{◌≡◌, ◌+◌, ◌<◌, ◌≤◌, ◌&&◌, ◌==◌, length, IfOk, OnErr};
+ghost use Rattle.rs_parse.specs.Parsing.{text_limit};
 ghost use Rattle.rs_site.specs.Asking as spec;
 ghost use Rattle.rs_session.specs.Sessions.{session_of, last_is_answered};
 
@@ -28,6 +29,7 @@ impl Site {
         origin: &Origin,
         text: Bytes,
     ) -> Result<Outs, NoMemory>
+        requires { length text ≤ text_limit }
         ensures ok { IfOk result (λ outs. spec.by_number self.old from.now origin.now text (session_of origin.now.user self.old.sessions) ≡ (self.new, outs)) }
         ensures err { OnErr result (self.new ≡ self.old) }
     {
@@ -52,6 +54,7 @@ impl Site {
         origin: &Origin,
         text: Bytes,
     ) -> Result<Outs, NoMemory>
+        requires { length text ≤ text_limit }
         ensures ok { IfOk result (λ outs. spec.on_first self.old from.now origin.now text ≡ (self.new, outs)) }
         ensures err { OnErr result (self.new ≡ self.old) }
     {
@@ -81,6 +84,7 @@ impl Site {
 
     /// Handles an ask from a peer.
     pub(crate) fn on_ask(&mut self, alloc: Global, from: &Peer, ask: Ask) -> Result<Outs, NoMemory>
+        requires { length ask.text ≤ text_limit }
         ensures ok { IfOk result (λ outs. spec.on_ask self.old from.now ask ≡ (self.new, outs)) }
         ensures err { OnErr result (self.new ≡ self.old) }
     {

@@ -2,6 +2,7 @@
 
 ghost use Rattle.std.specs.Prelude.{◌≡◌, ℕ, List, IfOk, OnErr};
 ghost use Rattle.rs_base.specs.declared.peer.Peer.{Peer};
+ghost use Rattle.rs_msg.specs.Limits.{HasRoom};
 ghost use Rattle.rs_site.specs.Asking as asking;
 ghost use Rattle.rs_site.specs.Dropped.{IsDropped};
 ghost use Rattle.rs_site.specs.Step as spec;
@@ -20,6 +21,7 @@ const MOST_BYTES: usize = 32_768;
 impl Site {
     /// Handles a message from a peer.
     fn on_message(&mut self, alloc: Global, from: &Peer, message: Message) -> Result<Outs, NoMemory>
+        requires { HasRoom message }
         ensures ok { IfOk result (λ outs. spec.on_message self.old from.now message ≡ (self.new, outs)) }
         ensures err { OnErr result (self.new ≡ self.old) }
     {
@@ -30,6 +32,7 @@ impl Site {
     }
 
     /// Handles a datagram from a peer.
+    #[tactic(auto, using(crate::proofs::Rooms::has_room))]
     fn on_datagram(&mut self, alloc: Global, from: &Peer, bytes: &[u8]) -> Result<Outs, NoMemory>
         ensures ok { IfOk result (λ outs. spec.on_datagram self.old from.now bytes.now ≡ (self.new, outs)) }
         ensures err { OnErr result (self.new ≡ self.old) }

@@ -2,18 +2,25 @@
 
 use crate::escape::unescaped;
 use case_tools::Output;
+use rs_ast::Stmt;
 use rs_base::{Bytes, NoMemory};
-use rs_parse::{ParseFault, parse};
+use rs_parse::{ParseFault, TEXT_LIMIT, parse};
 use rs_unparse::print_stmt;
 use std::alloc::Global;
+
+/// Parses a text, of which `TEXT_LIMIT` bytes are read at most.
+fn parsed(alloc: Global, text: &[u8]) -> Result<Stmt, ParseFault> {
+    let (text, _) = text.split_at(text.len().min(TEXT_LIMIT));
+    parse(alloc, text)
+}
 
 /// Gives the byte offset of the fault of a text and some more, or `None` for a request.
 fn fault_of(alloc: Global, text: &[u8], more: &[u8]) -> Result<Option<usize>, NoMemory> {
     let mut whole = Bytes::from_slice(alloc, text)?;
     whole.extend(more)?;
-    match parse(alloc, whole.as_slice()) {
+    match parsed(alloc, whole.as_slice()) {
         Ok(_) => Ok(None),
-        Err(ParseFault::Syntax { place }) => Ok(Some(place)),
+        Err(ParseFault::Syntax { place }) => Ok(Some(place as usize)),
         Err(ParseFault::NoMemory) => Err(NoMemory),
     }
 }
@@ -99,7 +106,7 @@ pub fn append_prefixes(word: &str, prefixes: &str, out: &mut Output) -> Result<(
 
 /// Gives the text of the statement of this text, if it is a request.
 fn printed(alloc: Global, text: &[u8]) -> Result<Option<Bytes>, NoMemory> {
-    match parse(alloc, text) {
+    match parsed(alloc, text) {
         Ok(stmt) => {
             let mut out = Bytes::new(alloc);
             print_stmt(alloc, &stmt, &mut out)?;
