@@ -23,6 +23,7 @@ use Rattle.law_world.proofs.Played.{playable, sites_one, course_is}
 use Rattle.law_world.proofs.Refusals.{replies_given_truly, syntax_true}
 use Rattle.law_world.proofs.Reported.{after_what_was_reported}
 use Rattle.law_world.proofs.RepliedAgain.{repeated_replies_agree}
+use Rattle.law_world.proofs.Tables.{tables_typed, tables_placed}
 
 pub explains : (given : List Event) → IsValid given → IsTrue (are_accepted false given) → Explains given (report_of (course given))
 explains given valid are =
@@ -46,6 +47,8 @@ explains given valid are =
           ap (λ (db : Database). expected db site.me what) (subst (λ (n : ℕ). site.database ≡ database_of n (world_after before).history) one (history.databases_follow given can before suffix number site separated at));
       sites_shown = ap (λ (views : List SiteView). length views) (history.sites_are given can) ∙ one;
       views_agree = λ i site at applied. subst (λ (n : ℕ). IsShown n (course given) i site) one (history.views_agree given can i site at);
+      tables_typed = tables_typed (sites_of given) (course given).history;
+      tables_placed = tables_placed (sites_of given) (course given).history;
       tables_in_order = subst (λ (n : ℕ). IsInOrder (database_of n (course given).history)) one (history.tables_in_order given can);
     }
   where

@@ -22,5 +22,6 @@ pub mod RepliedAgain
 pub mod Reported
 pub mod Reports
 pub mod Standing
+pub mod Tables
 pub mod Turns
 pub mod Walk

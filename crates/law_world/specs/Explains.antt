@@ -25,6 +25,7 @@ use Rattle.rs_course.specs.History.{database_of, outcome_after, with_entries}
 use Rattle.rs_course.specs.Moments.{IsStep, Accepts, actions, sites_of, world_after}
 use Rattle.rs_course.specs.Report.{report_of, tables_at}
 use Rattle.rs_course.specs.World.{site_at}
+use Rattle.law_mean.specs.Laws.{EachTable, IsAtSite, IsTyped}
 use Rattle.law_world.specs.Stores.{IsApplied, content_of}
 
 -- the reply is the final one of an accepted request
@@ -122,3 +123,6 @@ pub record Explains (events : List Event) (report : Report) : Type 0 where
   pub views_agree : (i : ℕ) (site : SiteState) → slice_get (course events).sites i ≡ Some (record { up = Some site }) → ((what : Resource) → IsApplied site what)
       → slice_get report.sites i ≡ Some (record { site = i + 1; up = Some site.epoch; tables = tables_at (i + 1) (database_of (sites_of events) report.history) })
   pub tables_in_order : IsInOrder (database_of (sites_of events) report.history)
+  -- each of its rows has a value for each column, of its kind, and each of its tables is stored at one of the sites
+  pub tables_typed : EachTable IsTyped (database_of (sites_of events) report.history)
+  pub tables_placed : EachTable (IsAtSite (sites_of events)) (database_of (sites_of events) report.history)
