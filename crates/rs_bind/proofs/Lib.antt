@@ -2,6 +2,8 @@ pub mod Outcomes
 pub mod Over
 pub mod OverChanges
 pub mod OverClauses
+pub mod OverParams
 pub mod OverScope
 pub mod OverShape
 pub mod OverTests
+pub mod Places

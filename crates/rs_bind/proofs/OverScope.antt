@@ -98,7 +98,7 @@ module _ (scope : List ScopeColumn) where
 
   -- the kind at a column's index is its kind, if there are few columns
   module _ (small : length scope ≤ 96) where
-    column_index_is : (written : ColRef) → column_index_of scope written ≡ position_or_len (is_named written) scope
+    pub column_index_is : (written : ColRef) → column_index_of scope written ≡ position_or_len (is_named written) scope
     column_index_is written =
         let most = prefix_len-le-length (λ column. not (is_named written column)) scope in
         omega arith

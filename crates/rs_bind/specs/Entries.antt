@@ -1,5 +1,6 @@
 -- The entries that a statement is bound over: they are its tables, and give their columns; parameters may have values.
 use Rattle.std.specs.Prelude.{◌≡◌, ℕ, List, map, zip, length, Option, Some, None}
+use Rattle.rs_base.specs.declared.value.Kind.{Kind}
 use Rattle.rs_base.specs.declared.value.Value.{Value}
 use Rattle.rs_base.specs.Value.{kind_of}
 use Rattle.rs_ast.specs.declared.column.ColDef.{ColDef}
@@ -30,6 +31,11 @@ valued name value = record { name = name; kind = Some (kind_of value) }
 abbrev pub params_of : List (List ℕ) → Option (List Value) → List Param
 params_of names None = map unvalued names
 params_of names (Some values) = map (λ both. valued both.0 both.1) (zip names values)
+
+-- the kinds of the values, if there are values
+abbrev pub kinds_given : Option (List Value) → Option (List Kind)
+kinds_given None = None
+kinds_given (Some values) = Some (map kind_of values)
 
 -- the number of tables that a statement names
 abbrev pub table_count : Dml → ℕ

@@ -1,8 +1,16 @@
-//! Laws of every bound statement. The function here is a law: its contract states it, and its body does nothing.
+//! Laws of every bound statement. Each function here is a law: its contract states it, and its body does
+//! nothing.
 
-ghost use Rattle.rs_bind.specs.Laws.{BoundIsOver};
+ghost use Rattle.rs_bind.specs.Laws.{BoundIsOver, PlacesAreNamed};
 
-/// A statement that is bound over the entries of its tables, and not denied, is over them.
+/// A statement that keeps the limits and is bound over the entries of its tables, and not denied, is over them, fits the
+/// values, if there are values, and has no parameter beyond the names.
 pub fn bound_is_over()
     ensures { BoundIsOver }
+{}
+
+/// In a statement that keeps the limits, over the entries of its tables, a name that some column has is bound to the index
+/// of such a column.
+pub fn places_are_named()
+    ensures { PlacesAreNamed }
 {}

@@ -6,5 +6,5 @@ mod laws;
 mod statements;
 
 pub use definitions::column_defs;
-pub use laws::bound_is_over;
+pub use laws::{bound_is_over, places_are_named};
 pub use statements::bind;

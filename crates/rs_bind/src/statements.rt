@@ -4,6 +4,7 @@ ghost use Rattle.std.specs.Prelude.{◌≡◌, ◌≤◌, [], ◌∷◌, map, zi
 ghost use Rattle.std.specs.Option.{option_copied};
 ghost use Rattle.rs_ast.specs.Limits.{DmlKeepsLimits};
 ghost use Rattle.rs_plan.specs.Over.{IsNarrow, IsOver};
+ghost use Rattle.rs_plan.specs.Params.{HasParamsBelow};
 ghost use Rattle.rs_bind.specs.Binding.{bound_of};
 ghost use Rattle.rs_bind.specs.Entries as spec;
 
@@ -121,7 +122,7 @@ fn outcome_over(
 
 /// Binds a statement that keeps the limits over the tables of these names, which these entries describe, or returns its
 /// denial. The parameters have these names; if there are values, each has the kind of its value. What is bound is over
-/// the entries.
+/// the entries, fits the values, if there are values, and has no parameter beyond the names.
 pub fn bind(
     alloc: Global,
     stmt: &Dml,
@@ -137,7 +138,8 @@ pub fn bind(
     requires params { length params.now ≤ 16 }
     requires values { spec.AreValuesOf params.now (option_copied values) }
     ensures outcome { IfOk result (λ outcome. bound_of stmt.now (spec.headings_of entries.now) (spec.params_of params.now (option_copied values.entry)) ≡ Some outcome) }
-    ensures over { IfOk result (λ outcome. IfOk outcome (λ bound. IsOver bound entries.now)) }
+    ensures over { IfOk result (λ outcome. IfOk outcome (λ bound. IsOver bound entries.now (spec.kinds_given (option_copied values.entry)))) }
+    ensures params { IfOk result (λ outcome. IfOk outcome (λ bound. HasParamsBelow (length params.now) bound)) }
 {
     outcome_over(alloc, stmt, entries, params, values)
 }

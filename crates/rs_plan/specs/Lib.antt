@@ -1,4 +1,5 @@
 pub mod Kinds
 pub mod Over
+pub mod Params
 pub mod Section
 pub mod Path
