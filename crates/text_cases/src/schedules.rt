@@ -1,7 +1,6 @@
 //! Schedules: what they are refused for, and their events.
 
-use crate::escape::unescaped;
-use case_tools::Output;
+use case_tools::{Output, unescaped};
 use rs_base::{NoMemory, Origin, SiteNo};
 use rs_sched::{Event, EventLines, SchedFault, Why, parse_schedule, print_event};
 

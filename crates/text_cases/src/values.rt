@@ -1,37 +1,8 @@
 //! Identifiers, texts, sites and values, and how they are printed.
 
-use crate::escape::unescaped;
 use crate::orders::{append_allowed, append_computed, append_order};
-use crate::words::Words;
-use case_tools::Output;
-use rs_base::{
-    Ident, Kind, NoMemory, Row, SiteNo, Txt, TxtFault, Value, copy_row, count_of, row_size,
-};
-use std::alloc::Global;
-
-/// Reads an integer, or a text. A word that is neither is 0.
-pub fn read_value(alloc: Global, word: &str) -> Result<Value, NoMemory> {
-    if let Ok(n) = word.parse() {
-        return Ok(Value::Int(n));
-    }
-    match Txt::new(alloc, word.as_bytes()) {
-        Ok(text) => Ok(Value::Text(text)),
-        Err(TxtFault::Bad) => Ok(Value::Int(0)),
-        Err(TxtFault::NoMemory) => Err(NoMemory),
-    }
-}
-
-/// Reads the values of a row, separated by `,`. An empty line is the empty row.
-pub fn read_row(alloc: Global, line: &str) -> Result<Row, NoMemory> {
-    let mut row = Row::new(alloc);
-    if line.is_empty() {
-        return Ok(row);
-    }
-    for word in line.split(',') {
-        row.push(read_value(alloc, word)?)?;
-    }
-    Ok(row)
-}
+use case_tools::{Output, Words, read_row, read_value, unescaped};
+use rs_base::{Ident, Kind, NoMemory, SiteNo, Txt, TxtFault, Value, copy_row, count_of, row_size};
 
 /// Appends the bytes of an identifier, or `none`.
 fn append_ident(bytes: &[u8], out: &mut Output) {
