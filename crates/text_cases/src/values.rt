@@ -85,49 +85,25 @@ fn append_words(kind: &str, words: &mut Words<'_>, out: &mut Output) {
     }
 }
 
-/// Appends what is printed of a value, or what a call on the rest of the line returns.
-fn append_rest(kind: &str, line: &str, out: &mut Output) -> Result<(), NoMemory> {
-    match kind {
-        "ident" | "text" | "len" => {
-            append_bytes(kind, unescaped(out.alloc, line)?.as_slice(), out);
-            Ok(())
-        }
-        "value" => {
-            out.value(&read_value(out.alloc, line)?);
-            Ok(())
-        }
-        _ => {
-            append_row(kind, read_row(out.alloc, line)?.as_slice(), out);
-            Ok(())
-        }
-    }
-}
-
-/// Reports whether a line of this kind is read word by word.
-fn is_of_words(kind: &str) -> bool {
-    matches!(
-        kind,
-        "site"
-            | "first_site"
-            | "number"
-            | "count_of"
-            | "txn"
-            | "swn"
-            | "allows"
-            | "compute"
-            | "origin"
-    )
-}
-
 /// Appends what is printed of the value that a line says, or what the call that it names returns.
 pub fn append_value(words: &mut Words<'_>, out: &mut Output) -> Result<(), NoMemory> {
-    let kind = words.next();
-    if kind == "order" {
-        return append_order(words, out);
+    match words.next() {
+        "order" => append_order(words, out),
+        "value" => {
+            out.value(&read_value(out.alloc, words.rest())?);
+            Ok(())
+        }
+        kind @ ("ident" | "text" | "len") => {
+            append_bytes(kind, unescaped(out.alloc, words.rest())?.as_slice(), out);
+            Ok(())
+        }
+        kind @ ("row" | "row_size" | "copy_row") => {
+            append_row(kind, read_row(out.alloc, words.rest())?.as_slice(), out);
+            Ok(())
+        }
+        kind => {
+            append_words(kind, words, out);
+            Ok(())
+        }
     }
-    if is_of_words(kind) {
-        append_words(kind, words, out);
-        return Ok(());
-    }
-    append_rest(kind, words.rest(), out)
 }
