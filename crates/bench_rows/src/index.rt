@@ -1,33 +1,16 @@
 //! Calls on an index over a column.
 
 use crate::random::Random;
+use crate::rows::{fill, filled};
 use rs_ast::Op;
-use rs_base::{NoMemory, ReadFault, Value, one_item};
+use rs_base::{NoMemory, Value};
 use rs_index::Index;
-use rs_rows::{TableRows, fits_row};
+use rs_rows::TableRows;
 use std::alloc::Global;
 
 /// Makes an integer of this number, if it has 63 bits.
 fn value_of(n: u64) -> Value {
     Value::Int(i64::try_from(n).unwrap_or(0))
-}
-
-/// Makes a table whose rows are the integers below `size`, in order.
-fn table(alloc: Global, size: u64) -> Result<TableRows, NoMemory> {
-    let mut table = TableRows::new(alloc);
-    for n in 0..size {
-        let row = one_item(alloc, value_of(n))?;
-        if table.has_room() && fits_row(row.as_slice()) {
-            table.insert(row)?;
-        }
-    }
-    Ok(table)
-}
-
-/// Makes the index over such a table.
-fn built(alloc: Global, size: u64) -> Result<Index, NoMemory> {
-    let table = table(alloc, size)?;
-    Index::build(alloc, &table, 0)
 }
 
 /// Adds this number of values in no order to indexes of up to `size` values, and returns how many indexes were full.
@@ -50,7 +33,8 @@ fn adds(alloc: Global, count: u64, size: u64) -> Result<u64, NoMemory> {
 }
 
 /// Drops a value in no order and adds it again, so often, and returns how many were there.
-fn turns(index: &mut Index, count: u64, size: u64) -> Result<u64, NoMemory> {
+fn turns(alloc: Global, count: u64, size: u64) -> Result<u64, NoMemory> {
+    let mut index = Index::build(alloc, &filled(alloc, size)?, 0)?;
     let mut random = Random::new();
     let mut found = 0u64;
     for _ in 0..count {
@@ -64,8 +48,11 @@ fn turns(index: &mut Index, count: u64, size: u64) -> Result<u64, NoMemory> {
     Ok(found)
 }
 
-/// Asks for the row of a value in no order, so often, and returns how many answers there were.
-fn ranges(index: &Index, count: u64, size: u64) -> u64 {
+/// Builds the index over a table beside it, asks for the row of a value in no order, so often, and returns how many answers
+/// there were.
+fn ranges(alloc: Global, count: u64, size: u64) -> Result<u64, NoMemory> {
+    let table = filled(alloc, size)?;
+    let index = Index::build(alloc, &table, 0)?;
     let mut random = Random::new();
     let mut found = 0u64;
     for _ in 0..count {
@@ -74,21 +61,17 @@ fn ranges(index: &Index, count: u64, size: u64) -> u64 {
             found = found.saturating_add(1);
         }
     }
-    found
+    Ok(found)
 }
 
-/// Makes calls, and returns a number that depends on their answers.
-pub fn make(alloc: Global, call: &str, count: u64, size: u64) -> Result<u64, ReadFault> {
+/// Makes calls, and returns a number that depends on their answers, if there are such calls.
+pub fn make(alloc: Global, call: &str, count: u64, size: u64) -> Option<Result<u64, NoMemory>> {
     match call {
-        "table" => Ok(table(alloc, size)?.count()),
-        "build" => {
-            let table = table(alloc, size)?;
-            let index = Index::build(alloc, &table, 0)?;
-            Ok(ranges(&index, 1, size))
-        }
-        "add" => Ok(adds(alloc, count, size)?),
-        "range" => Ok(ranges(&built(alloc, size)?, count, size)),
-        "turn" => Ok(turns(&mut built(alloc, size)?, count, size)?),
-        _ => Err(ReadFault::Malformed),
+        "table" => Some(fill(alloc, size)),
+        "build" => Some(ranges(alloc, 1, size)),
+        "add" => Some(adds(alloc, count, size)),
+        "range" => Some(ranges(alloc, count, size)),
+        "turn" => Some(turns(alloc, count, size)),
+        _ => None,
     }
 }

@@ -5,50 +5,38 @@ mod index;
 mod random;
 mod rows;
 
-use rs_base::ReadFault;
+use rs_base::NoMemory;
 use std::alloc::Global;
 use std::io;
 
-/// Which calls are made, how many, and on how many rows.
-#[derive(Drop)]
-struct Calls<'a> {
-    structure: &'a str,
-    call: &'a str,
-    count: u64,
-    size: u64,
+/// Makes the calls of a line `STRUCTURE CALL COUNT SIZE`, and returns a number that depends on their answers, if there are such
+/// calls.
+fn make(alloc: Global, line: &str) -> Option<Result<u64, NoMemory>> {
+    let mut words = line.split(' ');
+    let structure = words.next()?;
+    let call = words.next()?;
+    let count = words.next()?.parse().ok()?;
+    let size = words.next()?.parse().ok()?;
+    match structure {
+        "rows" => rows::make(alloc, call, count, size),
+        "index" => index::make(alloc, call, count, size),
+        _ => None,
+    }
 }
 
-/// Reads `STRUCTURE CALL COUNT SIZE`.
-fn read_calls(line: &str) -> Option<Calls<'_>> {
-    let (structure, rest) = line.split_once(' ')?;
-    let (call, rest) = rest.split_once(' ')?;
-    let (count, size) = rest.split_once(' ')?;
-    Some(Calls {
-        structure,
-        call,
-        count: count.parse().ok()?,
-        size: size.parse().ok()?,
-    })
-}
-
-/// Makes the calls, and returns a number that depends on their answers.
-fn make(alloc: Global, line: &str) -> Result<u64, ReadFault> {
-    let calls = read_calls(line).ok_or(ReadFault::Malformed)?;
-    match calls.structure {
-        "rows" => rows::make(alloc, calls.call, calls.count, calls.size),
-        "index" => index::make(alloc, calls.call, calls.count, calls.size),
-        _ => Err(ReadFault::Malformed),
+/// Prints a line and what its calls returned.
+fn print<R: Print>(rt: &R, line: &str, made: Option<Result<u64, NoMemory>>) -> io::Result<()> {
+    match made {
+        Some(Ok(answer)) => println!(rt; "{line}: {answer}"),
+        Some(Err(NoMemory)) => println!(rt; "{line}: out of memory"),
+        None => println!(rt; "{line}: no such calls"),
     }
 }
 
 fn main(rt: HostRuntime) -> io::Result<()> {
     for line in rt.lines(rt.alloc()) {
         let line = line?;
-        match make(rt.alloc(), line.as_str()) {
-            Ok(answer) => println!(rt; "{line}: {answer}")?,
-            Err(ReadFault::Malformed) => println!(rt; "{line}: no such calls")?,
-            Err(ReadFault::NoMemory) => println!(rt; "{line}: out of memory")?,
-        }
+        print(&rt, line.as_str(), make(rt.alloc(), line.as_str()))?;
     }
     Ok(())
 }

@@ -1,31 +1,31 @@
 //! Calls on the rows of a table.
 
 use crate::random::Random;
-use rs_base::{NoMemory, ReadFault, Row, Value, one_item};
+use rs_base::{NoMemory, Value, one_item};
 use rs_rows::{TableRows, fits_row};
 use std::alloc::Global;
 
-/// Makes a row of one integer.
-fn row_of(alloc: Global, n: i64) -> Result<Row, NoMemory> {
-    one_item(alloc, Value::Int(n))
-}
-
 /// Inserts a row of one integer, if there is room, and returns its number.
-fn insert(alloc: Global, table: &mut TableRows) -> Result<u64, NoMemory> {
-    let row = row_of(alloc, 7)?;
+fn insert(alloc: Global, table: &mut TableRows, n: u64) -> Result<u64, NoMemory> {
+    let row = one_item(alloc, Value::Int(i64::try_from(n).unwrap_or(0)))?;
     if table.has_room() && fits_row(row.as_slice()) {
         return table.insert(row);
     }
     Ok(0)
 }
 
-/// Makes a table of this number of rows.
-fn filled(alloc: Global, size: u64) -> Result<TableRows, NoMemory> {
+/// Makes a table whose rows are the integers below `size`, in order.
+pub fn filled(alloc: Global, size: u64) -> Result<TableRows, NoMemory> {
     let mut table = TableRows::new(alloc);
-    for _ in 0..size {
-        insert(alloc, &mut table)?;
+    for n in 0..size {
+        insert(alloc, &mut table, n)?;
     }
     Ok(table)
+}
+
+/// Fills a table, and returns its number of rows.
+pub fn fill(alloc: Global, size: u64) -> Result<u64, NoMemory> {
+    Ok(filled(alloc, size)?.count())
 }
 
 /// Inserts this number of rows into tables of up to `size` rows, and returns how many tables were full.
@@ -33,7 +33,7 @@ fn inserts(alloc: Global, count: u64, size: u64) -> Result<u64, NoMemory> {
     let mut table = TableRows::new(alloc);
     let mut full = 0u64;
     for _ in 0..count {
-        insert(alloc, &mut table)?;
+        insert(alloc, &mut table, 7)?;
         if table.count() >= size {
             table = TableRows::new(alloc);
             full = full.saturating_add(1);
@@ -43,7 +43,8 @@ fn inserts(alloc: Global, count: u64, size: u64) -> Result<u64, NoMemory> {
 }
 
 /// Gets rows by numbers in no order, and returns how many were there.
-fn gets(table: &TableRows, count: u64) -> u64 {
+fn gets(alloc: Global, count: u64, size: u64) -> Result<u64, NoMemory> {
+    let table = filled(alloc, size)?;
     let mut random = Random::new();
     let mut found = 0u64;
     for _ in 0..count {
@@ -51,15 +52,16 @@ fn gets(table: &TableRows, count: u64) -> u64 {
             found = found.saturating_add(1);
         }
     }
-    found
+    Ok(found)
 }
 
 /// Replaces rows by numbers in no order, and returns how many were there.
-fn replaces(alloc: Global, table: &mut TableRows, count: u64) -> Result<u64, NoMemory> {
+fn replaces(alloc: Global, count: u64, size: u64) -> Result<u64, NoMemory> {
+    let mut table = filled(alloc, size)?;
     let mut random = Random::new();
     let mut found = 0u64;
     for _ in 0..count {
-        let row = row_of(alloc, 8)?;
+        let row = one_item(alloc, Value::Int(8))?;
         if fits_row(row.as_slice()) && table.replace(random.below(table.next()), row).is_ok() {
             found = found.saturating_add(1);
         }
@@ -68,7 +70,8 @@ fn replaces(alloc: Global, table: &mut TableRows, count: u64) -> Result<u64, NoM
 }
 
 /// Removes a row in no order and inserts one, so often, and returns the last number.
-fn turns(alloc: Global, table: &mut TableRows, count: u64) -> Result<u64, NoMemory> {
+fn turns(alloc: Global, count: u64, size: u64) -> Result<u64, NoMemory> {
+    let mut table = filled(alloc, size)?;
     let mut random = Random::new();
     let mut numbers: Vec<u64> = (0..table.next()).collect(alloc)?;
     let mut last = 0;
@@ -76,21 +79,21 @@ fn turns(alloc: Global, table: &mut TableRows, count: u64) -> Result<u64, NoMemo
         let at = random.below(numbers.len() as u64) as usize;
         if let Some(number) = numbers.get_mut(at) {
             table.remove(*number);
-            last = insert(alloc, table)?;
+            last = insert(alloc, &mut table, 7)?;
             *number = last;
         }
     }
     Ok(last)
 }
 
-/// Makes calls, and returns a number that depends on their answers.
-pub fn make(alloc: Global, call: &str, count: u64, size: u64) -> Result<u64, ReadFault> {
+/// Makes calls, and returns a number that depends on their answers, if there are such calls.
+pub fn make(alloc: Global, call: &str, count: u64, size: u64) -> Option<Result<u64, NoMemory>> {
     match call {
-        "insert" => Ok(inserts(alloc, count, size)?),
-        "fill" => Ok(filled(alloc, size)?.count()),
-        "get" => Ok(gets(&filled(alloc, size)?, count)),
-        "replace" => Ok(replaces(alloc, &mut filled(alloc, size)?, count)?),
-        "turn" => Ok(turns(alloc, &mut filled(alloc, size)?, count)?),
-        _ => Err(ReadFault::Malformed),
+        "insert" => Some(inserts(alloc, count, size)),
+        "fill" => Some(fill(alloc, size)),
+        "get" => Some(gets(alloc, count, size)),
+        "replace" => Some(replaces(alloc, count, size)),
+        "turn" => Some(turns(alloc, count, size)),
+        _ => None,
     }
 }

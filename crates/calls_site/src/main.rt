@@ -1,26 +1,30 @@
-//! Makes public calls that no replayed schedule and no table of texts reaches: a site, and a world whose asks are not each
-//! settled. It prints what they return, a line of words for each call.
+//! Reads files of calls on a site, on parts of replies and on a world, and reports each call that answers otherwise than
+//! wanted.
 #![tactic(auto)]
 
 mod site;
-mod world;
 
 use anyhow::Result;
-use case_tools::Transcript;
-use rs_base::Bytes;
+use case_tools::{Output, check_cases};
 use rs_stream::{StdSink, write_whole};
-use std::alloc::Global;
+use site::SiteCases;
+use std::fs;
+use std::rt::Files;
 
-/// Makes the calls, and returns what they return.
-fn calls(alloc: Global) -> Result<Bytes> {
-    let mut out = Transcript::new(alloc);
-    site::calls(&mut out)?;
-    world::calls(&mut out)?;
-    Ok(out.finish()?)
+/// Makes the calls of the file of a line.
+fn check_line<R: Files + AllocGlobal>(rt: &R, file: &str, out: &mut Output) -> Result<()> {
+    let text = fs::read_to_string(rt, file)?;
+    let mut cases = SiteCases::new(rt.alloc())?;
+    check_cases(&mut cases, "site", file, text.as_str(), out)?;
+    Ok(())
 }
 
 fn main(rt: HostRuntime) -> Result<()> {
-    let out = calls(rt.alloc())?;
-    write_whole(&mut StdSink::new(rt.stdout()), out.as_slice())?;
+    let mut out = Output::new(rt.alloc());
+    for line in rt.lines(rt.alloc()) {
+        check_line(&rt, line?.as_str(), &mut out)?;
+    }
+    let report = out.finish()?;
+    write_whole(&mut StdSink::new(rt.stdout()), report.as_slice())?;
     Ok(())
 }

@@ -1,220 +1,156 @@
-//! Calls of rs_site.
+//! Calls of a site, of parts of replies, and of a world.
 
-use anyhow::{Context, Result, bail, ensure};
-use case_tools::{Transcript, ident, origin};
-use rs_base::{Bytes, NoMemory, Peer, Reply, SiteNo, one_item};
-use rs_msg::{ASK_LIMIT, Ask, Message, decode, encode};
+use case_tools::{Cases, Output, Words, unescaped};
+use rs_base::{Bytes, NoMemory, Peer, ReadFault, Reply, SiteNo, one_item};
+use rs_msg::{Ask, Message, ReplyPart, decode, encode};
+use rs_sched::{Event, parse_schedule};
 use rs_site::{Input, Outs, Site, Told};
+use rs_world::{World, print_report};
 use std::alloc::Global;
 
-const CREATE: &[u8] = b"CREATE TABLE t (a INT)";
+/// The client that each datagram comes from.
+const CLIENT: Peer = Peer::Client(7);
 
-const INSERT: &[u8] = b"INSERT INTO t VALUES (7)";
-
-const NO_REQUEST: &[u8] = b"no request";
-
-/// An ask of ann: the epoch, the number, the part and the text.
-type Asked<'a> = (u32, u64, u32, &'a [u8]);
-
-const ASKS: [Asked<'static>; 9] = [
-    (1, 1, 0, CREATE),
-    (1, 1, 0, INSERT),
-    (1, 3, 0, CREATE),
-    (2, 1, 0, CREATE),
-    (1, 2, 0, INSERT),
-    (1, 1, 0, CREATE),
-    (1, 2, 1, b""),
-    (1, 3, 0, NO_REQUEST),
-    (1, 3, 0, NO_REQUEST),
-];
-
-pub fn calls(out: &mut Transcript) -> Result<()> {
-    asks(out)?;
-    parts(out)?;
-    noise(out)?;
-    first_part(out)?;
-    further_part(out)?;
-    last_part(out)
+/// The site that the calls are made on.
+#[derive(Drop)]
+pub struct SiteCases {
+    site: Site,
 }
 
-fn opened(alloc: Global) -> Result<Site, NoMemory> {
-    Site::open(alloc, SiteNo::first(), SiteNo::first())
-}
-
-/// Returns the datagram of an ask of ann.
-fn datagram(alloc: Global, asked: Asked<'_>) -> Result<Input> {
-    let (epoch, number, part, text) = asked;
-    ensure!(text.len() <= ASK_LIMIT, "the text is too long");
-    let ask = Ask {
-        user: ident(b"ann")?,
-        epoch,
-        number,
-        part,
-        text: Bytes::from_slice(alloc, text)?,
-    };
+/// Reads the datagram of an ask `USER EPOCH NUMBER PART TEXT`.
+fn read_ask(alloc: Global, words: &mut Words<'_>) -> Result<Input, NoMemory> {
+    let message = Message::Ask(Ask {
+        user: words.ident(),
+        epoch: words.small(),
+        number: words.number(),
+        part: words.small(),
+        text: unescaped(alloc, words.rest())?,
+    });
     let mut bytes = Bytes::new(alloc);
-    encode(alloc, &Message::Ask(ask), &mut bytes)?;
-    Ok(Input::Datagram(Peer::Client(7), bytes))
+    encode(alloc, &message, &mut bytes)?;
+    Ok(Input::Datagram(CLIENT, bytes))
 }
 
-/// Writes the replies, and the number of committed executions.
-fn outs(out: &mut Transcript, outs: &Outs) {
-    for sent in outs.replies.as_slice() {
-        out.reply(&sent.origin, &sent.reply);
+/// Appends the replies, and the number of committed executions.
+fn append_outs(outs: &Outs, out: &mut Output) {
+    for told in outs.replies.as_slice() {
+        out.reply(&told.origin, &told.reply);
     }
-    out.word("committed");
+    out.text("committed ");
     out.number(outs.decided.len() as u64);
-    out.end();
 }
 
-/// Steps the site by an ask.
-fn ask(out: &mut Transcript, site: &mut Site, asked: Asked<'_>) -> Result<()> {
-    let (epoch, number, part, text) = asked;
-    out.word("Site::step");
-    out.number(u64::from(epoch));
-    out.number(number);
-    out.number(u64::from(part));
-    out.quoted(text);
-    out.end();
-    let outcome = site.step(out.alloc, &datagram(out.alloc, asked)?)?;
-    outs(out, &outcome);
-    Ok(())
-}
-
-fn asks(out: &mut Transcript) -> Result<()> {
-    let mut site = opened(out.alloc)?;
-    for asked in ASKS {
-        ask(out, &mut site, asked)?;
+/// Appends the parts that the replies are, each with a blank after it.
+fn append_parts(outs: &Outs, out: &mut Output) {
+    for told in outs.replies.as_slice() {
+        out.number(u64::from(told.part));
+        out.text(" ");
     }
-    out.word("Site::database, tables");
-    out.returned();
-    out.number(site.database().tables().len() as u64);
-    out.end();
-    Ok(())
 }
 
-/// Returns an INSERT of 100 rows.
-fn insert_of_many(alloc: Global) -> Result<Bytes, NoMemory> {
-    let mut text = Bytes::from_slice(alloc, b"INSERT INTO t VALUES (1000000000)")?;
-    for _ in 1..100 {
-        text.extend(b", (1000000000)")?;
+/// Reads the reply that shows a line, or that the text is no request.
+fn read_reply(alloc: Global, line: &str) -> Result<Reply, NoMemory> {
+    if line.is_empty() {
+        return Ok(Reply::Syntax(0));
     }
-    Ok(text)
+    Ok(Reply::Shown(one_item(alloc, unescaped(alloc, line)?)?))
 }
 
-/// Opens a site, and asks it for 10,000 rows of 11 printed bytes.
-fn with_long_reply(alloc: Global) -> Result<Site> {
-    let mut site = opened(alloc)?;
-    let insert = insert_of_many(alloc)?;
-    let query = b"SELECT u.a FROM t u, t v".as_slice();
-    for (number, text) in [(1, CREATE), (2, insert.as_slice()), (3, query)] {
-        let _replied = site.step(alloc, &datagram(alloc, (1, number, 0, text))?)?;
+/// Appends the fields of a part of a reply.
+fn append_reply(reply: &ReplyPart, out: &mut Output) {
+    out.origin(&reply.origin);
+    out.text(" part ");
+    out.number(u64::from(reply.part));
+    out.text(" of ");
+    out.number(u64::from(reply.parts));
+    out.text(" ");
+    out.append(reply.bytes.as_slice());
+}
+
+/// Appends the fields of a message that is a part of a reply.
+fn append_message(message: &Result<Message, ReadFault>, out: &mut Output) {
+    match message {
+        Ok(Message::Reply(reply)) => append_reply(reply, out),
+        _ => out.text("another message"),
     }
-    Ok(site)
 }
 
-// A part has 30,000 bytes.
-fn parts(out: &mut Transcript) -> Result<()> {
-    let mut site = with_long_reply(out.alloc)?;
-    for part in [1, 3, 4] {
-        let outcome = site.step(out.alloc, &datagram(out.alloc, (1, 3, part, b""))?)?;
-        out.word("Site::step, part");
-        out.number(u64::from(part));
-        out.returned();
-        for sent in outcome.replies.as_slice() {
-            out.number(u64::from(sent.part));
-        }
-        out.end();
-    }
-    Ok(())
-}
-
-fn long_noise(alloc: Global) -> Result<Input, NoMemory> {
-    let mut bytes = Bytes::new(alloc);
-    for _ in 0..32_769 {
-        bytes.push(0x52)?;
-    }
-    Ok(Input::Datagram(Peer::Client(7), bytes))
-}
-
-fn noise(out: &mut Transcript) -> Result<()> {
-    let mut site = opened(out.alloc)?;
-    let outcome = site.step(out.alloc, &long_noise(out.alloc)?)?;
-    out.word("Site::step, 32769 bytes,");
-    outs(out, &outcome);
-    let outcome = site.step(out.alloc, &Input::Tick)?;
-    out.word("Site::step, a tick,");
-    outs(out, &outcome);
-    Ok(())
-}
-
-/// Returns a part of the reply to ann's third request that its text is no request.
-fn reply_part(part: u32) -> Result<Told> {
-    Ok(Told {
-        to: Peer::Client(7),
-        origin: origin(1, b"ann", 3)?,
-        part,
-        reply: Reply::Syntax(0),
-    })
-}
-
-/// Shows the message of the first part, as it is read from its bytes.
-fn first_part(out: &mut Transcript) -> Result<()> {
-    let message = reply_part(0)?.message(out.alloc)?.context("no message")?;
+/// Appends the message of a part `SITE USER EPOCH NUMBER PART LINE` of a reply, as it is read from its encoding, or `none`.
+fn append_told(words: &mut Words<'_>, out: &mut Output) -> Result<(), NoMemory> {
+    let told = Told {
+        to: CLIENT,
+        origin: words.origin(),
+        part: words.small(),
+        reply: read_reply(out.alloc, words.rest())?,
+    };
+    let Some(message) = told.message(out.alloc)? else {
+        out.text("none");
+        return Ok(());
+    };
     let mut bytes = Bytes::new(out.alloc);
     encode(out.alloc, &message, &mut bytes)?;
-    let Message::Reply(read) = decode(out.alloc, bytes.as_slice())? else {
-        bail!("another message");
-    };
-    out.word("Told::message =");
-    out.bytes(read.origin.user.as_bytes());
-    out.number(read.origin.number);
-    out.word("part");
-    out.number(u64::from(read.part));
-    out.word("of");
-    out.number(u64::from(read.parts));
-    out.bytes(read.bytes.as_slice());
+    append_message(&decode(out.alloc, bytes.as_slice()), out);
     Ok(())
 }
 
-fn further_part(out: &mut Transcript) -> Result<()> {
-    out.word("Told::message, part 1");
-    out.returned();
-    out.word(match reply_part(1)?.message(out.alloc)? {
-        Some(_) => "a message",
-        None => "none",
-    });
-    out.end();
-    Ok(())
+/// Plays a course of events, and returns its report.
+fn played(alloc: Global, events: &[Event]) -> Result<Bytes, NoMemory> {
+    let report = World::play(alloc, events)?.into_report(alloc)?;
+    print_report(alloc, &report)
 }
 
-/// Returns the last part of a reply that shows a line of 40,000 bytes.
-fn part_of_long_line(alloc: Global) -> Result<Told> {
-    let mut line = Bytes::new(alloc);
-    for _ in 0..40_000 {
-        line.push(b'x')?;
+/// Appends the report of a schedule.
+fn append_report(schedule: &str, out: &mut Output) -> Result<(), NoMemory> {
+    let schedule = unescaped(out.alloc, schedule)?;
+    match parse_schedule(out.alloc, schedule.as_slice()) {
+        Ok(events) => out.append(played(out.alloc, events.as_slice())?.as_slice()),
+        Err(_) => out.text("no schedule"),
     }
-    Ok(Told {
-        to: Peer::Client(7),
-        origin: origin(1, b"ann", 3)?,
-        part: 1,
-        reply: Reply::Shown(one_item(alloc, line)?),
-    })
+    Ok(())
 }
 
-fn last_part(out: &mut Transcript) -> Result<()> {
-    let message = part_of_long_line(out.alloc)?
-        .message(out.alloc)?
-        .context("no message")?;
-    let Message::Reply(read) = message else {
-        bail!("another message");
-    };
-    out.word("Told::message, last part =");
-    out.number(u64::from(read.part));
-    out.word("of");
-    out.number(u64::from(read.parts));
-    out.word("bytes");
-    out.number(read.bytes.len() as u64);
-    out.end();
-    Ok(())
+impl SiteCases {
+    /// Opens the only site.
+    pub fn new(alloc: Global) -> Result<SiteCases, NoMemory> {
+        Ok(SiteCases {
+            site: Site::open(alloc, SiteNo::first(), SiteNo::first())?,
+        })
+    }
+
+    /// Steps the site, and appends its replies.
+    fn step(&mut self, input: &Input, out: &mut Output) -> Result<(), NoMemory> {
+        append_outs(&self.site.step(out.alloc, input)?, out);
+        Ok(())
+    }
+}
+
+impl Cases for SiteCases {
+    fn answer(&mut self, words: &mut Words<'_>, out: &mut Output) -> Result<(), NoMemory> {
+        match words.next() {
+            "ask" => {
+                let input = read_ask(out.alloc, words)?;
+                self.step(&input, out)
+            }
+            "parts" => {
+                let input = read_ask(out.alloc, words)?;
+                append_parts(&self.site.step(out.alloc, &input)?, out);
+                Ok(())
+            }
+            "datagram" => {
+                let bytes = unescaped(out.alloc, words.rest())?;
+                self.step(&Input::Datagram(CLIENT, bytes), out)
+            }
+            "tick" => self.step(&Input::Tick, out),
+            "tables" => {
+                out.number(self.site.database().tables().len() as u64);
+                Ok(())
+            }
+            "message" => append_told(words, out),
+            "play" => append_report(words.rest(), out),
+            _ => {
+                *self = SiteCases::new(out.alloc)?;
+                Ok(())
+            }
+        }
+    }
 }

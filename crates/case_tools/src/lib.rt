@@ -1,10 +1,14 @@
-//! What the programs of cases have in common: bytes and words that they put together, and arguments of calls.
+//! What the programs of cases have in common: files of cases, the words of a line, and bytes that are put together.
 #![tactic(auto)]
 
-mod arguments;
+mod cases;
+mod escape;
 mod output;
-mod transcript;
+mod values;
+mod words;
 
-pub use arguments::{dml, ident, integer_and_text, integers, name, origin, site, text};
+pub use cases::{Cases, check_cases};
+pub use escape::unescaped;
 pub use output::Output;
-pub use transcript::Transcript;
+pub use values::{read_row, read_rows, read_value};
+pub use words::Words;

@@ -1,156 +1,126 @@
 //! Calls on an index over a column of a table, and on the access paths.
 
-ghost use Rattle.std.specs.Prelude.{◌≢◌, IfOk};
+ghost use Rattle.std.specs.Prelude.{◌≢◌, IfSome};
 
-use crate::calls::Calls;
-use crate::values::{read_number, read_row, read_value};
+use crate::rows::insert;
+use case_tools::{Cases, Output, Words, read_row, read_value};
 use rs_access::{Access, FullScan, IndexScan, ValueList};
 use rs_ast::Op;
-use rs_base::{Bytes, NoMemory, ReadFault, print_number};
+use rs_base::NoMemory;
 use rs_index::Index;
-use rs_rows::{TableRows, fits_row};
+use rs_rows::TableRows;
 use std::alloc::Global;
 
 /// A table, and the index that the calls are made on.
 #[derive(Drop)]
-pub struct IndexCalls {
+pub struct IndexCases {
     table: TableRows,
     index: Index,
 }
 
 /// Reads a comparison that an index has a range of.
-pub fn read_op(word: &str) -> Result<Op, ReadFault>
-    ensures { IfOk result (λ op. op ≢ Op.Ne) }
+pub fn read_op(word: &str) -> Option<Op>
+    ensures { IfSome result (λ op. op ≢ Op.Ne) }
 {
     match word {
-        "=" => Ok(Op::Eq),
-        "<" => Ok(Op::Lt),
-        "<=" => Ok(Op::Le),
-        ">" => Ok(Op::Gt),
-        ">=" => Ok(Op::Ge),
-        _ => Err(ReadFault::Malformed),
+        "=" => Some(Op::Eq),
+        "<" => Some(Op::Lt),
+        "<=" => Some(Op::Le),
+        ">" => Some(Op::Gt),
+        ">=" => Some(Op::Ge),
+        _ => None,
     }
 }
 
 /// Appends the numbers that are left, each with a blank after it.
-fn append_left<A: Access>(alloc: Global, access: &mut A, out: &mut Bytes) -> Result<(), NoMemory> {
+fn append_left<A: Access>(access: &mut A, out: &mut Output) {
     while let Some(number) = access.next() {
-        print_number(alloc, number, out)?;
-        out.push(b' ')?;
+        out.number(number);
+        out.text(" ");
+    }
+}
+
+/// Appends what the index or a scan of it gives for `OP VALUE`.
+fn append_range(
+    index: &Index,
+    is_scan: bool,
+    words: &mut Words<'_>,
+    out: &mut Output,
+) -> Result<(), NoMemory> {
+    let Some(op) = read_op(words.next()) else {
+        words.refuse();
+        return Ok(());
+    };
+    let value = read_value(out.alloc, words.rest())?;
+    if is_scan {
+        append_left(&mut IndexScan::new(out.alloc, index, op, &value)?, out);
+    } else {
+        append_left(&mut index.range(op, &value), out);
     }
     Ok(())
-}
-
-/// Inserts a row and appends its number.
-fn insert(
-    alloc: Global,
-    table: &mut TableRows,
-    line: &str,
-    out: &mut Bytes,
-) -> Result<(), ReadFault> {
-    let row = read_row(alloc, line)?;
-    if table.has_room() && fits_row(row.as_slice()) {
-        let number = table.insert(row)?;
-        print_number(alloc, number, out)?;
-    }
-    Ok(())
-}
-
-/// Appends what the index gives for `OP VALUE`.
-fn range(alloc: Global, index: &Index, line: &str, out: &mut Bytes) -> Result<(), ReadFault> {
-    let (op, value) = line.split_once(' ').unwrap_or((line, ""));
-    let op = read_op(op)?;
-    let value = read_value(alloc, value)?;
-    Ok(append_left(alloc, &mut index.range(op, &value), out)?)
-}
-
-/// Appends what a scan of the index gives for `OP VALUE`.
-fn scan(alloc: Global, index: &Index, line: &str, out: &mut Bytes) -> Result<(), ReadFault> {
-    let (op, value) = line.split_once(' ').unwrap_or((line, ""));
-    let op = read_op(op)?;
-    let value = read_value(alloc, value)?;
-    let mut scan = IndexScan::new(alloc, index, op, &value)?;
-    Ok(append_left(alloc, &mut scan, out)?)
 }
 
 /// Appends the numbers of a list of values.
-fn list(alloc: Global, index: &Index, line: &str, out: &mut Bytes) -> Result<(), ReadFault> {
-    let values = read_row(alloc, line)?;
-    let mut list = ValueList::new(alloc, index, values.as_slice())?;
-    Ok(append_left(alloc, &mut list, out)?)
+fn append_list(index: &Index, line: &str, out: &mut Output) -> Result<(), NoMemory> {
+    let values = read_row(out.alloc, line)?;
+    append_left(
+        &mut ValueList::new(out.alloc, index, values.as_slice())?,
+        out,
+    );
+    Ok(())
 }
 
 /// Appends the numbers of all rows.
-fn full(alloc: Global, table: &TableRows, out: &mut Bytes) -> Result<(), NoMemory> {
-    let mut scan = FullScan::new(table.numbers(alloc)?);
-    append_left(alloc, &mut scan, out)
+fn append_all(table: &TableRows, out: &mut Output) -> Result<(), NoMemory> {
+    append_left(&mut FullScan::new(table.numbers(out.alloc)?), out);
+    Ok(())
 }
 
-fn add(alloc: Global, index: &mut Index, line: &str) -> Result<(), ReadFault> {
-    let (value, number) = line.split_once(' ').unwrap_or((line, ""));
-    let value = read_value(alloc, value)?;
-    Ok(index.add(&value, read_number(number)?)?)
-}
-
-/// Drops a pair and appends whether it was there.
-fn drop_row(
-    alloc: Global,
-    index: &mut Index,
-    line: &str,
-    out: &mut Bytes,
-) -> Result<(), ReadFault> {
-    let (value, number) = line.split_once(' ').unwrap_or((line, ""));
-    let value = read_value(alloc, value)?;
-    let was_there = index.drop_row(&value, read_number(number)?);
-    Ok(out.extend(name_of(was_there))?)
-}
-
-fn name_of(answer: bool) -> &'static [u8] {
-    if answer { b"true" } else { b"false" }
-}
-
-/// Builds an index over a column, by its index.
-fn build(alloc: Global, table: &TableRows, line: &str) -> Result<Index, ReadFault> {
-    let column = line.parse().map_err(|_| ReadFault::Malformed)?;
-    Ok(Index::build(alloc, table, column)?)
-}
-
-impl IndexCalls {
-    pub fn new(alloc: Global) -> Result<IndexCalls, NoMemory> {
+impl IndexCases {
+    pub fn new(alloc: Global) -> Result<IndexCases, NoMemory> {
         let table = TableRows::new(alloc);
         let index = Index::build(alloc, &table, 0)?;
-        Ok(IndexCalls { table, index })
+        Ok(IndexCases { table, index })
     }
 
     /// Makes a call that changes nothing, and appends its answer.
-    fn ask(&self, alloc: Global, name: &str, rest: &str, out: &mut Bytes) -> Result<(), ReadFault> {
-        match name {
-            "range" => range(alloc, &self.index, rest, out),
-            "scan" => scan(alloc, &self.index, rest, out),
-            "list" => list(alloc, &self.index, rest, out),
-            "full" => Ok(full(alloc, &self.table, out)?),
-            "column" => Ok(print_number(alloc, u64::from(self.index.column()), out)?),
-            _ => Err(ReadFault::Malformed),
+    fn ask(&self, call: &str, words: &mut Words<'_>, out: &mut Output) -> Result<(), NoMemory> {
+        match call {
+            "range" => append_range(&self.index, false, words, out),
+            "scan" => append_range(&self.index, true, words, out),
+            "list" => append_list(&self.index, words.rest(), out),
+            "full" => append_all(&self.table, out),
+            _ => {
+                out.number(u64::from(self.index.column()));
+                Ok(())
+            }
         }
     }
 }
 
-impl Calls for IndexCalls {
-    fn call(&mut self, alloc: Global, line: &str, out: &mut Bytes) -> Result<(), ReadFault> {
-        let (name, rest) = line.split_once(' ').unwrap_or((line, ""));
-        match name {
+impl Cases for IndexCases {
+    fn answer(&mut self, words: &mut Words<'_>, out: &mut Output) -> Result<(), NoMemory> {
+        match words.next() {
             "new" => {
-                *self = IndexCalls::new(alloc)?;
+                *self = IndexCases::new(out.alloc)?;
                 Ok(())
             }
-            "insert" => insert(alloc, &mut self.table, rest, out),
+            "insert" => insert(&mut self.table, read_row(out.alloc, words.rest())?, out),
             "build" => {
-                self.index = build(alloc, &self.table, rest)?;
+                self.index = Index::build(out.alloc, &self.table, words.byte())?;
                 Ok(())
             }
-            "add" => add(alloc, &mut self.index, rest),
-            "drop" => drop_row(alloc, &mut self.index, rest, out),
-            _ => self.ask(alloc, name, rest, out),
+            "add" => {
+                let value = read_value(out.alloc, words.next())?;
+                self.index.add(&value, words.number())
+            }
+            "drop" => {
+                let value = read_value(out.alloc, words.next())?;
+                let was_there = self.index.drop_row(&value, words.number());
+                out.text(if was_there { "true" } else { "false" });
+                Ok(())
+            }
+            call => self.ask(call, words, out),
         }
     }
 }

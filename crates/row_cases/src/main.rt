@@ -2,96 +2,32 @@
 //! wanted.
 #![tactic(auto)]
 
-mod calls;
+mod clauses;
 mod index;
 mod paths;
 mod rows;
-mod values;
+mod stored;
 
 use anyhow::Result;
-use calls::Calls;
-use case_tools::Output;
-use index::IndexCalls;
-use paths::PathCalls;
-use rows::RowCalls;
-use rs_base::{Bytes, NoMemory, ReadFault};
+use case_tools::{Output, check_cases};
+use clauses::ClauseCases;
+use index::IndexCases;
+use paths::PathCases;
+use rows::RowCases;
+use rs_base::NoMemory;
 use rs_stream::{StdSink, write_whole};
-use std::alloc::Global;
 use std::fs;
 use std::rt::Files;
-
-/// Appends the answer of a call, or that its line is not read.
-fn answer<C: Calls>(
-    alloc: Global,
-    calls: &mut C,
-    line: &str,
-    out: &mut Bytes,
-) -> Result<(), NoMemory> {
-    match calls.call(alloc, line, out) {
-        Ok(()) => Ok(()),
-        Err(ReadFault::Malformed) => out.extend(b"(a line that is not read)"),
-        Err(ReadFault::NoMemory) => Err(NoMemory),
-    }
-}
-
-/// Appends that a call answers otherwise than wanted.
-fn report(file: &str, number: u64, line: &str, came: &[u8], out: &mut Output) {
-    out.text(file);
-    out.text(":");
-    out.number(number);
-    out.text(": ");
-    out.text(line);
-    out.text(", came \"");
-    out.append(came);
-    out.text("\"\n");
-}
-
-/// Makes the call of a line, and reports an answer that is not the wanted one.
-fn check<C: Calls>(
-    calls: &mut C,
-    file: &str,
-    number: u64,
-    line: &str,
-    out: &mut Output,
-) -> Result<(), NoMemory> {
-    let (call, wanted) = line.split_once(" -> ").unwrap_or((line, ""));
-    let mut came = Bytes::new(out.alloc);
-    answer(out.alloc, calls, call, &mut came)?;
-    if came.as_slice() != wanted.as_bytes() {
-        report(file, number, line, came.as_slice(), out);
-    }
-    Ok(())
-}
-
-/// Makes the calls of a file in order, reports each that answers otherwise than wanted, and then the number of calls.
-fn check_all<C: Calls>(
-    mut calls: C,
-    file: &str,
-    text: &str,
-    out: &mut Output,
-) -> Result<(), NoMemory> {
-    let mut number = 0u64;
-    let mut count = 0u64;
-    for line in text.lines() {
-        number = number.saturating_add(1);
-        if !line.is_empty() && !line.starts_with('#') {
-            count = count.saturating_add(1);
-            check(&mut calls, file, number, line, out)?;
-        }
-    }
-    out.text(file);
-    out.text(": ");
-    out.number(count);
-    out.text(" calls\n");
-    Ok(())
-}
+use stored::StoredCases;
 
 /// Makes the calls of a file of this kind.
 fn check_kind(kind: &str, file: &str, text: &str, out: &mut Output) -> Result<(), NoMemory> {
     match kind {
-        "rows" => check_all(RowCalls::new(out.alloc), file, text, out),
-        "index" => check_all(IndexCalls::new(out.alloc)?, file, text, out),
-        _ => check_all(PathCalls::new(out.alloc), file, text, out),
+        "rows" => check_cases(&mut RowCases::new(out.alloc), kind, file, text, out),
+        "stored" => check_cases(&mut StoredCases::new(out.alloc), kind, file, text, out),
+        "index" => check_cases(&mut IndexCases::new(out.alloc)?, kind, file, text, out),
+        "clauses" => check_cases(&mut ClauseCases, kind, file, text, out),
+        _ => check_cases(&mut PathCases::new(out.alloc), kind, file, text, out),
     }
 }
 

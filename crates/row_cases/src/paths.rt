@@ -1,84 +1,33 @@
 //! The choice of a path for a section.
 
-use crate::calls::Calls;
-use crate::index::read_op;
-use crate::values::read_value;
-use rs_ast::{BoundClause, BoundClauses, BoundCmp, BoundSide, IndexOf, IndexOfs, Op};
-use rs_base::{Bytes, Ident, NoMemory, ReadFault, SiteNo, Txn, print_number, with_room};
+use crate::clauses::read_clauses;
+use case_tools::{Cases, Output, Words};
+use rs_ast::{IndexOf, IndexOfs};
+use rs_base::{NoMemory, SiteNo, Txn, with_room};
 use rs_plan::{Path, SectionKind, choose};
 use std::alloc::Global;
 
 /// The indexes of a table in order of making.
 #[derive(Drop)]
-pub struct PathCalls {
+pub struct PathCases {
     indexes: IndexOfs,
 }
 
-/// Reads a column `@N`, a parameter `?N`, or a value.
-fn read_side(alloc: Global, word: &str) -> Result<BoundSide, ReadFault> {
-    if let Some(column) = word.strip_prefix('@') {
-        let column = column.parse().map_err(|_| ReadFault::Malformed)?;
-        return Ok(BoundSide::Place(column));
-    }
-    if let Some(param) = word.strip_prefix('?') {
-        let param = param.parse().map_err(|_| ReadFault::Malformed)?;
-        return Ok(BoundSide::Param(param));
-    }
-    Ok(BoundSide::Lit(read_value(alloc, word)?))
-}
-
-fn read_any_op(word: &str) -> Result<Op, ReadFault> {
-    if word == "<>" {
-        return Ok(Op::Ne);
-    }
-    read_op(word)
-}
-
-/// Reads a comparison `COLUMN:OP:OPERAND`.
-fn read_cmp(alloc: Global, word: &str) -> Result<BoundCmp, ReadFault> {
-    let (left, rest) = word.split_once(':').ok_or(ReadFault::Malformed)?;
-    let (op, right) = rest.split_once(':').ok_or(ReadFault::Malformed)?;
-    let left = left.parse().map_err(|_| ReadFault::Malformed)?;
-    let op = read_any_op(op)?;
-    let right = read_side(alloc, right)?;
-    Ok(BoundCmp { left, op, right })
-}
-
-/// Reads comparisons that `|` separates.
-fn read_clause(alloc: Global, word: &str) -> Result<BoundClause, ReadFault> {
-    let mut clause = with_room(alloc, 1)?;
-    for part in word.split('|') {
-        clause.push(read_cmp(alloc, part)?)?;
-    }
-    Ok(clause)
-}
-
-/// Reads clauses that blanks separate.
-fn read_clauses(alloc: Global, line: &str) -> Result<BoundClauses, ReadFault> {
-    let mut clauses = with_room(alloc, 1)?;
-    for word in line.split_whitespace() {
-        clauses.push(read_clause(alloc, word)?)?;
-    }
-    Ok(clauses)
-}
-
 /// Reads the column and the clauses of a fetch.
-fn read_fetch(alloc: Global, line: &str) -> Result<SectionKind, ReadFault> {
-    let (by, rest) = line.split_once(' ').unwrap_or((line, ""));
-    let by = by.parse().map_err(|_| ReadFault::Malformed)?;
-    let clauses = read_clauses(alloc, rest)?;
-    let columns = with_room(alloc, 0)?;
+fn read_fetch(alloc: Global, words: &mut Words<'_>) -> Result<SectionKind, NoMemory> {
+    let by = words.byte();
+    let clauses = read_clauses(alloc, words)?;
     Ok(SectionKind::Fetch {
         clauses,
-        columns,
+        columns: with_room(alloc, 0)?,
         by,
     })
 }
 
 /// Reads a scan, a delete or an update, by its clauses.
-fn read_kind(alloc: Global, name: &str, line: &str) -> Result<SectionKind, ReadFault> {
-    let clauses = read_clauses(alloc, line)?;
-    match name {
+fn read_kind(alloc: Global, call: &str, words: &mut Words<'_>) -> Result<SectionKind, NoMemory> {
+    let clauses = read_clauses(alloc, words)?;
+    match call {
         "scan" => Ok(SectionKind::Scan {
             clauses,
             columns: with_room(alloc, 0)?,
@@ -88,83 +37,83 @@ fn read_kind(alloc: Global, name: &str, line: &str) -> Result<SectionKind, ReadF
             sets: with_room(alloc, 0)?,
             clauses,
         }),
-        _ => Err(ReadFault::Malformed),
+        _ => {
+            words.refuse();
+            Ok(SectionKind::Delete { clauses })
+        }
     }
 }
 
-fn read_section(alloc: Global, name: &str, line: &str) -> Result<SectionKind, ReadFault> {
-    match name {
-        "fetch" => read_fetch(alloc, line),
+fn read_section(alloc: Global, call: &str, words: &mut Words<'_>) -> Result<SectionKind, NoMemory> {
+    match call {
+        "fetch" => read_fetch(alloc, words),
         "insert" => Ok(SectionKind::Insert {
             rows: with_room(alloc, 0)?,
         }),
-        _ => read_kind(alloc, name, line),
+        _ => read_kind(alloc, call, words),
     }
 }
 
 /// Appends `scan`, or the index's name and the number of the transaction that made it.
-fn append_path(alloc: Global, path: &Path, out: &mut Bytes) -> Result<(), NoMemory> {
+fn append_path(path: &Path, out: &mut Output) {
     match path {
-        Path::Scan => out.extend(b"scan"),
+        Path::Scan => out.text("scan"),
         Path::Index { name, made } => {
-            out.extend(name.as_bytes())?;
-            out.push(b' ')?;
-            print_number(alloc, made.number, out)
+            out.append(name.as_bytes());
+            out.text(" ");
+            out.number(made.number)
         }
     }
 }
 
 /// Reads the name and the column of an index that the transaction of this number made.
-fn read_index(line: &str, number: u64) -> Result<IndexOf, ReadFault> {
-    let (name, column) = line.split_once(' ').unwrap_or((line, ""));
-    let name = Ident::new(name.as_bytes()).ok_or(ReadFault::Malformed)?;
-    let column = column.parse().map_err(|_| ReadFault::Malformed)?;
-    let made = Txn {
-        site: SiteNo::first(),
-        epoch: 1,
-        number,
-    };
-    Ok(IndexOf { name, column, made })
+fn read_index(words: &mut Words<'_>, number: u64) -> IndexOf {
+    IndexOf {
+        name: words.ident(),
+        column: words.byte(),
+        made: Txn {
+            site: SiteNo::first(),
+            epoch: 1,
+            number,
+        },
+    }
 }
 
-impl PathCalls {
-    pub fn new(alloc: Global) -> PathCalls {
-        PathCalls {
+impl PathCases {
+    pub fn new(alloc: Global) -> PathCases {
+        PathCases {
             indexes: IndexOfs::new(alloc),
         }
     }
 
-    /// Appends the path of a section.
-    fn choose(
+    /// Appends the path of a section, if its line is read.
+    fn append_choice(
         &self,
-        alloc: Global,
-        name: &str,
-        rest: &str,
-        out: &mut Bytes,
-    ) -> Result<(), ReadFault> {
-        let kind = read_section(alloc, name, rest)?;
-        let path = choose(&kind, self.indexes.as_slice());
-        Ok(append_path(alloc, &path, out)?)
-    }
-
-    /// Adds an index.
-    fn add(&mut self, line: &str) -> Result<(), ReadFault> {
-        let index = read_index(line, self.indexes.len() as u64)?;
-        self.indexes.push(index)?;
+        call: &str,
+        words: &mut Words<'_>,
+        out: &mut Output,
+    ) -> Result<(), NoMemory> {
+        let kind = read_section(out.alloc, call, words)?;
+        if !words.is_refused() {
+            append_path(&choose(&kind, self.indexes.as_slice()), out);
+        }
         Ok(())
     }
 }
 
-impl Calls for PathCalls {
-    fn call(&mut self, alloc: Global, line: &str, out: &mut Bytes) -> Result<(), ReadFault> {
-        let (name, rest) = line.split_once(' ').unwrap_or((line, ""));
-        match name {
+impl Cases for PathCases {
+    fn answer(&mut self, words: &mut Words<'_>, out: &mut Output) -> Result<(), NoMemory> {
+        match words.next() {
             "new" => {
-                self.indexes = IndexOfs::new(alloc);
+                self.indexes = IndexOfs::new(out.alloc);
                 Ok(())
             }
-            "index" => self.add(rest),
-            _ => self.choose(alloc, name, rest, out),
+            "index" => {
+                let number = self.indexes.len() as u64;
+                self.indexes.push(read_index(words, number))?;
+                Ok(())
+            }
+            call => self.append_choice(call, words, out),
         }
     }
 }

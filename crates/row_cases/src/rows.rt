@@ -1,161 +1,165 @@
 //! Calls on the rows of a table.
 
-use crate::calls::Calls;
-use crate::values::{append_found, append_numbers, append_row, read_number, read_row};
-use rs_base::{Bytes, NoMemory, ReadFault, Row, Value, one_item, print_number};
+use case_tools::{Cases, Output, Words, read_row};
+use rs_base::{NoMemory, Row, Value, one_item};
 use rs_rows::{Counted, ReadRows, TableRows, fits_row};
 use std::alloc::Global;
 
 /// The table that the calls are made on.
 #[derive(Drop)]
-pub struct RowCalls {
+pub struct RowCases {
     table: TableRows,
 }
 
+/// Appends the values of a row, separated by `,`, in parentheses.
+fn append_row(row: &[Value], out: &mut Output) {
+    out.text("(");
+    for (index, value) in row.iter().enumerate() {
+        out.text(if index > 0 { "," } else { "" });
+        out.value(value);
+    }
+    out.text(")");
+}
+
+/// Appends a row, or `none`.
+fn append_found(row: Option<&Row>, out: &mut Output) {
+    match row {
+        Some(row) => append_row(row.as_slice(), out),
+        None => out.text("none"),
+    }
+}
+
 /// Appends the number that the row gets, or why it can't be inserted.
-fn insert(alloc: Global, table: &mut TableRows, row: Row, out: &mut Bytes) -> Result<(), NoMemory> {
+pub fn insert(table: &mut TableRows, row: Row, out: &mut Output) -> Result<(), NoMemory> {
     if !table.has_room() {
-        return out.extend(b"full");
+        out.text("full");
+        return Ok(());
     }
     if !fits_row(row.as_slice()) {
-        return out.extend(b"too large");
+        out.text("too large");
+        return Ok(());
     }
-    let number = table.insert(row)?;
-    print_number(alloc, number, out)
+    out.number(table.insert(row)?);
+    Ok(())
 }
 
 /// Inserts this number of rows of one integer, and appends the number of rows then.
-fn fill(alloc: Global, table: &mut TableRows, count: u64, out: &mut Bytes) -> Result<(), NoMemory> {
-    let mut numbers = Bytes::new(alloc);
+fn fill(table: &mut TableRows, count: u64, out: &mut Output) -> Result<(), NoMemory> {
+    let mut numbers = Output::new(out.alloc);
     for _ in 0..count {
-        let row = one_item(alloc, Value::Int(0))?;
-        insert(alloc, table, row, &mut numbers)?;
+        let row = one_item(out.alloc, Value::Int(0))?;
+        insert(table, row, &mut numbers)?;
     }
-    print_number(alloc, table.count(), out)
+    out.number(table.count());
+    Ok(())
 }
 
-/// Appends the old row, or `refused` and the given row.
-fn replace(
-    alloc: Global,
-    table: &mut TableRows,
-    line: &str,
-    out: &mut Bytes,
-) -> Result<(), ReadFault> {
-    let (number, row) = line.split_once(' ').unwrap_or((line, ""));
-    let row = read_row(alloc, row)?;
-    if !fits_row(row.as_slice()) {
-        return Ok(out.extend(b"too large")?);
-    }
-    let replaced = table.replace(read_number(number)?, row);
-    Ok(append_replaced(alloc, &replaced, out)?)
-}
-
-fn append_replaced(
-    alloc: Global,
-    replaced: &Result<Row, Row>,
-    out: &mut Bytes,
-) -> Result<(), NoMemory> {
+fn append_replaced(replaced: &Result<Row, Row>, out: &mut Output) {
     match replaced {
-        Ok(old) => append_row(alloc, old.as_slice(), out),
+        Ok(old) => append_row(old.as_slice(), out),
         Err(given) => {
-            out.extend(b"refused ")?;
-            append_row(alloc, given.as_slice(), out)
+            out.text("refused ");
+            append_row(given.as_slice(), out)
         }
     }
 }
 
-/// Appends the row that is removed, or `none`.
-fn remove(
-    alloc: Global,
-    table: &mut TableRows,
-    number: &str,
-    out: &mut Bytes,
-) -> Result<(), ReadFault> {
-    let row = table.remove(read_number(number)?);
-    Ok(append_found(alloc, row.as_ref(), out)?)
+/// Appends the old row, or `refused` and the given row.
+fn replace(table: &mut TableRows, number: u64, row: Row, out: &mut Output) {
+    if fits_row(row.as_slice()) {
+        append_replaced(&table.replace(number, row), out)
+    } else {
+        out.text("too large")
+    }
 }
 
 /// Appends each number and its row.
-fn append_rows(alloc: Global, table: &TableRows, out: &mut Bytes) -> Result<(), NoMemory> {
+fn append_rows(table: &TableRows, out: &mut Output) {
     for (number, row) in table.iter() {
-        print_number(alloc, number, out)?;
-        append_row(alloc, row.as_slice(), out)?;
+        out.number(number);
+        append_row(row.as_slice(), out);
     }
-    Ok(())
 }
 
 /// Appends the numbers, how many they are, and the encoded size of the rows.
-fn append_list<'t, R: ReadRows<'t>>(
-    alloc: Global,
-    rows: &R,
-    out: &mut Bytes,
-) -> Result<(), NoMemory> {
-    append_numbers(alloc, rows.numbers(alloc)?.as_slice(), out)?;
-    out.extend(b"; ")?;
-    print_number(alloc, rows.count(), out)?;
-    out.extend(b" rows, ")?;
-    print_number(alloc, rows.bytes(), out)?;
-    out.extend(b" bytes")
+fn append_list<'t, R: ReadRows<'t>>(rows: &R, out: &mut Output) -> Result<(), NoMemory> {
+    let numbers = rows.numbers(out.alloc)?;
+    for (index, number) in numbers.as_slice().iter().enumerate() {
+        out.text(if index > 0 { " " } else { "" });
+        out.number(*number);
+    }
+    out.text("; ");
+    out.number(rows.count());
+    out.text(" rows, ");
+    out.number(rows.bytes());
+    out.text(" bytes");
+    Ok(())
 }
 
 /// Reads the rows with these numbers, and appends each or `none`, and the count of reads.
 fn append_reads(
-    alloc: Global,
     table: &TableRows,
-    numbers: &str,
-    out: &mut Bytes,
-) -> Result<(), ReadFault> {
+    words: &mut Words<'_>,
+    out: &mut Output,
+) -> Result<(), NoMemory> {
     let mut counted = Counted::new(table);
-    for number in numbers.split_whitespace() {
-        append_found(alloc, counted.row(read_number(number)?), out)?;
-        out.push(b' ')?;
+    for word in words.rest().split_whitespace() {
+        let mut number = Words::new(word);
+        append_found(counted.row(number.number()), out);
+        out.text(" ");
+        words.include(&number);
     }
-    print_number(alloc, counted.reads(), out)?;
-    out.extend(b" reads of ")?;
-    Ok(append_list(alloc, &counted, out)?)
+    out.number(counted.reads());
+    out.text(" reads of ");
+    append_list(&counted, out)
 }
 
-impl RowCalls {
-    pub fn new(alloc: Global) -> RowCalls {
-        RowCalls {
+impl RowCases {
+    pub fn new(alloc: Global) -> RowCases {
+        RowCases {
             table: TableRows::new(alloc),
         }
     }
 
-    /// Goes on with a copy of the table.
-    fn copy(&mut self, alloc: Global) -> Result<(), NoMemory> {
-        self.table = self.table.copy(alloc)?;
-        Ok(())
-    }
-
     /// Makes a call that changes nothing, and appends its answer.
-    fn ask(&self, alloc: Global, name: &str, rest: &str, out: &mut Bytes) -> Result<(), ReadFault> {
-        match name {
-            "get" => Ok(append_found(alloc, self.table.get(read_number(rest)?), out)?),
-            "rows" => Ok(append_rows(alloc, &self.table, out)?),
-            "reads" => append_reads(alloc, &self.table, rest, out),
-            "count" => Ok(print_number(alloc, self.table.count(), out)?),
-            "bytes" => Ok(print_number(alloc, self.table.bytes(), out)?),
-            "next" => Ok(print_number(alloc, self.table.next(), out)?),
-            _ => Err(ReadFault::Malformed),
+    fn ask(&self, call: &str, words: &mut Words<'_>, out: &mut Output) -> Result<(), NoMemory> {
+        match call {
+            "get" => append_found(self.table.get(words.number()), out),
+            "rows" => append_rows(&self.table, out),
+            "count" => out.number(self.table.count()),
+            "bytes" => out.number(self.table.bytes()),
+            "next" => out.number(self.table.next()),
+            "reads" => return append_reads(&self.table, words, out),
+            _ => words.refuse(),
         }
+        Ok(())
     }
 }
 
-impl Calls for RowCalls {
-    fn call(&mut self, alloc: Global, line: &str, out: &mut Bytes) -> Result<(), ReadFault> {
-        let (name, rest) = line.split_once(' ').unwrap_or((line, ""));
-        match name {
+impl Cases for RowCases {
+    fn answer(&mut self, words: &mut Words<'_>, out: &mut Output) -> Result<(), NoMemory> {
+        match words.next() {
             "new" => {
-                self.table = TableRows::new(alloc);
+                self.table = TableRows::new(out.alloc);
                 Ok(())
             }
-            "copy" => Ok(self.copy(alloc)?),
-            "insert" => Ok(insert(alloc, &mut self.table, read_row(alloc, rest)?, out)?),
-            "fill" => Ok(fill(alloc, &mut self.table, read_number(rest)?, out)?),
-            "replace" => replace(alloc, &mut self.table, rest, out),
-            "remove" => remove(alloc, &mut self.table, rest, out),
-            _ => self.ask(alloc, name, rest, out),
+            "copy" => {
+                self.table = self.table.copy(out.alloc)?;
+                Ok(())
+            }
+            "insert" => insert(&mut self.table, read_row(out.alloc, words.rest())?, out),
+            "fill" => fill(&mut self.table, words.number(), out),
+            "replace" => {
+                let number = words.number();
+                let row = read_row(out.alloc, words.rest())?;
+                replace(&mut self.table, number, row, out);
+                Ok(())
+            }
+            "remove" => {
+                append_found(self.table.remove(words.number()).as_ref(), out);
+                Ok(())
+            }
+            call => self.ask(call, words, out),
         }
     }
 }

@@ -24,10 +24,14 @@ pub enum Difference<'a> {
     },
 }
 
+fn is_line_feed(byte: &u8) -> bool {
+    *byte == b'\n'
+}
+
 /// Finds the first line in which two texts differ.
 fn differing_line<'a>(wanted: &'a [u8], got: &'a [u8]) -> Option<Difference<'a>> {
-    let mut wanted_lines = wanted.split(|byte| *byte == b'\n');
-    let mut got_lines = got.split(|byte| *byte == b'\n');
+    let mut wanted_lines = wanted.split(is_line_feed);
+    let mut got_lines = got.split(is_line_feed);
     for number in 1..u64::MAX {
         let wanted = wanted_lines.next();
         let got = got_lines.next();

@@ -14,6 +14,7 @@ ghost use Rattle.std.specs.Prelude.{◌<◌, IfSome};
 
 use rs_base::ReadFault;
 use std::alloc::Global;
+use std::str;
 
 /// A piece of the notation.
 #[derive(Clone, Copy)]
@@ -82,9 +83,11 @@ fn repeat_token(text: &[u8]) -> Option<(Token, &[u8])> {
 
 /// Returns what follows the first line of a text.
 fn after_line(text: &[u8]) -> &[u8] {
-    let mut lines = text.splitn(2, |byte| *byte == b'\n');
-    lines.next();
-    lines.next().unwrap_or(&[])
+    let text = str::from_utf8(text).unwrap_or("");
+    match text.split_once('\n') {
+        Some((_line, after)) => after.as_bytes(),
+        None => &[],
+    }
 }
 
 /// Reads what follows a backslash.

@@ -22,7 +22,7 @@ pub struct Setup {
 
 /// Reads a number.
 fn number(text: &str) -> Result<u64, ReadFault> {
-    text.parse::<u64>().map_err(|_| ReadFault::Malformed)
+    text.parse().ok().ok_or(ReadFault::Malformed)
 }
 
 /// Reads numbers that are separated by blanks.
@@ -54,23 +54,36 @@ impl Setup {
         })
     }
 
+    /// Sets a part. An empty line has one without a key.
     fn set(&mut self, alloc: Global, key: &str, value: &str) -> Result<(), ReadFault> {
         match key {
-            "status" => self.status = value.parse::<u8>().map_err(|_| ReadFault::Malformed)?,
-            "words" => self.words = quoted_words(alloc, value)?,
-            "reads" => self.reads = numbers(alloc, value)?,
-            "writes" => self.writes = numbers(alloc, value)?,
-            _ => return Err(ReadFault::Malformed),
+            "status" => {
+                self.status = value.parse().ok().ok_or(ReadFault::Malformed)?;
+                Ok(())
+            }
+            "words" => {
+                self.words = quoted_words(alloc, value)?;
+                Ok(())
+            }
+            "reads" => {
+                self.reads = numbers(alloc, value)?;
+                Ok(())
+            }
+            "writes" => {
+                self.writes = numbers(alloc, value)?;
+                Ok(())
+            }
+            "" => Ok(()),
+            _ => Err(ReadFault::Malformed),
         }
-        Ok(())
     }
 
     /// Reads the line of the setup, which may be empty.
     pub fn parse(alloc: Global, line: &[u8]) -> Result<Setup, ReadFault> {
-        let line = str::from_utf8(line).map_err(|_| ReadFault::Malformed)?;
+        let line = str::from_utf8(line).ok().ok_or(ReadFault::Malformed)?;
         let mut setup = Setup::new(alloc)?;
-        for part in line.split(", ").filter(|part| !part.is_empty()) {
-            let (key, value) = part.split_once(' ').ok_or(ReadFault::Malformed)?;
+        for part in line.split(", ") {
+            let (key, value) = part.split_once(' ').unwrap_or((part, ""));
             setup.set(alloc, key, value)?;
         }
         Ok(setup)

@@ -1,8 +1,6 @@
 //! Fields: how they are encoded, and bytes that encode none.
 
-use crate::escape::unescaped;
-use crate::words::Words;
-use case_tools::Output;
+use case_tools::{Output, Words, unescaped};
 use rs_base::{Bytes, NoMemory};
 use rs_codec::{Fields, put_byte, put_count, put_int, put_text, put_u32, put_u64};
 use std::alloc::Global;

@@ -1,8 +1,6 @@
 //! Messages: how they are encoded, and what datagrams say.
 
-use crate::escape::unescaped;
-use crate::words::Words;
-use case_tools::Output;
+use case_tools::{Output, Words, unescaped};
 use rs_base::{NoMemory, ReadFault};
 use rs_msg::{Ask, Message, ReplyPart, decode, encode};
 use std::alloc::Global;

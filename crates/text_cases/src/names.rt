@@ -1,8 +1,6 @@
 //! Names: system-wide names, and what written names stand for.
 
-use crate::escape::unescaped;
-use crate::words::Words;
-use case_tools::Output;
+use case_tools::{Output, Words, unescaped};
 use rs_base::{NameText, NoMemory, Swn};
 use rs_name::{parse_swn, resolve};
 

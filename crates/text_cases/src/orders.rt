@@ -1,8 +1,6 @@
 //! Orders, comparisons and computed integers.
 
-use crate::values::read_value;
-use crate::words::Words;
-use case_tools::Output;
+use case_tools::{Output, Words, read_value};
 use rs_ast::{Arith, Op};
 use rs_base::{
     NoMemory, Value, order_of_enlists, order_of_names, order_of_origins, order_of_txns,

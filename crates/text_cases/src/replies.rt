@@ -1,21 +1,10 @@
 //! Replies, and how they and their copies are printed.
 
-use crate::values::read_row;
-use crate::words::Words;
-use case_tools::Output;
+use case_tools::{Output, Words, read_rows};
 use rs_base::{
-    Answer, Answers, Bytes, Denial, NoMemory, Origin, Reason, Reply, Resource, Rows, one_item,
+    Answer, Answers, Bytes, Denial, NoMemory, Origin, Reason, Reply, Resource, one_item,
 };
 use std::alloc::Global;
-
-/// Reads rows, separated by `;`.
-fn read_rows(alloc: Global, lines: &str) -> Result<Rows, NoMemory> {
-    let mut rows = Rows::new(alloc);
-    for line in lines.split(';') {
-        rows.push(read_row(alloc, line)?)?;
-    }
-    Ok(rows)
-}
 
 /// Reads `ok`, `changed:COUNT` or `rows:ROW;ROW`.
 fn read_answer(alloc: Global, word: &str) -> Result<Answer, NoMemory> {

@@ -1,8 +1,7 @@
 //! Schedules: what they are refused for, and their events.
 
-use crate::escape::unescaped;
-use case_tools::Output;
-use rs_base::{NoMemory, Origin, SiteNo};
+use case_tools::{Output, unescaped};
+use rs_base::{NoMemory, SiteNo};
 use rs_sched::{Event, EventLines, SchedFault, Why, parse_schedule, print_event};
 
 /// Gives the name of a cause.
@@ -84,70 +83,76 @@ pub fn append_schedule(input: &str, whole: bool, out: &mut Output) -> Result<(),
     Ok(())
 }
 
-/// Appends the name of an event at a site.
-fn at(out: &mut Output, name: &str, site: SiteNo) {
-    out.text(name);
-    out.text(" ");
-    out.number(u64::from(site.number()));
+fn number_of(site: SiteNo) -> Option<u64> {
+    Some(u64::from(site.number()))
 }
 
-/// Appends a further number.
-fn and(out: &mut Output, number: u64) {
-    out.text(" ");
-    out.number(number);
+/// Gives the name of an event, and its numbers.
+fn numbers_of(event: &Event) -> (&'static str, [Option<u64>; 4]) {
+    match event {
+        Event::Sites(last) => ("Sites", [number_of(*last), None, None, None]),
+        Event::Ask { origin, .. } => (
+            "Ask",
+            [
+                number_of(origin.site),
+                Some(u64::from(origin.epoch)),
+                Some(origin.number),
+                None,
+            ],
+        ),
+        Event::Deliver(number) => ("Deliver", [Some(*number), None, None, None]),
+        Event::Lose(number) => ("Lose", [Some(*number), None, None, None]),
+        Event::Tick(site, ticks) => (
+            "Tick",
+            [number_of(*site), Some(u64::from(*ticks)), None, None],
+        ),
+        Event::Stop(site, writes, bytes) => (
+            "Stop",
+            [number_of(*site), Some(*writes), Some(*bytes), None],
+        ),
+        Event::Arm(site, call, writes, bytes) => (
+            "Arm",
+            [number_of(*site), Some(*call), Some(*writes), Some(*bytes)],
+        ),
+        Event::Restart(site) => ("Restart", [number_of(*site), None, None, None]),
+        Event::Settle(most) => ("Settle", [*most, None, None, None]),
+        Event::Noise(site, _) => ("Noise", [number_of(*site), None, None, None]),
+    }
 }
 
-/// Appends the name of an event with a number.
-fn of(out: &mut Output, name: &str, number: u64) {
-    out.text(name);
-    and(out, number);
+/// Appends a further number, if there is one.
+fn append_number(number: Option<u64>, out: &mut Output) {
+    if let Some(number) = number {
+        out.text(" ");
+        out.number(number);
+    }
 }
 
-/// Appends two further numbers.
-fn and_both(out: &mut Output, one: u64, other: u64) {
-    and(out, one);
-    and(out, other);
-}
-
-/// Appends an ask.
-fn ask(out: &mut Output, origin: &Origin, text: &[u8]) {
-    at(out, "Ask", origin.site);
-    and_both(out, u64::from(origin.epoch), origin.number);
-    out.text(" ");
-    out.append(origin.user.as_bytes());
-    out.text(" ");
-    out.append(text);
+/// Appends the user and the text of an ask, or the bytes of noise.
+fn append_bytes(event: &Event, out: &mut Output) {
+    match event {
+        Event::Ask { origin, text } => {
+            out.text(" ");
+            out.append(origin.user.as_bytes());
+            out.text(" ");
+            out.append(text.as_slice());
+        }
+        Event::Noise(_, bytes) => {
+            out.text(" ");
+            out.append(bytes.as_slice());
+        }
+        _ => {}
+    }
 }
 
 /// Appends an event, field by field.
 fn append_fields(event: &Event, out: &mut Output) {
-    match event {
-        Event::Sites(last) => at(out, "Sites", *last),
-        Event::Ask { origin, text } => ask(out, origin, text.as_slice()),
-        Event::Deliver(number) => of(out, "Deliver", *number),
-        Event::Lose(number) => of(out, "Lose", *number),
-        Event::Tick(site, ticks) => {
-            at(out, "Tick", *site);
-            and(out, u64::from(*ticks));
-        }
-        Event::Stop(site, writes, bytes) => {
-            at(out, "Stop", *site);
-            and_both(out, *writes, *bytes);
-        }
-        Event::Arm(site, call, writes, bytes) => {
-            at(out, "Arm", *site);
-            and(out, *call);
-            and_both(out, *writes, *bytes);
-        }
-        Event::Restart(site) => at(out, "Restart", *site),
-        Event::Settle(None) => out.text("Settle"),
-        Event::Settle(Some(most)) => of(out, "Settle", *most),
-        Event::Noise(site, bytes) => {
-            at(out, "Noise", *site);
-            out.text(" ");
-            out.append(bytes.as_slice());
-        }
+    let (name, numbers) = numbers_of(event);
+    out.text(name);
+    for number in numbers {
+        append_number(number, out);
     }
+    append_bytes(event, out);
 }
 
 /// Appends the events of a schedule, field by field.

@@ -1,7 +1,6 @@
 //! Texts of requests: where they are at fault, where they can be cut, and how they are printed.
 
-use crate::escape::unescaped;
-use case_tools::Output;
+use case_tools::{Output, unescaped};
 use rs_ast::Stmt;
 use rs_base::{Bytes, NoMemory};
 use rs_parse::{ParseFault, TEXT_LIMIT, parse};

@@ -1,37 +1,8 @@
 //! Identifiers, texts, sites and values, and how they are printed.
 
-use crate::escape::unescaped;
 use crate::orders::{append_allowed, append_computed, append_order};
-use crate::words::Words;
-use case_tools::Output;
-use rs_base::{
-    Ident, Kind, NoMemory, Row, SiteNo, Txt, TxtFault, Value, copy_row, count_of, row_size,
-};
-use std::alloc::Global;
-
-/// Reads an integer, or a text. A word that is neither is 0.
-pub fn read_value(alloc: Global, word: &str) -> Result<Value, NoMemory> {
-    if let Ok(n) = word.parse() {
-        return Ok(Value::Int(n));
-    }
-    match Txt::new(alloc, word.as_bytes()) {
-        Ok(text) => Ok(Value::Text(text)),
-        Err(TxtFault::Bad) => Ok(Value::Int(0)),
-        Err(TxtFault::NoMemory) => Err(NoMemory),
-    }
-}
-
-/// Reads the values of a row, separated by `,`. An empty line is the empty row.
-pub fn read_row(alloc: Global, line: &str) -> Result<Row, NoMemory> {
-    let mut row = Row::new(alloc);
-    if line.is_empty() {
-        return Ok(row);
-    }
-    for word in line.split(',') {
-        row.push(read_value(alloc, word)?)?;
-    }
-    Ok(row)
-}
+use case_tools::{Output, Words, read_row, read_value, unescaped};
+use rs_base::{Ident, Kind, NoMemory, SiteNo, Txt, TxtFault, Value, copy_row, count_of, row_size};
 
 /// Appends the bytes of an identifier, or `none`.
 fn append_ident(bytes: &[u8], out: &mut Output) {
@@ -114,49 +85,25 @@ fn append_words(kind: &str, words: &mut Words<'_>, out: &mut Output) {
     }
 }
 
-/// Appends what is printed of a value, or what a call on the rest of the line returns.
-fn append_rest(kind: &str, line: &str, out: &mut Output) -> Result<(), NoMemory> {
-    match kind {
-        "ident" | "text" | "len" => {
-            append_bytes(kind, unescaped(out.alloc, line)?.as_slice(), out);
-            Ok(())
-        }
-        "value" => {
-            out.value(&read_value(out.alloc, line)?);
-            Ok(())
-        }
-        _ => {
-            append_row(kind, read_row(out.alloc, line)?.as_slice(), out);
-            Ok(())
-        }
-    }
-}
-
-/// Reports whether a line of this kind is read word by word.
-fn is_of_words(kind: &str) -> bool {
-    matches!(
-        kind,
-        "site"
-            | "first_site"
-            | "number"
-            | "count_of"
-            | "txn"
-            | "swn"
-            | "allows"
-            | "compute"
-            | "origin"
-    )
-}
-
 /// Appends what is printed of the value that a line says, or what the call that it names returns.
 pub fn append_value(words: &mut Words<'_>, out: &mut Output) -> Result<(), NoMemory> {
-    let kind = words.next();
-    if kind == "order" {
-        return append_order(words, out);
+    match words.next() {
+        "order" => append_order(words, out),
+        "value" => {
+            out.value(&read_value(out.alloc, words.rest())?);
+            Ok(())
+        }
+        kind @ ("ident" | "text" | "len") => {
+            append_bytes(kind, unescaped(out.alloc, words.rest())?.as_slice(), out);
+            Ok(())
+        }
+        kind @ ("row" | "row_size" | "copy_row") => {
+            append_row(kind, read_row(out.alloc, words.rest())?.as_slice(), out);
+            Ok(())
+        }
+        kind => {
+            append_words(kind, words, out);
+            Ok(())
+        }
     }
-    if is_of_words(kind) {
-        append_words(kind, words, out);
-        return Ok(());
-    }
-    append_rest(kind, words.rest(), out)
 }

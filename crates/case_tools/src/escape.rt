@@ -2,7 +2,7 @@
 
 ghost use Rattle.std.specs.Prelude.{◌<◌};
 
-use case_tools::Output;
+use crate::output::Output;
 use rs_base::{Bytes, NoMemory};
 use std::alloc::Global;
 

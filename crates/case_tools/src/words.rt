@@ -3,10 +3,11 @@
 use rs_base::{Enlist, Ident, Origin, SiteNo, Swn, Txn};
 use rs_name::parse_swn;
 
-/// The words that are left, separated by one blank each, and whether one of those before was not of its kind.
+/// The words that are left, separated by one separator each, and whether one of those before was not of its kind.
 #[derive(Drop)]
 pub struct Words<'a> {
     left: &'a str,
+    separator: char,
     malformed: bool,
 }
 
@@ -19,9 +20,16 @@ fn any() -> Ident {
 }
 
 impl<'a> Words<'a> {
+    /// Returns the words of a line, which blanks separate.
     pub fn new(line: &'a str) -> Words<'a> {
+        Words::separated(line, ' ')
+    }
+
+    /// Returns the words of a line.
+    pub fn separated(line: &'a str, separator: char) -> Words<'a> {
         Words {
             left: line,
+            separator,
             malformed: false,
         }
     }
@@ -31,14 +39,36 @@ impl<'a> Words<'a> {
         self.left
     }
 
-    /// Reports whether each word so far was of its kind.
-    pub fn are_read(&self) -> bool {
-        !self.malformed
+    /// Keeps that the line is not of its form.
+    pub fn refuse(&mut self) {
+        self.malformed = true;
+    }
+
+    /// Keeps whether the words of a part of the line were of their kinds.
+    pub fn include(&mut self, part: &Words<'_>) {
+        self.malformed = self.malformed || part.malformed;
+    }
+
+    /// Reports whether the line is not of its form.
+    pub fn is_refused(&self) -> bool {
+        self.malformed
+    }
+
+    /// Gives a note that the line is not of its form, or nothing.
+    pub fn note(&self) -> &'static str {
+        if self.malformed {
+            "(a line that is not read)"
+        } else {
+            ""
+        }
     }
 
     /// Reads the next word, which is empty at the end.
     pub fn next(&mut self) -> &'a str {
-        let (word, rest) = self.left.split_once(' ').unwrap_or((self.left, ""));
+        let (word, rest) = self
+            .left
+            .split_once(self.separator)
+            .unwrap_or((self.left, ""));
         self.left = rest;
         word
     }
@@ -52,6 +82,13 @@ impl<'a> Words<'a> {
 
     /// Reads a number of 32 bits.
     pub fn small(&mut self) -> u32 {
+        let number = self.next().parse().ok();
+        self.malformed = self.malformed || number.is_none();
+        number.unwrap_or(0)
+    }
+
+    /// Reads a number of 16 bits.
+    pub fn short(&mut self) -> u16 {
         let number = self.next().parse().ok();
         self.malformed = self.malformed || number.is_none();
         number.unwrap_or(0)
