@@ -256,8 +256,9 @@ SetsFit db name sets = first_denial (sets_tests (scope_in db name) [] [] sets) �
 abbrev pub sets_in : Database → Swn → List Set → List BoundSet
 sets_in db name sets = map (bound_set (scope_in db name) []) sets
 
-pub record Updates (db : Database) (name : Swn) (sets : List Set) (change : Change) (given : List Answer) : Type 0 where
+pub record Updates (db : Database) (name : Swn) (sets : List Set) (written : List Clause) (change : Change) (given : List Answer) : Type 0 where
   pub clauses : List (List BoundCmp)
+  pub bound : clauses ≡ bound_clauses (scope_in db name) [] written
   pub new : List (List Value)
   pub is : change ≡ changes.SetRows name new
   pub answers : given ≡ answers.Changed (matching_count clauses (rows_in db name)) ∷ []
@@ -266,64 +267,65 @@ pub record Updates (db : Database) (name : Swn) (sets : List Set) (change : Chan
   pub made : updated_rows (sets_in db name sets) clauses (rows_in db name) ≡ Ok new
   pub within : may_become clauses (rows_in db name) new ≡ true
 
-module _ (db : Database) (name : Swn) (sets : List Set) (clauses : List (List BoundCmp)) (is_there : IsThere db name) (fit : SetsFit db name sets) where
+module _ (db : Database) (name : Swn) (sets : List Set) (written : List Clause) (clauses : List (List BoundCmp)) (bound : clauses ≡ bound_clauses (scope_in db name) [] written) (is_there : IsThere db name) (fit : SetsFit db name sets) where
   within_so : (new : List (List Value)) → updated_rows (sets_in db name sets) clauses (rows_in db name) ≡ Ok new
-      → IsSo (Updates db name sets) (updating name (matching_count clauses (rows_in db name)) (within_limits clauses (rows_in db name) (Ok new)))
+      → IsSo (Updates db name sets written) (updating name (matching_count clauses (rows_in db name)) (within_limits clauses (rows_in db name) (Ok new)))
   within_so new made =
       let Claim : Bool → Type 0 = λ within. may_become clauses (rows_in db name) new ≡ within
-      → IsSo (Updates db name sets) (updating name (matching_count clauses (rows_in db name)) (cond {A = Result (List (List Value)) Denial} within (Ok new) (Err denials.TableFull))) in
+      → IsSo (Updates db name sets written) (updating name (matching_count clauses (rows_in db name)) (cond {A = Result (List (List Value)) Denial} within (Ok new) (Err denials.TableFull))) in
       let at : (within : Bool) → Claim within = λ within. elim within as Claim [
-        | true ↦ λ e. so_done (Updates db name sets) (changes.SetRows name new) (answers.Changed (matching_count clauses (rows_in db name)))
-            (record { clauses = clauses; new = new; is = refl; answers = refl; there = is_there; fit = fit; made = made; within = e })
-        | false ↦ λ e. so_denied (Updates db name sets) denials.TableFull
+        | true ↦ λ e. so_done (Updates db name sets written) (changes.SetRows name new) (answers.Changed (matching_count clauses (rows_in db name)))
+            (record { clauses = clauses; bound = bound; new = new; is = refl; answers = refl; there = is_there; fit = fit; made = made; within = e })
+        | false ↦ λ e. so_denied (Updates db name sets written) denials.TableFull
       ] in
       at (may_become clauses (rows_in db name) new) refl
 
-  updating_so : IsSo (Updates db name sets) (updating name (matching_count clauses (rows_in db name)) (updated (sets_in db name sets) clauses (rows_in db name)))
+  updating_so : IsSo (Updates db name sets written) (updating name (matching_count clauses (rows_in db name)) (updated (sets_in db name sets) clauses (rows_in db name)))
   updating_so =
       let Claim : Result (List (List Value)) Denial → Type 0 = λ rows. updated_rows (sets_in db name sets) clauses (rows_in db name) ≡ rows
-      → IsSo (Updates db name sets) (updating name (matching_count clauses (rows_in db name)) (within_limits clauses (rows_in db name) rows)) in
+      → IsSo (Updates db name sets written) (updating name (matching_count clauses (rows_in db name)) (within_limits clauses (rows_in db name) rows)) in
       let at : (rows : Result (List (List Value)) Denial) → Claim rows = λ rows. elim rows as Claim [
         | Ok new ↦ λ e. within_so new e
-        | Err cause ↦ λ e. so_denied (Updates db name sets) cause
+        | Err cause ↦ λ e. so_denied (Updates db name sets written) cause
       ] in
       at (updated_rows (sets_in db name sets) clauses (rows_in db name)) refl
 
-update_so : (db : Database) (name : Swn) (sets : List Set) (clauses : List Clause) → IsSo (Updates db name sets) (update (tables_in db) name sets clauses)
+update_so : (db : Database) (name : Swn) (sets : List Set) (clauses : List Clause) → IsSo (Updates db name sets clauses) (update (tables_in db) name sets clauses)
 unfolding update_bound
 update_so db name sets clauses =
     let tables : List (List (List Value)) = rows_in db name ∷ [] in
     let bound : List (List BoundCmp) = bound_clauses (scope_in db name) [] clauses in
     let tests : List Test = update_tests sets clauses (scope_in db name) [] in
     let Claim : Option Denial → Type 0 = λ denial. first_denial tests ≡ denial
-    → IsSo (Updates db name sets) (once_bound tables (binding.unless_denied denial (bounds.Update name (sets_in db name sets) bound))) in
+    → IsSo (Updates db name sets clauses) (once_bound tables (binding.unless_denied denial (bounds.Update name (sets_in db name sets) bound))) in
     let at : IsThere db name → (denial : Option Denial) → Claim denial = λ is_there denial. elim denial as Claim [
-      | None ↦ λ e. updating_so db name sets bound is_there (both_pass (sets_tests (scope_in db name) [] [] sets) (clauses_tests (scope_in db name) [] clauses) e).0
-      | Some cause ↦ λ e. so_denied (Updates db name sets) cause
+      | None ↦ λ e. updating_so db name sets clauses bound refl is_there (both_pass (sets_tests (scope_in db name) [] [] sets) (clauses_tests (scope_in db name) [] clauses) e).0
+      | Some cause ↦ λ e. so_denied (Updates db name sets clauses) cause
     ] in
-    so_unless (Updates db name sets) (first_denial (table_tests db name)) (once_bound tables (update_bound sets clauses (heading_in db name) []))
+    so_unless (Updates db name sets clauses) (first_denial (table_tests db name)) (once_bound tables (update_bound sets clauses (heading_in db name) []))
     (λ e. at (there db name [] e).0 (first_denial tests) refl)
 
 -- ---- DELETE
 
-pub record Deletes (db : Database) (name : Swn) (change : Change) (given : List Answer) : Type 0 where
+pub record Deletes (db : Database) (name : Swn) (written : List Clause) (change : Change) (given : List Answer) : Type 0 where
   pub clauses : List (List BoundCmp)
+  pub bound : clauses ≡ bound_clauses (scope_in db name) [] written
   pub is : change ≡ changes.SetRows name (other_rows clauses (rows_in db name))
   pub answers : given ≡ answers.Changed (matching_count clauses (rows_in db name)) ∷ []
   pub there : IsThere db name
 
-delete_so : (db : Database) (name : Swn) (clauses : List Clause) → IsSo (Deletes db name) (delete (tables_in db) name clauses)
+delete_so : (db : Database) (name : Swn) (clauses : List Clause) → IsSo (Deletes db name clauses) (delete (tables_in db) name clauses)
 unfolding delete_bound
 delete_so db name clauses =
     let tables : List (List (List Value)) = rows_in db name ∷ [] in
     let bound : List (List BoundCmp) = bound_clauses (scope_in db name) [] clauses in
-    let Claim : Option Denial → Type 0 = λ denial. IsSo (Deletes db name) (once_bound tables (binding.unless_denied denial (bounds.Delete name bound))) in
+    let Claim : Option Denial → Type 0 = λ denial. IsSo (Deletes db name clauses) (once_bound tables (binding.unless_denied denial (bounds.Delete name bound))) in
     let at : IsThere db name → (denial : Option Denial) → Claim denial = λ is_there denial. elim denial as Claim [
-      | None ↦ so_done (Deletes db name) (changes.SetRows name (other_rows bound (rows_in db name))) (answers.Changed (matching_count bound (rows_in db name)))
-          (record { clauses = bound; is = refl; answers = refl; there = is_there })
-      | Some cause ↦ so_denied (Deletes db name) cause
+      | None ↦ so_done (Deletes db name clauses) (changes.SetRows name (other_rows bound (rows_in db name))) (answers.Changed (matching_count bound (rows_in db name)))
+          (record { clauses = bound; bound = refl; is = refl; answers = refl; there = is_there })
+      | Some cause ↦ so_denied (Deletes db name clauses) cause
     ] in
-    so_unless (Deletes db name) (first_denial (table_tests db name)) (once_bound tables (delete_bound clauses (heading_in db name) []))
+    so_unless (Deletes db name clauses) (first_denial (table_tests db name)) (once_bound tables (delete_bound clauses (heading_in db name) []))
     (λ e. at (there db name [] e).0 (first_denial (delete_tests clauses (scope_in db name) [])))
 
 -- ---- every statement
@@ -331,8 +333,8 @@ delete_so db name clauses =
 abbrev pub DoesOfDml : Database → Execution → Dml → Change → List Answer → Type 0
 DoesOfDml db execution (dmls.Select query) = Selects db (map (λ table. name_of db execution table.name) query.from) query
 DoesOfDml db execution (dmls.Insert written rows) = Inserts db (name_of db execution written) rows
-DoesOfDml db execution (dmls.Update written sets clauses) = Updates db (name_of db execution written) sets
-DoesOfDml db execution (dmls.Delete written clauses) = Deletes db (name_of db execution written)
+DoesOfDml db execution (dmls.Update written sets clauses) = Updates db (name_of db execution written) sets clauses
+DoesOfDml db execution (dmls.Delete written clauses) = Deletes db (name_of db execution written) clauses
 
 -- what the statement changes and answers if it is done
 abbrev pub Does : Database → Execution → Stmt → Change → List Answer → Type 0

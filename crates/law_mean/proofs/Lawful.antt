@@ -1,12 +1,17 @@
 -- The laws.
-use Rattle.std.proofs.Common.{◌≡◌, ◌≤◌, ℕ, sym, List, [], ◌∷◌, ◌++◌, map, length, is_none, true, false, Option, Some, None, IsSome, refl, ap, ◌∙◌, subst, arith}
+use Rattle.std.proofs.Common.{◌≡◌, ◌≤◌, ℕ, sym, List, [], ◌∷◌, ◌++◌, map, length, is_none, true, false, Option, Some, None, IsSome, Result, Ok, Err, refl, ap, ◌∙◌, subst, arith}
 use Rattle.std.specs.List.Sorted.{IsStrictlySortedBy}
 use Rattle.std.specs.Option.{option_map}
 use Rattle.std.proofs.lemmas.List.Elements.{All-nil}
 use Rattle.rs_base.specs.declared.name.Swn.{Swn}
 use Rattle.rs_base.specs.declared.reply.Answer.{Answer}
 use Rattle.rs_base.specs.declared.reply.Answer.TheVariants as answers
+use Rattle.rs_base.specs.declared.reply.Denial.{Denial}
 use Rattle.rs_base.specs.declared.value.Value.{Value}
+use Rattle.rs_ast.specs.declared.bound.BoundCmp.{BoundCmp}
+use Rattle.rs_ast.specs.declared.bound.BoundSet.{BoundSet}
+use Rattle.rs_ast.specs.declared.change.Set.{Set}
+use Rattle.rs_ast.specs.declared.clause.Clause.{Clause}
 use Rattle.rs_ast.specs.declared.change.Term.TheVariants as terms
 use Rattle.rs_ast.specs.declared.entry.IndexOf.{IndexOf}
 use Rattle.rs_ast.specs.declared.stmt.Dml.TheVariants as dmls
@@ -20,10 +25,13 @@ use Rattle.rs_mean.specs.declared.table.Table.{Table}
 use Rattle.rs_mean.specs.Changes.{changed, with_rows}
 use Rattle.rs_mean.specs.Columns.{has_name}
 use Rattle.rs_mean.specs.Database.{Database, table_named, target_of}
-use Rattle.law_mean.specs.Laws.{AnswersAreTyped, DeniedChangesNothing, SelectChangesNothing, SitesStay, NamesStayInOrder, SynonymsStayInOrder, OthersStay, SynonymsStay, OtherSynonymsStay, IndexIsMade, IndexIsDropped, SynonymIsMade, SynonymIsDropped, TableIsMade, TableIsDropped, RowsAreAppended, RowsAreTakenOut, RowsAreChanged, EachTable, IsAtSite, IsWithin, TablesStayAtSites, TablesStayWithin, HasDistinctColumns, ColumnsStayDistinct, HasDistinctIndexes, IndexesStayDistinct, IsTyped, RowsStayTyped, written_of, synonym_of}
+use Rattle.law_mean.specs.Laws.{AnswersAreTyped, AreSet, assignments_on, predicate_on, DeniedChangesNothing, SelectChangesNothing, SitesStay, NamesStayInOrder, SynonymsStayInOrder, OthersStay, SynonymsStay, OtherSynonymsStay, IndexIsMade, IndexIsDropped, SynonymIsMade, SynonymIsDropped, TableIsMade, TableIsDropped, RowsAreAppended, RowsAreTakenOut, RowsAreChanged, EachTable, IsAtSite, IsWithin, TablesStayAtSites, TablesStayWithin, HasDistinctColumns, ColumnsStayDistinct, HasDistinctIndexes, IndexesStayDistinct, IsTyped, RowsStayTyped, written_of, synonym_of}
 use Rattle.rs_mean.specs.Meaning.{effect_of, meaning}
 use Rattle.rs_mean.specs.Names.{name_of, own_synonym}
-use Rattle.rs_eval.specs.RowChanges.{other_rows, matching_count}
+use Rattle.rs_eval.specs.RowChanges.{other_rows, matching_count, updated_row, updated_rows, and_others}
+use Rattle.rs_scope.specs.Predicates.{bound_clauses}
+use Rattle.rs_scope.specs.Scope.{table_scope}
+use Rattle.rs_bind_change.specs.Binding.{bound_set}
 use Rattle.rs_mean.specs.RowStatements.{rows_of}
 use Rattle.rs_mean.specs.TableStatements.{new_table, columns_of, indexes_of, column_index, has_index, is_indexed, new_index, without_index}
 use Rattle.law_map.proofs.Entries.{lookup_put, lookup_gone}
@@ -138,6 +146,28 @@ found_if : (found : Option Table) → is_none found ≡ false → (table : Table
 found_if None e = absurd cc
 found_if (Some table) e = (table, refl)
 
+-- the predicate of a statement over the table that was there
+predicate_is : (db : Database) (name : Swn) (old : Table) (written : List Clause) (clauses : List (List BoundCmp)) → table_named name db ≡ Some old → clauses ≡ bound_clauses (scope_in db name) [] written
+    → clauses ≡ predicate_on name old written
+predicate_is db name old written clauses there bound =
+    bound ∙ ap (λ (found : Option Table). bound_clauses (table_scope (record { name = name; columns = columns_of found })) [] written) there
+
+assignments_are : (db : Database) (name : Swn) (old : Table) (sets : List Set) → table_named name db ≡ Some old → sets_in db name sets ≡ assignments_on name old sets
+assignments_are db name old sets there = ap (λ (found : Option Table). map (bound_set (table_scope (record { name = name; columns = columns_of found })) []) sets) there
+
+all_set : (sets : List BoundSet) (clauses : List (List BoundCmp)) (rows new : List (List Value)) → updated_rows sets clauses rows ≡ Ok new → AreSet sets clauses rows new
+all_set sets clauses [] [] e = tt
+all_set sets clauses [] (row ∷ new) e = absurd cc
+all_set sets clauses (row ∷ rows) new e = by (updated_row sets clauses row) (updated_rows sets clauses rows) refl refl e
+  where
+    by : (first : Result (List Value) Denial) (others : Result (List (List Value)) Denial) → updated_row sets clauses row ≡ first → updated_rows sets clauses rows ≡ others
+        → and_others first others ≡ Ok new → AreSet sets clauses (row ∷ rows) new
+    by (Err cause) others is_first is_others made = absurd cc
+    by (Ok set) (Err cause) is_first is_others made = absurd cc
+    by (Ok set) (Ok later) is_first is_others made =
+        let whole : set ∷ later ≡ new = cc in
+        subst (AreSet sets clauses (row ∷ rows)) whole (is_first, all_set sets clauses rows later is_others)
+
 pub rows_are_taken_out : RowsAreTakenOut
 unfolding meaning
 rows_are_taken_out db execution written clauses given is e =
@@ -151,7 +181,9 @@ rows_are_taken_out db execution written clauses given is e =
     = ap (λ change. table_named name (changed change db)) (so.is ∙ ap (λ (all : List (List Value)). changes.SetRows name (other_rows so.clauses all)) rows)
     ∙ set_table name (other_rows so.clauses old.rows) db old found.1 in
     let reports : given ≡ answers.Changed (matching_count so.clauses old.rows) ∷ [] = so.answers ∙ ap (λ (all : List (List Value)). answers.Changed (matching_count so.clauses all) ∷ []) rows in
-    (matching_count so.clauses old.rows, old, new, reports, found.1, put, record { made = refl; columns = refl; indexes = refl; rows = others_and_matching so.clauses old.rows })
+    let others : other_rows so.clauses old.rows ≡ other_rows (predicate_on name old clauses) old.rows
+    = ap (λ (predicate : List (List BoundCmp)). other_rows predicate old.rows) (predicate_is db name old clauses so.clauses found.1 so.bound) in
+    (matching_count so.clauses old.rows, old, new, reports, found.1, put, record { made = refl; columns = refl; indexes = refl; rows = others_and_matching so.clauses old.rows }, others)
 
 pub rows_are_changed : RowsAreChanged
 unfolding meaning
@@ -166,7 +198,11 @@ rows_are_changed db execution written sets clauses given is e =
     = ap (λ change. table_named name (changed change db)) so.is ∙ set_table name so.new db old found.1 in
     let reports : given ≡ answers.Changed (matching_count so.clauses old.rows) ∷ [] = so.answers ∙ ap (λ (all : List (List Value)). answers.Changed (matching_count so.clauses all) ∷ []) rows in
     let as_many : length so.new ≡ length old.rows = as_many_updated (sets_in db name sets) so.clauses (rows_of (table_named name db)) so.new so.made ∙ ap (λ (all : List (List Value)). length all) rows in
-    (matching_count so.clauses old.rows, old, new, reports, matching_at_most so.clauses old.rows, found.1, put, record { made = refl; columns = refl; indexes = refl; rows = omega arith })
+    let made : updated_rows (sets_in db name sets) so.clauses old.rows ≡ Ok so.new = subst (λ (all : List (List Value)). updated_rows (sets_in db name sets) so.clauses all ≡ Ok so.new) rows so.made in
+    let set : AreSet (assignments_on name old sets) so.clauses old.rows so.new
+    = subst (λ (bound : List BoundSet). AreSet bound so.clauses old.rows so.new) (assignments_are db name old sets found.1) (all_set (sets_in db name sets) so.clauses old.rows so.new made) in
+    let by_predicate = subst (λ (predicate : List (List BoundCmp)). AreSet (assignments_on name old sets) predicate old.rows so.new) (predicate_is db name old clauses so.clauses found.1 so.bound) set in
+    (matching_count so.clauses old.rows, old, new, reports, matching_at_most so.clauses old.rows, found.1, put, record { made = refl; columns = refl; indexes = refl; rows = omega arith }, by_predicate)
 
 -- the table that was there, and the one with these indexes
 set_indexes : (name : Swn) (indexes : List IndexOf) (db : Database) (old : Table) → table_named name db ≡ Some old

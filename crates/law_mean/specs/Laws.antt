@@ -1,5 +1,5 @@
 -- Laws of every execution, whatever the database.
-use Rattle.std.specs.Prelude.{◌≡◌, ◌≢◌, ◌≤◌, ℕ, ◌+◌, not, bytes_eq, IsTrue, All, AllPairs, List, [], ◌∷◌, ◌++◌, map, filter, length, slice_get, Option, Some, None, Ok, Err, IsSome, option_map}
+use Rattle.std.specs.Prelude.{◌≡◌, ◌≢◌, ◌≤◌, ℕ, ◌+◌, not, bytes_eq, IsTrue, All, AllPairs, List, [], ◌∷◌, ◌++◌, map, filter, length, slice_get, Option, Some, None, Ok, Err, IsSome, option_map, if◌then◌else◌}
 use Rattle.std.specs.List.{list_any}
 use Rattle.std.specs.Map.{values_of}
 use Rattle.rs_base.specs.declared.name.NameText.{NameText}
@@ -12,6 +12,8 @@ use Rattle.rs_base.specs.declared.value.Kind.TheVariants as kinds
 use Rattle.rs_base.specs.declared.value.Value.{Value}
 use Rattle.rs_base.specs.Sizes.{row_size}
 use Rattle.rs_ast.specs.Limits.{KeepsLimits}
+use Rattle.rs_ast.specs.declared.bound.BoundCmp.{BoundCmp}
+use Rattle.rs_ast.specs.declared.bound.BoundSet.{BoundSet}
 use Rattle.rs_ast.specs.declared.change.Set.{Set}
 use Rattle.rs_ast.specs.declared.change.Term.TheVariants as terms
 use Rattle.rs_ast.specs.declared.clause.Clause.{Clause}
@@ -24,7 +26,11 @@ use Rattle.rs_ast.specs.declared.stmt.Dml.{Dml}
 use Rattle.rs_ast.specs.declared.stmt.Dml.TheVariants as dmls
 use Rattle.rs_ast.specs.declared.stmt.Stmt as limited
 use Rattle.rs_scope.specs.declared.scope.ScopeColumn.{ScopeColumn}
-use Rattle.rs_scope.specs.Scope.{column_kind, query_scope}
+use Rattle.rs_scope.specs.Predicates.{bound_clauses}
+use Rattle.rs_scope.specs.Scope.{column_kind, query_scope, table_scope}
+use Rattle.rs_bind_change.specs.Binding.{bound_set}
+use Rattle.rs_eval.specs.Clauses.{holds}
+use Rattle.rs_eval.specs.Setting.{row_set}
 use Rattle.rs_answer.specs.Kinds.{HasKinds, AreKindsOf}
 use Rattle.rs_mean.specs.declared.built.Stmt.{Stmt}
 use Rattle.rs_mean.specs.declared.built.Stmt.TheVariants as stmts
@@ -145,19 +151,37 @@ pub record HasLost (count : ℕ) (old new : Table) : Type 0 where
   pub indexes : new.indexes ≡ old.indexes
   pub rows : length new.rows + count ≡ length old.rows
 
--- after a done DELETE its table has as many rows less as it reports
+-- the predicate of a statement on this table, and its assignments, with column indexes for names
+abbrev pub predicate_on : Swn → Table → List Clause → List (List BoundCmp)
+predicate_on name table clauses = bound_clauses (table_scope (record { name = name; columns = table.columns })) [] clauses
+
+abbrev pub assignments_on : Swn → Table → List Set → List BoundSet
+assignments_on name table sets = map (bound_set (table_scope (record { name = name; columns = table.columns })) []) sets
+
+-- after a done DELETE its table has the rows that don't satisfy the predicate, in their order, and it reports the number of
+-- the others
 abbrev pub RowsAreTakenOut : Type 0
 RowsAreTakenOut = (db : Database) (execution : Execution) (written : NameText) (clauses : List Clause) (given : List Answer)
     → execution.stmt ≡ stmts.Dml (dmls.Delete written clauses) → (meaning db execution).1 ≡ Ok given
     → (count : ℕ) × (old : Table) × (new : Table) × (given ≡ answers.Changed count ∷ [])
     × (table_named (name_of db execution written) db ≡ Some old) × (table_named (name_of db execution written) (after db execution) ≡ Some new) × HasLost count old new
+    × (new.rows ≡ filter (λ row. not (holds (predicate_on (name_of db execution written) old clauses) row)) old.rows)
 
--- after a done UPDATE its table has as many rows as before, and it reports at most that number
+-- Each row is the one of before, set by the assignments if that satisfies the predicate.
+abbrev pub AreSet : List BoundSet → List (List BoundCmp) → List (List Value) → List (List Value) → Type 0
+AreSet sets clauses [] [] = Unit {0}
+AreSet sets clauses [] (new ∷ news) = ⊥
+AreSet sets clauses (row ∷ rows) [] = ⊥
+AreSet sets clauses (row ∷ rows) (new ∷ news) = ((if holds clauses row then row_set sets [] row else Ok row) ≡ Ok new) × AreSet sets clauses rows news
+
+-- after a done UPDATE its table has as many rows as before, in their order: a row that satisfies the predicate is set, and
+-- another is as it was; it reports at most their number
 abbrev pub RowsAreChanged : Type 0
 RowsAreChanged = (db : Database) (execution : Execution) (written : NameText) (sets : List Set) (clauses : List Clause) (given : List Answer)
     → execution.stmt ≡ stmts.Dml (dmls.Update written sets clauses) → (meaning db execution).1 ≡ Ok given
     → (count : ℕ) × (old : Table) × (new : Table) × (given ≡ answers.Changed count ∷ []) × (count ≤ length old.rows)
     × (table_named (name_of db execution written) db ≡ Some old) × (table_named (name_of db execution written) (after db execution) ≡ Some new) × HasLost 0 old new
+    × AreSet (assignments_on (name_of db execution written) old sets) (predicate_on (name_of db execution written) old clauses) old.rows new.rows
 
 -- the column at this index has this name
 abbrev pub IsNameAt : List ℕ → List ColDef → ℕ → Type 0
