@@ -155,18 +155,18 @@ predicate_is db name old written clauses there bound =
 assignments_are : (db : Database) (name : Swn) (old : Table) (sets : List Set) → table_named name db ≡ Some old → sets_in db name sets ≡ assignments_on name old sets
 assignments_are db name old sets there = ap (λ (found : Option Table). map (bound_set (table_scope (record { name = name; columns = columns_of found })) []) sets) there
 
+set_first : (sets : List BoundSet) (clauses : List (List BoundCmp)) (row : List Value) (rows new : List (List Value)) (first : Result (List Value) Denial) (others : Result (List (List Value)) Denial)
+    → updated_row sets clauses row ≡ first → ((later : List (List Value)) → others ≡ Ok later → AreSet sets clauses rows later) → and_others first others ≡ Ok new → AreSet sets clauses (row ∷ rows) new
+set_first sets clauses row rows new (Err cause) others is_first each made = absurd cc
+set_first sets clauses row rows new (Ok set) (Err cause) is_first each made = absurd cc
+set_first sets clauses row rows new (Ok set) (Ok later) is_first each made =
+    let whole : set ∷ later ≡ new = cc in
+    subst (AreSet sets clauses (row ∷ rows)) whole (is_first, each later refl)
+
 all_set : (sets : List BoundSet) (clauses : List (List BoundCmp)) (rows new : List (List Value)) → updated_rows sets clauses rows ≡ Ok new → AreSet sets clauses rows new
 all_set sets clauses [] [] e = tt
 all_set sets clauses [] (row ∷ new) e = absurd cc
-all_set sets clauses (row ∷ rows) new e = by (updated_row sets clauses row) (updated_rows sets clauses rows) refl refl e
-  where
-    by : (first : Result (List Value) Denial) (others : Result (List (List Value)) Denial) → updated_row sets clauses row ≡ first → updated_rows sets clauses rows ≡ others
-        → and_others first others ≡ Ok new → AreSet sets clauses (row ∷ rows) new
-    by (Err cause) others is_first is_others made = absurd cc
-    by (Ok set) (Err cause) is_first is_others made = absurd cc
-    by (Ok set) (Ok later) is_first is_others made =
-        let whole : set ∷ later ≡ new = cc in
-        subst (AreSet sets clauses (row ∷ rows)) whole (is_first, all_set sets clauses rows later is_others)
+all_set sets clauses (row ∷ rows) new e = set_first sets clauses row rows new (updated_row sets clauses row) (updated_rows sets clauses rows) refl (λ later is. all_set sets clauses rows later is) e
 
 pub rows_are_taken_out : RowsAreTakenOut
 unfolding meaning
