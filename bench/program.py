@@ -22,7 +22,7 @@ def path():
     if named:
         return named
     subprocess.run([f"{TOP}/rstar", "replay"], input=b"sites 1\n", stdout=subprocess.DEVNULL, check=True)
-    return f"{TOP}/crates/rstar/out/build/crates/rstar/out/rstar"
+    return f"{TOP}/crates/rstar/out/proved-rstar"
 
 
 class Schedule:
