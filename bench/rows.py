@@ -1,8 +1,8 @@
 #!/usr/bin/env python3
 """Times calls on the rows of a table by number: tables of 1,000, 8,000 and 64,000 rows of one integer.
 
-A call's time is the processor time by which two runs of `bench_rows` differ, one with a million calls more than the other, so
-that start-up and filling the table don't count. `insert` fills new tables of that size, so it has each row's share of dropping
+A call's time is the processor time by which two runs of `bench_rows` differ, one with ten million calls more than the other,
+so that start-up and filling the table don't count. `insert` fills new tables of that size, so it has each row's share of dropping
 a table; `turn` is a remove and an insert. Rows are removed, replaced and got in no order. Beside each is the time of the same
 over a `BTreeMap` in Rust, written by hand (rows.rs). The instructions of a call, which valgrind counts in shorter runs, have no
 noise, and no share of the waits for memory that a large table has.
@@ -22,7 +22,7 @@ from bounds import Bounds, median_of, spread_of
 
 TOP = os.path.dirname(os.path.dirname(os.path.abspath(__file__)))
 RUNS = 7
-CALLS = 1_000_000
+CALLS = 10_000_000
 SIZES = (1_000, 8_000, 64_000)
 NAMES = ("insert", "turn", "replace", "get")
 
