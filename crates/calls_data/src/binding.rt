@@ -1,8 +1,10 @@
 //! Statements that are bound over the headings or the entries of their tables.
 
-ghost use Rattle.std.specs.Prelude.{◌≡◌, ◌≤◌, length, IfOk};
+ghost use Rattle.std.specs.Prelude.{◌≡◌, ◌≤◌, length, IfOk, IsTrue};
+ghost use Rattle.rs_ast.specs.Limits.{DmlKeepsLimits};
+ghost use Rattle.rs_bind.specs.Entries.{table_count};
 
-use rs_ast::{Clauses, Column, Dml, Entry};
+use rs_ast::{Column, Dml, Entry};
 use rs_base::{Denial, Ident, Kind, NameText, NoMemory, SiteNo, Swn, Txn, Value};
 use rs_bind::bind;
 use rs_bind_change::{bind_delete, bind_insert, bind_update};
@@ -64,30 +66,50 @@ fn entry(alloc: Global, name: Swn, first: Ident, second: Ident) -> Result<Entry,
     })
 }
 
-/// Binds a DELETE over the entry of its table of two numbers, whose columns are named as the parameters, which are 7 and 8.
-/// Returns `None` for one beyond the limits of statements, which no text has.
-pub fn bound_over_entry(
+/// Reports whether the statement is a DELETE that keeps the limits of statements, as each text does.
+pub fn is_delete(dml: &Dml) -> bool
+    ensures limits { IsTrue result → DmlKeepsLimits dml.now }
+    ensures count { IsTrue result → table_count dml.now ≡ 1 }
+{
+    match dml {
+        Dml::Delete { .. } => dml.keeps_limits(),
+        _ => false,
+    }
+}
+
+/// Binds a DELETE over this entry of its table, with parameters of these names, which are 7 and 8.
+fn bound_over(
     alloc: Global,
-    clauses: Clauses,
+    dml: &Dml,
+    entry: &Entry,
     t: Ident,
     n: Ident,
-) -> Result<Option<Result<Bound, Denial>>, NoMemory> {
-    let name = NameText::plain(t).resolve(t, SiteNo::first());
-    let entry = entry(alloc, name, t, n)?;
-    let stmt = Dml::Delete {
-        name: NameText::plain(t),
-        clauses,
-    };
-    if !stmt.keeps_limits() {
-        return Ok(None);
-    }
-    let bound = bind(
+) -> Result<Result<Bound, Denial>, NoMemory>
+    requires limits { DmlKeepsLimits dml.now }
+    requires count { table_count dml.now ≡ 1 }
+    requires narrow { length entry.now.columns ≤ 16 }
+{
+    bind(
         alloc,
-        &stmt,
-        std::slice::from_ref(&name),
-        std::slice::from_ref(&entry),
+        dml,
+        std::slice::from_ref(&entry.name),
+        std::slice::from_ref(entry),
         &[t, n],
         Some(&[Value::Int(7), Value::Int(8)]),
-    )?;
-    Ok(Some(bound))
+    )
+}
+
+/// Binds a DELETE over the entry of its table of two numbers, whose columns are named as the parameters, which are 7 and 8.
+pub fn bound_over_entry(
+    alloc: Global,
+    dml: &Dml,
+    t: Ident,
+    n: Ident,
+) -> Result<Result<Bound, Denial>, NoMemory>
+    requires limits { DmlKeepsLimits dml.now }
+    requires count { table_count dml.now ≡ 1 }
+{
+    let name = NameText::plain(t).resolve(t, SiteNo::first());
+    let entry = entry(alloc, name, t, n)?;
+    bound_over(alloc, dml, &entry, t, n)
 }

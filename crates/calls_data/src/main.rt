@@ -1,8 +1,10 @@
-//! Reads files of calls on streams and of statements over tables, and reports each call that answers otherwise than wanted.
+//! Reads files of calls on streams, of statements over tables and of calls on a site, and reports each call that answers
+//! otherwise than wanted.
 #![tactic(auto)]
 
 mod binding;
 mod effects;
+mod site;
 mod statements;
 mod stream;
 
@@ -10,6 +12,7 @@ use anyhow::Result;
 use case_tools::{Output, check_cases};
 use rs_base::NoMemory;
 use rs_stream::{StdSink, write_whole};
+use site::SiteCases;
 use statements::StatementCases;
 use std::fs;
 use std::rt::Files;
@@ -19,6 +22,7 @@ use stream::StreamCases;
 fn check_kind(kind: &str, file: &str, text: &str, out: &mut Output) -> Result<(), NoMemory> {
     match kind {
         "stream" => check_cases(&mut StreamCases, kind, file, text, out),
+        "site" => check_cases(&mut SiteCases::new(out.alloc)?, kind, file, text, out),
         _ => check_cases(&mut StatementCases::new(out.alloc), kind, file, text, out),
     }
 }

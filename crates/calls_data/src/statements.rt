@@ -1,17 +1,18 @@
 //! Statements over the tables of a file.
 
-use crate::binding::{bound_over_entry, bound_over_heading};
+use crate::binding::{bound_over_entry, bound_over_heading, is_delete};
 use crate::effects::{ASKED, append_answer, append_bound};
 use case_tools::{Cases, Output, Words, read_row, read_rows};
 use rs_answer::compare_answers;
-use rs_ast::{Column, Columns, Dml, ShapeKey, Stmt};
-use rs_base::{Answer, Denial, NoMemory, Reply, Row, Rows, one_item};
+use rs_ast::{ColDef, Column, Columns, Dml, ShapeKey, Stmt};
+use rs_base::{Answer, Denial, Ident, NameText, NoMemory, Reply, Row, Rows, one_item};
 use rs_bind::column_defs;
 use rs_parse::{ParseFault, TEXT_LIMIT, parse};
 use rs_plain::{PlainTable, PlainTables, answer_plain};
 use rs_plan::Bound;
 use rs_scope::{Heading, as_position};
 use std::alloc::Global;
+use std::cmp::Ordering;
 
 /// The names of the parameters.
 const PARAMS: &str = "t n";
@@ -38,30 +39,57 @@ fn read_table_rows(alloc: Global, word: &str) -> Result<Rows, NoMemory> {
     read_rows(alloc, word)
 }
 
-/// Reads `ROWS CREATE TABLE NAME (COLUMNS)`, or gives no tables if that is no such statement.
-fn read_table(alloc: Global, words: &mut Words<'_>) -> Result<PlainTables, NoMemory> {
-    let rows = read_table_rows(alloc, words.next())?;
-    let Ok(Stmt::CreateTable { name, columns }) = parsed(alloc, words.rest()) else {
-        words.refuse();
-        return Ok(PlainTables::new(alloc));
-    };
+/// Returns what is known of columns of which no values are counted.
+fn known_columns(alloc: Global, columns: &[ColDef]) -> Result<Columns, NoMemory> {
     let mut known = Columns::new(alloc);
-    for column in columns.as_slice() {
+    for column in columns {
         known.push(Column {
             name: column.name,
             kind: column.kind,
             distinct: 0,
         })?;
     }
+    Ok(known)
+}
+
+/// Returns the table of this name with these columns, and reads its rows.
+fn table(
+    alloc: Global,
+    name: &NameText,
+    columns: &[ColDef],
+    rows: &str,
+) -> Result<PlainTable, NoMemory> {
     let asker = Words::new(ASKED).origin();
-    one_item(
-        alloc,
-        PlainTable {
-            name: name.resolve(asker.user, asker.site),
-            columns: known,
-            rows,
-        },
-    )
+    Ok(PlainTable {
+        name: name.resolve(asker.user, asker.site),
+        columns: known_columns(alloc, columns)?,
+        rows: read_table_rows(alloc, rows)?,
+    })
+}
+
+/// Returns the table that a statement creates with these rows, or no tables if it creates none.
+fn created(
+    alloc: Global,
+    stmt: &Result<Stmt, ParseFault>,
+    rows: &str,
+    words: &mut Words<'_>,
+) -> Result<PlainTables, NoMemory> {
+    match stmt {
+        Ok(Stmt::CreateTable { name, columns }) => {
+            one_item(alloc, table(alloc, name, columns.as_slice(), rows)?)
+        }
+        _ => {
+            words.refuse();
+            Ok(PlainTables::new(alloc))
+        }
+    }
+}
+
+/// Reads `ROWS CREATE TABLE NAME (COLUMNS)`, or gives no tables if that is no such statement.
+fn read_table(alloc: Global, words: &mut Words<'_>) -> Result<PlainTables, NoMemory> {
+    let rows = words.next();
+    let stmt = parsed(alloc, words.rest());
+    created(alloc, &stmt, rows, words)
 }
 
 /// Returns the reply of an answer or a denial.
@@ -72,14 +100,43 @@ fn reply_of(alloc: Global, answered: Result<Answer, Denial>) -> Result<Reply, No
     }
 }
 
-/// Binds the statement over the heading of a table.
-fn bound(alloc: Global, dml: &Dml, table: &PlainTable) -> Result<Result<Bound, Denial>, NoMemory> {
-    let mut params = Words::new(PARAMS);
+/// Binds the statement over the heading of a table, with parameters of these names.
+fn bound_over_table(
+    alloc: Global,
+    dml: &Dml,
+    table: &PlainTable,
+    t: Ident,
+    n: Ident,
+) -> Result<Result<Bound, Denial>, NoMemory> {
     let heading = Heading {
         name: table.name,
         columns: column_defs(alloc, table.columns.as_slice())?,
     };
-    bound_over_heading(alloc, dml, &heading, params.ident(), params.ident())
+    bound_over_heading(alloc, dml, &heading, t, n)
+}
+
+/// Binds the statement over the heading of a table, or for the call `bind` of a DELETE over an entry.
+fn bound(
+    alloc: Global,
+    call: &str,
+    dml: &Dml,
+    table: &PlainTable,
+) -> Result<Result<Bound, Denial>, NoMemory> {
+    let mut params = Words::new(PARAMS);
+    let t = params.ident();
+    let n = params.ident();
+    match call {
+        "bind" if is_delete(dml) => bound_over_entry(alloc, dml, t, n),
+        _ => bound_over_table(alloc, dml, table, t, n),
+    }
+}
+
+/// Appends whether an order is greater.
+fn append_order_of(order: Ordering, out: &mut Output) {
+    match order {
+        Ordering::Greater => out.text("greater"),
+        Ordering::Less | Ordering::Equal => out.text("not greater"),
+    }
 }
 
 /// Reads two integers, and appends the order of answers of one column whose values they are, sorted by it, falling.
@@ -90,12 +147,10 @@ fn append_order(words: &mut Words<'_>, out: &mut Output) -> Result<(), NoMemory>
         item: 0,
         desc: true,
     };
-    let order = compare_answers(&[key], one.as_slice(), other.as_slice());
-    out.text(if order.is_gt() {
-        "greater"
-    } else {
-        "not greater"
-    });
+    append_order_of(
+        compare_answers(&[key], one.as_slice(), other.as_slice()),
+        out,
+    );
     Ok(())
 }
 
@@ -121,42 +176,55 @@ impl StatementCases {
         Ok(())
     }
 
+    /// Appends what a bound statement does to the rows, or what it answers.
+    fn append_bound_call(
+        &self,
+        call: &str,
+        bound: &Result<Bound, Denial>,
+        rows: &[Row],
+        out: &mut Output,
+    ) -> Result<(), NoMemory> {
+        match call {
+            "answer" => append_answer(bound, rows, out),
+            _ => append_bound(bound, self.values.as_slice(), rows, out),
+        }
+    }
+
+    /// Binds a statement over the only table, and appends what the call returns.
+    fn append_over(
+        &self,
+        call: &str,
+        dml: &Dml,
+        table: &PlainTable,
+        out: &mut Output,
+    ) -> Result<(), NoMemory> {
+        let bound = bound(out.alloc, call, dml, table)?;
+        self.append_bound_call(call, &bound, table.rows.as_slice(), out)
+    }
+
     /// Appends what a call on a statement returns, over the only table or by the plain evaluator.
     fn append_statement(&self, call: &str, dml: &Dml, out: &mut Output) -> Result<(), NoMemory> {
         match self.tables.as_slice() {
-            [table] if call == "bound" => {
-                let bound = bound(out.alloc, dml, table)?;
-                append_bound(&bound, self.values.as_slice(), table.rows.as_slice(), out)
-            }
-            [table] => append_answer(&bound(out.alloc, dml, table)?, table.rows.as_slice(), out),
+            [table] => self.append_over(call, dml, table, out),
             _ => self.append_plain(dml, out),
         }
     }
 
-    /// Appends what a DELETE does that is bound over the entry of the only table.
-    fn append_bind(&self, words: &mut Words<'_>, out: &mut Output) -> Result<(), NoMemory> {
-        let Ok(
-            Stmt::Dml(
-                Dml::Delete {
-                    name: _name,
-                    clauses,
-                },
-            ),
-        ) = parsed(out.alloc, words.rest())
-        else {
-            words.refuse();
-            return Ok(());
-        };
-        let mut params = Words::new(PARAMS);
-        let bound = bound_over_entry(out.alloc, clauses, params.ident(), params.ident())?;
-        let Some(bound) = bound else {
-            words.refuse();
-            return Ok(());
-        };
-        for table in self.tables.as_slice() {
-            append_bound(&bound, self.values.as_slice(), table.rows.as_slice(), out)?;
+    /// Appends what a call on a statement on rows returns.
+    fn append_parsed(
+        &self,
+        call: &str,
+        stmt: &Result<Stmt, ParseFault>,
+        words: &mut Words<'_>,
+        out: &mut Output,
+    ) -> Result<(), NoMemory> {
+        match stmt {
+            Ok(Stmt::Dml(dml)) => self.append_statement(call, dml, out),
+            _ => {
+                words.refuse();
+                Ok(())
+            }
         }
-        Ok(())
     }
 
     /// Appends what a call on a statement returns.
@@ -166,11 +234,8 @@ impl StatementCases {
         words: &mut Words<'_>,
         out: &mut Output,
     ) -> Result<(), NoMemory> {
-        let Ok(Stmt::Dml(dml)) = parsed(out.alloc, words.rest()) else {
-            words.refuse();
-            return Ok(());
-        };
-        self.append_statement(call, &dml, out)
+        let stmt = parsed(out.alloc, words.rest());
+        self.append_parsed(call, &stmt, words, out)
     }
 }
 
@@ -193,7 +258,6 @@ impl Cases for StatementCases {
                 out.number(u64::from(as_position(words.small() as usize)));
                 Ok(())
             }
-            "bind" => self.append_bind(words, out),
             "compare_answers" => append_order(words, out),
             call => self.append_call(call, words, out),
         }

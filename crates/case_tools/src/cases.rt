@@ -1,6 +1,6 @@
 //! Files of cases: a line is a call and its wanted answer.
 
-use crate::escape::unescaped;
+use crate::notation::unescaped;
 use crate::output::Output;
 use crate::words::Words;
 use rs_base::NoMemory;

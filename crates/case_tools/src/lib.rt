@@ -2,13 +2,13 @@
 #![tactic(auto)]
 
 mod cases;
-mod escape;
+mod notation;
 mod output;
 mod values;
 mod words;
 
 pub use cases::{Cases, check_cases};
-pub use escape::unescaped;
+pub use notation::{expand, unescaped};
 pub use output::Output;
 pub use values::{read_row, read_rows, read_value};
 pub use words::Words;

@@ -1,13 +1,12 @@
 -- What is in the pairs of a table, and that each number is there once.
-use Rattle.std.proofs.Common.{◌≡◌, ◌⊎◌, inl, inr, ℕ, Bool, true, false, cond, List, [], ◌∷◌, ◌++◌, map, Option, Some, None, refl, sym, ap, ◌∙◌, subst, arith}
-use Rattle.std.specs.Prelude.{◌↔◌, Contains, All, filter, filter_map, fold, slice_get, nat_eq, IsTrue}
+use Rattle.std.proofs.Common.{◌≡◌, ◌⊎◌, inl, inr, ℕ, Bool, true, false, cond, List, [], ◌∷◌, map, Option, Some, None, refl, sym, ap, ◌∙◌, subst, arith}
+use Rattle.std.specs.Prelude.{◌↔◌, Contains, filter, filter_map, fold, slice_get, nat_eq, IsTrue}
 use Rattle.std.specs.List.{AllByRecursion, IsDistinct}
 use Rattle.std.specs.List.Sorted.{IsStrictlySortedBy}
-use Rattle.std.specs.Map.{lookup, keys_of}
+use Rattle.std.specs.Map.{keys_of}
 use Rattle.std.specs.Option.{option_and_then}
-use Rattle.std.specs.Ordering.{nat_cmp, int_cmp, ordering_reverse, match_ordering}
+use Rattle.std.specs.Ordering.{nat_cmp, ordering_reverse, match_ordering}
 use Rattle.std.specs.Cmp.{IsTotalOrder}
-use Rattle.std.specs.BTreeSet.{insert_key}
 use Rattle.std.specs.declared.cmp.Ordering.{Ordering}
 use Rattle.std.specs.declared.cmp.Ordering.TheVariants.{Less, Equal, Greater}
 use Rattle.std.proofs.lemmas.Bool.Decides.{nat_tests}
@@ -21,7 +20,7 @@ use Rattle.rs_base.specs.declared.value.Value.TheVariants.{Int, Text}
 use Rattle.rs_base.specs.Value.{value_cmp}
 use Rattle.rs_ast.specs.Allows.{allows}
 use Rattle.rs_ast.specs.declared.clause.Op.{Op}
-use Rattle.rs_rows.specs.TableRows.{TableRows, IsTable, row_of, numbers}
+use Rattle.rs_rows.specs.TableRows.{TableRows, IsTable, row_of}
 use Rattle.rs_index.specs.Pairs.{pair_cmp, added, range_of, pair_of, pairs_of}
 use Rattle.rs_index.specs.Satisfying.{value_satisfies, satisfies}
 

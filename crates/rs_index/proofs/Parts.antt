@@ -1,7 +1,7 @@
 -- The two parts of an index, integers and texts, after a change of one of them.
-use Rattle.std.proofs.Common.{◌≡◌, ℕ, ℤ, Bool, true, false, cond, ◌||◌, List, [], ◌∷◌, ◌++◌, map, refl, ap}
+use Rattle.std.proofs.Common.{◌≡◌, ℕ, ℤ, true, false, cond, ◌||◌, List, [], ◌∷◌, ◌++◌, map, refl, ap}
 use Rattle.std.specs.List.{list_any}
-use Rattle.std.specs.Ordering.{is_eq, match_ordering}
+use Rattle.std.specs.Ordering.{match_ordering}
 use Rattle.std.specs.declared.cmp.Ordering.TheVariants.{Less, Equal, Greater}
 use Rattle.std.specs.BTreeMap.{is_at}
 use Rattle.std.specs.BTreeSet.{insert_key}
@@ -9,7 +9,7 @@ use Rattle.std.specs.Set.{remove_key}
 use Rattle.rs_base.specs.declared.value.Value.{Value}
 use Rattle.rs_base.specs.declared.value.Value.TheVariants.{Int, Text}
 use Rattle.rs_index.specs.IndexInside.{int_pair, text_pair}
-use Rattle.rs_index.specs.Pairs.{pair_cmp, added, dropped, has}
+use Rattle.rs_index.specs.Pairs.{added, dropped, has}
 use Rattle.rs_index.specs.TextPairs.{text_pair_cmp}
 use Rattle.rs_index.specs.IntPairs.{int_pair_cmp}
 

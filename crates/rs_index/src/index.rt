@@ -1,9 +1,10 @@
 //! An index.
 
-ghost use Rattle.std.specs.Prelude.{◌≡◌, ◌≢◌, [], map, IfOk, OnOk, OnErr, unwrap_or, if◌then◌else◌};
+ghost use Rattle.std.specs.Prelude.{◌≡◌, ◌≢◌, [], IfOk, OnOk, OnErr, unwrap_or, if◌then◌else◌};
 ghost use Rattle.std.specs.declared.cmp.Ordering.TheVariants.{Less, Greater};
 ghost use Rattle.rs_ast.specs.Allows.{allows};
 ghost use Rattle.rs_index.specs.Pairs.{added, dropped, has, pairs_of, range_of};
+ghost use Rattle.rs_index.specs.TextPairs.{pair_numbers};
 
 use crate::index_iter::IndexIter;
 use crate::int_numbers::{IntNumbers, add_int, all_ints, drop_int, range_of_ints};
@@ -50,7 +51,7 @@ fn ints_below(ints: &IntNumbers, op: Op) -> Option<Range<'_, (i64, u64)>>
 
 /// Returns the numbers of all texts, if those above an integer satisfy the comparison with it.
 fn texts_above(texts: &TextNumbers, op: Op) -> Option<TextIter<'_>>
-    ensures { unwrap_or result [] ≡ (if allows op Greater then map (λ pair. pair.1) texts.now else []) }
+    ensures { unwrap_or result [] ≡ (if allows op Greater then pair_numbers texts.now else []) }
 {
     match op {
         Op::Ne | Op::Gt | Op::Ge => Some(texts.all()),

@@ -1,12 +1,11 @@
 //! The row numbers of texts.
 
-ghost use Rattle.std.specs.Prelude.{◌≡◌, [], ◌∷◌, map, filter, None, IfOk, OnOk, OnErr, ◌≢◌};
+ghost use Rattle.std.specs.Prelude.{◌≡◌, [], ◌∷◌, None, IfOk, OnOk, OnErr, ◌≢◌};
 ghost use Rattle.std.specs.List.{list_any};
 ghost use Rattle.std.specs.BTreeMap.{get, is_at};
 ghost use Rattle.std.specs.BTreeSet.{insert_key};
 ghost use Rattle.std.specs.Set.{remove_key};
-ghost use Rattle.rs_ast.specs.Allows.{allows};
-ghost use Rattle.rs_index.specs.TextPairs.{text_cmp, text_pair_cmp, text_pairs};
+ghost use Rattle.rs_index.specs.TextPairs.{pair_numbers, text_cmp, text_pair_cmp, text_pairs, text_range};
 
 use crate::bounds::bounds_of;
 use crate::text_iter::TextIter;
@@ -123,7 +122,7 @@ impl TextNumbers {
 
     /// Returns the numbers of all texts.
     pub(crate) fn all(&self) -> TextIter<'_>
-        ensures { result ≡ map (λ pair. pair.1) self.now }
+        ensures { result ≡ pair_numbers self.now }
     {
         TextIter::new(self.sets.range(..))
     }
@@ -131,8 +130,7 @@ impl TextNumbers {
     /// Returns the numbers whose text satisfies the comparison. The operator isn't `<>`.
     pub(crate) fn range(&self, op: Op, text: &Txt) -> TextIter<'_>
         requires { op ≢ Op.Ne }
-        ensures { result
-            ≡ map (λ pair. pair.1) (filter (λ pair. allows op (text_cmp pair.0 text.now)) self.now) }
+        ensures { result ≡ text_range op text.now self.now }
     {
         TextIter::new(self.sets.range(bounds_of(op, text, text)))
     }

@@ -13,15 +13,20 @@ fn parsed(alloc: Global, text: &[u8]) -> Result<Stmt, ParseFault> {
     parse(alloc, text)
 }
 
+/// Gives the byte offset of the fault, or `None` for a request.
+fn offset_of(stmt: &Result<Stmt, ParseFault>) -> Result<Option<usize>, NoMemory> {
+    match stmt {
+        Ok(_) => Ok(None),
+        Err(ParseFault::Syntax { place }) => Ok(Some(*place as usize)),
+        Err(ParseFault::NoMemory) => Err(NoMemory),
+    }
+}
+
 /// Gives the byte offset of the fault of a text and some more, or `None` for a request.
 fn fault_of(alloc: Global, text: &[u8], more: &[u8]) -> Result<Option<usize>, NoMemory> {
     let mut whole = Bytes::from_slice(alloc, text)?;
     whole.extend(more)?;
-    match parsed(alloc, whole.as_slice()) {
-        Ok(_) => Ok(None),
-        Err(ParseFault::Syntax { place }) => Ok(Some(place as usize)),
-        Err(ParseFault::NoMemory) => Err(NoMemory),
-    }
+    offset_of(&parsed(alloc, whole.as_slice()))
 }
 
 fn append_offset(fault: Option<usize>, out: &mut Output) {
@@ -103,17 +108,22 @@ pub fn append_prefixes(word: &str, prefixes: &str, out: &mut Output) -> Result<(
     Ok(())
 }
 
-/// Gives the text of the statement of this text, if it is a request.
-fn printed(alloc: Global, text: &[u8]) -> Result<Option<Bytes>, NoMemory> {
-    match parsed(alloc, text) {
+/// Gives the text of a statement, or `None` for a fault.
+fn text_of(alloc: Global, stmt: &Result<Stmt, ParseFault>) -> Result<Option<Bytes>, NoMemory> {
+    match stmt {
         Ok(stmt) => {
             let mut out = Bytes::new(alloc);
-            print_stmt(alloc, &stmt, &mut out)?;
+            print_stmt(alloc, stmt, &mut out)?;
             Ok(Some(out))
         }
         Err(ParseFault::Syntax { .. }) => Ok(None),
         Err(ParseFault::NoMemory) => Err(NoMemory),
     }
+}
+
+/// Gives the text of the statement of this text, if it is a request.
+fn printed(alloc: Global, text: &[u8]) -> Result<Option<Bytes>, NoMemory> {
+    text_of(alloc, &parsed(alloc, text))
 }
 
 /// Appends the text of the statement, and after it a note, if another text is printed of that.

@@ -1,5 +1,3 @@
-use Rattle.std.proofs.Common.{sym, ap, ◌∙◌}
-use Rattle.rs_index.specs.TextPairs.{text_pairs}
 use Rattle.rs_index.proofs.TextLaws.{added_text}
 use Rattle.rs_index.proofs.text_numbers.add_text.Goals as goal
 

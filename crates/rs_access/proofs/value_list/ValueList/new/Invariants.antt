@@ -1,4 +1,4 @@
-use Rattle.std.proofs.Common.{◌≡◌, [], take}
+use Rattle.std.proofs.Common.{◌≡◌, take}
 use Rattle.rs_access.specs.Access.{listed}
 use Rattle.rs_access.proofs.value_list.ValueList.new.Given as goal
 

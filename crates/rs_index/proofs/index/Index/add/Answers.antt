@@ -1,5 +1,4 @@
-use Rattle.std.proofs.Common.{rules, SFits, w64, ◌≡◌, ℕ, ◌<◌, ◌^◌, List, sym, ap, arith}
-use Rattle.std.specs.Prelude.{All, OnOk}
+use Rattle.std.proofs.Common.{rules, SFits, w64, ℕ, ◌<◌, ◌^◌, List, sym, ap, arith}
 use Rattle.std.proofs.lemmas.Int.{to_z-of_z}
 use Rattle.std.proofs.lemmas.Map.Views.{All-insert_key}
 use Rattle.rs_base.specs.declared.value.Value.{Value}

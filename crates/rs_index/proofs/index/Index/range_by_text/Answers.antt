@@ -1,4 +1,4 @@
-use Rattle.std.proofs.Common.{List, [], ◌++◌, ℕ, ℤ, cond, map, sym, ap, ◌∙◌}
+use Rattle.std.proofs.Common.{sym}
 use Rattle.std.specs.declared.cmp.Ordering.TheVariants.{Less}
 use Rattle.rs_ast.specs.Allows.{allows}
 use Rattle.rs_index.proofs.Ranges.{range_by_text, if_mapped}

@@ -17,18 +17,38 @@ pub struct SiteCases {
     site: Site,
 }
 
-/// Reads the datagram of an ask `USER EPOCH NUMBER PART TEXT`.
-fn read_ask(alloc: Global, words: &mut Words<'_>) -> Result<Input, NoMemory> {
-    let message = Message::Ask(Ask {
+/// Returns the encoding of a message.
+fn encoded(alloc: Global, message: &Message) -> Result<Bytes, NoMemory> {
+    let mut bytes = Bytes::new(alloc);
+    encode(alloc, message, &mut bytes)?;
+    Ok(bytes)
+}
+
+/// Reads an ask `USER EPOCH NUMBER PART TEXT`.
+fn read_ask(alloc: Global, words: &mut Words<'_>) -> Result<Message, NoMemory> {
+    Ok(Message::Ask(Ask {
         user: words.ident(),
         epoch: words.small(),
         number: words.number(),
         part: words.small(),
         text: unescaped(alloc, words.rest())?,
-    });
-    let mut bytes = Bytes::new(alloc);
-    encode(alloc, &message, &mut bytes)?;
-    Ok(Input::Datagram(CLIENT, bytes))
+    }))
+}
+
+/// Reads a datagram's bytes, or those of an ask.
+fn read_datagram(alloc: Global, call: &str, words: &mut Words<'_>) -> Result<Bytes, NoMemory> {
+    match call {
+        "datagram" => unescaped(alloc, words.rest()),
+        _ => encoded(alloc, &read_ask(alloc, words)?),
+    }
+}
+
+/// Reads a tick, a datagram or an ask.
+fn read_input(alloc: Global, call: &str, words: &mut Words<'_>) -> Result<Input, NoMemory> {
+    match call {
+        "tick" => Ok(Input::Tick),
+        _ => Ok(Input::Datagram(CLIENT, read_datagram(alloc, call, words)?)),
+    }
 }
 
 /// Appends the replies, and the number of committed executions.
@@ -45,6 +65,14 @@ fn append_parts(outs: &Outs, out: &mut Output) {
     for told in outs.replies.as_slice() {
         out.number(u64::from(told.part));
         out.text(" ");
+    }
+}
+
+/// Appends what comes out of a step.
+fn append_step(call: &str, outs: &Outs, out: &mut Output) {
+    match call {
+        "parts" => append_parts(outs, out),
+        _ => append_outs(outs, out),
     }
 }
 
@@ -75,22 +103,35 @@ fn append_message(message: &Result<Message, ReadFault>, out: &mut Output) {
     }
 }
 
-/// Appends the message of a part `SITE USER EPOCH NUMBER PART LINE` of a reply, as it is read from its encoding, or `none`.
-fn append_told(words: &mut Words<'_>, out: &mut Output) -> Result<(), NoMemory> {
-    let told = Told {
+/// Appends a message, as it is read from its encoding, or `none`.
+fn append_decoded(message: Option<&Message>, out: &mut Output) -> Result<(), NoMemory> {
+    match message {
+        Some(message) => {
+            let bytes = encoded(out.alloc, message)?;
+            append_message(&decode(out.alloc, bytes.as_slice()), out);
+            Ok(())
+        }
+        None => {
+            out.text("none");
+            Ok(())
+        }
+    }
+}
+
+/// Reads a part `SITE USER EPOCH NUMBER PART LINE` of a reply.
+fn read_told(alloc: Global, words: &mut Words<'_>) -> Result<Told, NoMemory> {
+    Ok(Told {
         to: CLIENT,
         origin: words.origin(),
         part: words.small(),
-        reply: read_reply(out.alloc, words.rest())?,
-    };
-    let Some(message) = told.message(out.alloc)? else {
-        out.text("none");
-        return Ok(());
-    };
-    let mut bytes = Bytes::new(out.alloc);
-    encode(out.alloc, &message, &mut bytes)?;
-    append_message(&decode(out.alloc, bytes.as_slice()), out);
-    Ok(())
+        reply: read_reply(alloc, words.rest())?,
+    })
+}
+
+/// Appends the message of a part of a reply, as it is read from its encoding, or `none`.
+fn append_told(words: &mut Words<'_>, out: &mut Output) -> Result<(), NoMemory> {
+    let told = read_told(out.alloc, words)?;
+    append_decoded(told.message(out.alloc)?.as_ref(), out)
 }
 
 /// Plays a course of events, and returns its report.
@@ -117,9 +158,15 @@ impl SiteCases {
         })
     }
 
-    /// Steps the site, and appends its replies.
-    fn step(&mut self, input: &Input, out: &mut Output) -> Result<(), NoMemory> {
-        append_outs(&self.site.step(out.alloc, input)?, out);
+    /// Steps the site, and appends what comes out.
+    fn step(
+        &mut self,
+        call: &str,
+        words: &mut Words<'_>,
+        out: &mut Output,
+    ) -> Result<(), NoMemory> {
+        let input = read_input(out.alloc, call, words)?;
+        append_step(call, &self.site.step(out.alloc, &input)?, out);
         Ok(())
     }
 }
@@ -127,30 +174,17 @@ impl SiteCases {
 impl Cases for SiteCases {
     fn answer(&mut self, words: &mut Words<'_>, out: &mut Output) -> Result<(), NoMemory> {
         match words.next() {
-            "ask" => {
-                let input = read_ask(out.alloc, words)?;
-                self.step(&input, out)
-            }
-            "parts" => {
-                let input = read_ask(out.alloc, words)?;
-                append_parts(&self.site.step(out.alloc, &input)?, out);
+            "new" => {
+                *self = SiteCases::new(out.alloc)?;
                 Ok(())
             }
-            "datagram" => {
-                let bytes = unescaped(out.alloc, words.rest())?;
-                self.step(&Input::Datagram(CLIENT, bytes), out)
-            }
-            "tick" => self.step(&Input::Tick, out),
             "tables" => {
                 out.number(self.site.database().tables().len() as u64);
                 Ok(())
             }
             "message" => append_told(words, out),
             "play" => append_report(words.rest(), out),
-            _ => {
-                *self = SiteCases::new(out.alloc)?;
-                Ok(())
-            }
+            call => self.step(call, words, out),
         }
     }
 }
