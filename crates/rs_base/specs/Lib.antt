@@ -5,6 +5,7 @@ pub mod Txn
 pub mod Txt
 pub mod Value
 pub mod Faults
+pub mod Keeping
 pub mod Printing
 pub mod Reading
 pub mod Sizes

@@ -1,3 +1,7 @@
+pub mod AsChanges
+pub mod AsClauses
+pub mod AsShape
+pub mod AsStatements
 pub mod Outcomes
 pub mod Over
 pub mod OverChanges

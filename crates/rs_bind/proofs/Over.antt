@@ -66,13 +66,13 @@ widths_are (entry ∷ entries) narrow =
     ap₂ (λ (one : ℕ) (others : List ℕ). one ∷ others) width (widths_are entries (All-tail IsNarrow entry entries narrow))
 
 -- what isn't denied is bound to this
-not_denied : (denial : Option Denial) (one bound : Bound) → unless_denied denial one ≡ Ok bound → (denial ≡ None) × (one ≡ bound)
+pub not_denied : (denial : Option Denial) (one bound : Bound) → unless_denied denial one ≡ Ok bound → (denial ≡ None) × (one ≡ bound)
 not_denied None one bound e = (refl, cc)
 not_denied (Some cause) one bound e = absurd cc
 
 -- ---- SELECT
 
-named_clauses : (scope : List ScopeColumn) (params : List Param) (select : Select) → first_denial (names_tests scope params select) ≡ None
+pub named_clauses : (scope : List ScopeColumn) (params : List Param) (select : Select) → first_denial (names_tests scope params select) ≡ None
     → first_denial (clauses_tests scope params select.clauses) ≡ None
 named_clauses scope params select names =
     let shown = items_tests scope select.items in

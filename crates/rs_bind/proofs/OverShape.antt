@@ -55,7 +55,7 @@ range_plain a (suc n) = range_plain (a + 1) n
 module _ (scope : List ScopeColumn) where
   -- ---- items
 
-  length-shown : (shown : Option (List Item)) → length (items_shown scope shown) ≡ item_count scope shown
+  pub length-shown : (shown : Option (List Item)) → length (items_shown scope shown) ≡ item_count scope shown
   length-shown None = length-map-range_with_len column_at 0 (length scope)
   length-shown (Some shown) = length-map shown (shape_item scope)
 
@@ -111,7 +111,7 @@ module _ (scope : List ScopeColumn) where
   -- ---- keys
 
   -- a column that is there and shown is among the items
-  key_shown : (shown : Option (List Item)) (written : ColRef) → is_column_index (kinds_in scope) (column_index_of scope written) ≡ true → is_shown scope shown written ≡ true
+  pub key_shown : (shown : Option (List Item)) (written : ColRef) → is_column_index (kinds_in scope) (column_index_of scope written) ≡ true → is_shown scope shown written ≡ true
       → list_any (shows_column (column_index_of scope written)) (items_shown scope shown) ≡ true
   key_shown None written there e =
       let within = ltb-true (column_index_of scope written) (length (kinds_in scope)) there in

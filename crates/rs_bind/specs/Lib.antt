@@ -1,3 +1,4 @@
+pub mod AsWritten
 pub mod Binding
 pub mod Entries
 pub mod Laws

@@ -1,7 +1,9 @@
-//! Appends the printed text of rows, requests and replies part by part. On out of memory a part of the text is left.
+//! Appends the printed text of rows, requests and replies part by part. On out of memory the bytes that were there are a
+//! prefix of the new ones: a part of the text may be left after them.
 
-ghost use Rattle.std.specs.Prelude.{◌≡◌, ◌++◌, length, take, flat_map, map, decimal, codes, OnOk};
+ghost use Rattle.std.specs.Prelude.{◌≡◌, ◌++◌, length, take, flat_map, map, decimal, codes, OnOk, OnErr};
 ghost use Rattle.std.specs.List.{join_with_byte};
+ghost use Rattle.rs_base.specs.Keeping.{Keeps};
 ghost use Rattle.rs_base.specs.Printing.{printed_value};
 ghost use Rattle.rs_print.specs.Replies as spec;
 
@@ -12,7 +14,8 @@ use rs_base::{
 };
 
 fn values(out: &mut Bytes, row: &[Value]) -> Result<(), NoMemory>
-    ensures { OnOk result (out.new ≡ out.old ++ join_with_byte 44 (map printed_value row.now)) }
+    ensures ok { OnOk result (out.new ≡ out.old ++ join_with_byte 44 (map printed_value row.now)) }
+    ensures err { OnErr result (Keeps out.old out.new) }
 {
     let [first, others @ ..] = row else {
         return Ok(());
@@ -22,14 +25,16 @@ fn values(out: &mut Bytes, row: &[Value]) -> Result<(), NoMemory>
 }
 
 fn further_value(out: &mut Bytes, next: &Value) -> Result<(), NoMemory>
-    ensures { OnOk result (out.new ≡ out.old ++ spec.further_value next.now) }
+    ensures ok { OnOk result (out.new ≡ out.old ++ spec.further_value next.now) }
+    ensures err { OnErr result (Keeps out.old out.new) }
 {
     out.push(b',')?;
     value(out, next)
 }
 
 fn further_values(out: &mut Bytes, row: &[Value]) -> Result<(), NoMemory>
-    ensures { OnOk result (out.new ≡ out.old ++ flat_map spec.further_value row.now) }
+    ensures ok { OnOk result (out.new ≡ out.old ++ flat_map spec.further_value row.now) }
+    ensures err { OnErr result (Keeps out.old out.new) }
 {
     for next in row {
         further_value(out, next)?;
@@ -38,14 +43,16 @@ fn further_values(out: &mut Bytes, row: &[Value]) -> Result<(), NoMemory>
 }
 
 pub fn row(out: &mut Bytes, row: &[Value]) -> Result<(), NoMemory>
-    ensures { OnOk result (out.new ≡ out.old ++ spec.printed_row row.now) }
+    ensures ok { OnOk result (out.new ≡ out.old ++ spec.printed_row row.now) }
+    ensures err { OnErr result (Keeps out.old out.new) }
 {
     values(out, row)?;
     out.extend(b"\n")
 }
 
 fn rows(out: &mut Bytes, rows: &[Row]) -> Result<(), NoMemory>
-    ensures { OnOk result (out.new ≡ out.old ++ flat_map spec.printed_row rows.now) }
+    ensures ok { OnOk result (out.new ≡ out.old ++ flat_map spec.printed_row rows.now) }
+    ensures err { OnErr result (Keeps out.old out.new) }
 {
     for each in rows {
         row(out, each.as_slice())?;
@@ -54,7 +61,8 @@ fn rows(out: &mut Bytes, rows: &[Row]) -> Result<(), NoMemory>
 }
 
 fn dotted(out: &mut Bytes, at: SiteNo, epoch: u32, n: u64) -> Result<(), NoMemory>
-    ensures { OnOk result (out.new ≡ out.old ++ spec.dotted at epoch n) }
+    ensures ok { OnOk result (out.new ≡ out.old ++ spec.dotted at epoch n) }
+    ensures err { OnErr result (Keeps out.old out.new) }
 {
     site(out, at)?;
     out.extend(b".")?;
@@ -64,19 +72,22 @@ fn dotted(out: &mut Bytes, at: SiteNo, epoch: u32, n: u64) -> Result<(), NoMemor
 }
 
 pub fn txn(out: &mut Bytes, txn: &Txn) -> Result<(), NoMemory>
-    ensures { OnOk result (out.new ≡ out.old ++ spec.printed_txn txn.now) }
+    ensures ok { OnOk result (out.new ≡ out.old ++ spec.printed_txn txn.now) }
+    ensures err { OnErr result (Keeps out.old out.new) }
 {
     dotted(out, txn.site, txn.epoch, txn.number)
 }
 
 fn enlist(out: &mut Bytes, enlist: &Enlist) -> Result<(), NoMemory>
-    ensures { OnOk result (out.new ≡ out.old ++ spec.printed_enlist enlist.now) }
+    ensures ok { OnOk result (out.new ≡ out.old ++ spec.printed_enlist enlist.now) }
+    ensures err { OnErr result (Keeps out.old out.new) }
 {
     dotted(out, enlist.site, enlist.epoch, enlist.number)
 }
 
 pub fn origin(out: &mut Bytes, origin: &Origin) -> Result<(), NoMemory>
-    ensures { OnOk result (out.new ≡ out.old ++ spec.printed_origin origin.now) }
+    ensures ok { OnOk result (out.new ≡ out.old ++ spec.printed_origin origin.now) }
+    ensures err { OnErr result (Keeps out.old out.new) }
 {
     site(out, origin.site)?;
     out.extend(b" ")?;
@@ -88,7 +99,8 @@ pub fn origin(out: &mut Bytes, origin: &Origin) -> Result<(), NoMemory>
 }
 
 fn answer(out: &mut Bytes, answer: &Answer) -> Result<(), NoMemory>
-    ensures { OnOk result (out.new ≡ out.old ++ spec.printed_answer answer.now) }
+    ensures ok { OnOk result (out.new ≡ out.old ++ spec.printed_answer answer.now) }
+    ensures err { OnErr result (Keeps out.old out.new) }
 {
     match answer {
         Answer::Ok => out.extend(b"ok\n"),
@@ -107,7 +119,8 @@ fn answer(out: &mut Bytes, answer: &Answer) -> Result<(), NoMemory>
 }
 
 fn answers(out: &mut Bytes, answers: &[Answer]) -> Result<(), NoMemory>
-    ensures { OnOk result (out.new ≡ out.old ++ flat_map spec.printed_answer answers.now) }
+    ensures ok { OnOk result (out.new ≡ out.old ++ flat_map spec.printed_answer answers.now) }
+    ensures err { OnErr result (Keeps out.old out.new) }
 {
     for each in answers {
         answer(out, each)?;
@@ -139,7 +152,8 @@ fn denial_text(cause: Denial) -> &'static [u8]
 }
 
 fn resource(out: &mut Bytes, what: &Resource) -> Result<(), NoMemory>
-    ensures { OnOk result (out.new ≡ out.old ++ spec.printed_resource what.now) }
+    ensures ok { OnOk result (out.new ≡ out.old ++ spec.printed_resource what.now) }
+    ensures err { OnErr result (Keeps out.old out.new) }
 {
     match what {
         Resource::Table(name) => {
@@ -165,7 +179,8 @@ fn resource(out: &mut Bytes, what: &Resource) -> Result<(), NoMemory>
 
 #[tactic(auto, unfolding(crate::specs::Replies::printed_holder))]
 fn holder(out: &mut Bytes, holder: &Enlist) -> Result<(), NoMemory>
-    ensures { OnOk result (out.new ≡ out.old ++ spec.printed_holder holder.now) }
+    ensures ok { OnOk result (out.new ≡ out.old ++ spec.printed_holder holder.now) }
+    ensures err { OnErr result (Keeps out.old out.new) }
 {
     out.extend(b" holder ")?;
     enlist(out, holder)
@@ -173,7 +188,8 @@ fn holder(out: &mut Bytes, holder: &Enlist) -> Result<(), NoMemory>
 
 #[tactic(auto, unfolding(crate::specs::Replies::printed_wait))]
 fn wait(out: &mut Bytes, at: SiteNo, what: &Resource, held_by: &Enlist) -> Result<(), NoMemory>
-    ensures { OnOk result (out.new ≡ out.old ++ spec.printed_wait at what.now held_by.now) }
+    ensures ok { OnOk result (out.new ≡ out.old ++ spec.printed_wait at what.now held_by.now) }
+    ensures err { OnErr result (Keeps out.old out.new) }
 {
     out.extend(b"site ")?;
     site(out, at)?;
@@ -183,7 +199,8 @@ fn wait(out: &mut Bytes, at: SiteNo, what: &Resource, held_by: &Enlist) -> Resul
 }
 
 fn reason(out: &mut Bytes, reason: &Reason) -> Result<(), NoMemory>
-    ensures { OnOk result (out.new ≡ out.old ++ spec.printed_reason reason.now) }
+    ensures ok { OnOk result (out.new ≡ out.old ++ spec.printed_reason reason.now) }
+    ensures err { OnErr result (Keeps out.old out.new) }
 {
     match reason {
         Reason::LockBudget {
@@ -206,14 +223,16 @@ fn reason(out: &mut Bytes, reason: &Reason) -> Result<(), NoMemory>
 }
 
 fn line(out: &mut Bytes, line: &[u8]) -> Result<(), NoMemory>
-    ensures { OnOk result (out.new ≡ out.old ++ spec.printed_line line.now) }
+    ensures ok { OnOk result (out.new ≡ out.old ++ spec.printed_line line.now) }
+    ensures err { OnErr result (Keeps out.old out.new) }
 {
     out.extend(line)?;
     out.extend(b"\n")
 }
 
 fn lines(out: &mut Bytes, lines: &[Bytes]) -> Result<(), NoMemory>
-    ensures { OnOk result (out.new ≡ out.old ++ flat_map spec.printed_line lines.now) }
+    ensures ok { OnOk result (out.new ≡ out.old ++ flat_map spec.printed_line lines.now) }
+    ensures err { OnErr result (Keeps out.old out.new) }
 {
     for each in lines {
         line(out, each.as_slice())?;
@@ -223,7 +242,8 @@ fn lines(out: &mut Bytes, lines: &[Bytes]) -> Result<(), NoMemory>
 
 #[tactic(auto, unfolding(crate::specs::Replies::printed_counted))]
 fn counted(out: &mut Bytes, class: &[u8], n: u64) -> Result<(), NoMemory>
-    ensures { OnOk result (out.new ≡ out.old ++ spec.printed_counted class.now n) }
+    ensures ok { OnOk result (out.new ≡ out.old ++ spec.printed_counted class.now n) }
+    ensures err { OnErr result (Keeps out.old out.new) }
 {
     out.extend(class)?;
     number(out, n)?;
@@ -231,7 +251,8 @@ fn counted(out: &mut Bytes, class: &[u8], n: u64) -> Result<(), NoMemory>
 }
 
 fn class(out: &mut Bytes, reply: &Reply) -> Result<(), NoMemory>
-    ensures { OnOk result (out.new ≡ out.old ++ spec.printed_class reply.now) }
+    ensures ok { OnOk result (out.new ≡ out.old ++ spec.printed_class reply.now) }
+    ensures err { OnErr result (Keeps out.old out.new) }
 {
     match reply {
         Reply::Done(answered) => {
@@ -260,7 +281,8 @@ fn class(out: &mut Bytes, reply: &Reply) -> Result<(), NoMemory>
 }
 
 pub fn reply(out: &mut Bytes, to: &Origin, reply: &Reply) -> Result<(), NoMemory>
-    ensures { OnOk result (out.new ≡ out.old ++ spec.printed_reply to.now reply.now) }
+    ensures ok { OnOk result (out.new ≡ out.old ++ spec.printed_reply to.now reply.now) }
+    ensures err { OnErr result (Keeps out.old out.new) }
 {
     out.extend(b"reply ")?;
     origin(out, to)?;
