@@ -1,10 +1,10 @@
 #!/usr/bin/env python3
 """Times calls on an index over a column of integers: over tables of 1,000, 8,000 and 64,000 rows.
 
-A call's time is the processor time by which two runs of `bench_rows` differ, one with a million calls more than the other, so
-that start-up and building the index don't count. `add` fills new indexes of that size, so it has each value's share of dropping an index;
-`turn` is a drop and an add; `range` asks for the one row of a value. Beside each is the time of the same over a `BTreeSet` in
-Rust, written by hand (index.rs).
+A call's time is the processor time by which two runs of `bench_rows` differ, one with ten million calls more than the other,
+so that start-up and building the index don't count. `add` fills new indexes of that size, so it has each value's share of
+dropping an index; `turn` is a drop and an add; `range` asks for the one row of a value. Beside each is the time of the same
+over a `BTreeSet` in Rust, written by hand (index.rs).
 
 Bounds: eight times the rows take less than 1.6 times the time a call, and an index over 65,536 rows takes at most 4 MB beside
 its table. The status says whether they held (see bounds.py). ROWS_PROGRAM in the environment names another program than the
@@ -20,7 +20,7 @@ from bounds import Bounds, median_of, spread_of
 
 TOP = os.path.dirname(os.path.dirname(os.path.abspath(__file__)))
 RUNS = 7
-CALLS = 1_000_000
+CALLS = 10_000_000
 SIZES = (1_000, 8_000, 64_000)
 NAMES = ("add", "turn", "range")
 

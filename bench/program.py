@@ -1,4 +1,4 @@
-"""Runs the built program on schedules, and measures it. The scripts of this folder share it.
+"""Runs the built program on schedules, and measures its processor time. The scripts of this folder share it.
 
 PROGRAM in the environment names another program than the built one.
 """
@@ -7,7 +7,6 @@ import os
 import subprocess
 import sys
 import tempfile
-import time
 
 from bounds import Bounds, median_of, spread_of
 
@@ -42,7 +41,7 @@ class Schedule:
 
 
 class Runs:
-    """The seconds and the peak memory of several runs of one schedule."""
+    """The processor seconds and the peak memory of several runs of one schedule."""
 
     def __init__(self, schedule):
         self.source = schedule.text()
@@ -55,10 +54,9 @@ class Runs:
         with tempfile.TemporaryFile() as given, tempfile.TemporaryFile() as report:
             given.write(self.source)
             given.seek(0)
-            start = time.perf_counter()
             child = subprocess.Popen([PROGRAM, "replay"], stdin=given, stdout=report)
             _, status, used = os.wait4(child.pid, 0)
-            self.seconds.append(time.perf_counter() - start)
+            self.seconds.append(used.ru_utime + used.ru_stime)
             child.returncode = os.waitstatus_to_exitcode(status)
             if child.returncode != 0:
                 sys.exit(f"the program ended with status {child.returncode}")

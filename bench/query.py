@@ -2,7 +2,7 @@
 """Times queries and changes over large tables: joins on a key of two tables of 1,000 to 64,000 rows, a count over three
 tables of 1,000 rows of which none satisfies a clause over the last, a GROUP BY and an UPDATE of 50,000.
 
-Each statement is asked 40 times, and the same schedule without it is taken off. Bounds: the joins of 1,000 by 1,000 and of
+Each statement is asked 400 times, and the same schedule without it is taken off. Bounds: the joins of 1,000 by 1,000 and of
 16,000 by 16,000 rows take at most 0.1 s each, and twice the rows from 16,000 on at most 2.4 times the time; the count takes
 at most 0.01 s; twice the rows of a GROUP BY and of an UPDATE take at most 2.6 times the time. The status says whether they
 held (see program.py).
@@ -10,7 +10,7 @@ held (see program.py).
 
 from program import Bounds, Runs, Schedule
 
-TIMES = 40
+TIMES = 400
 PIECE = 500
 
 JOIN = "SELECT COUNT(*) FROM t a, u b WHERE a.k = b.k"

@@ -73,13 +73,24 @@ expr_fits scope params kind first None = kinds_fit kind (term_kind scope params 
 expr_fits scope params kind first (Some more) =
     kinds_fit kind (Some kinds.Int) && kinds_fit (Some kinds.Int) (term_kind scope params first) && kinds_fit (Some kinds.Int) (term_kind scope params more.1)
 
--- its column isn't there, or is assigned by one of those before; its terms; and then their kinds
+-- its column isn't there, or is assigned by one of those before
+abbrev pub set_column_tests : List ScopeColumn → List Set → Set → List Test
+set_column_tests scope before set =
+    test (named_count scope (unqualified set.column) == 0) denials.NoColumn
+    ∷ test (list_any (λ other. bytes_eq other.column set.column) before) denials.TwoColumns ∷ []
+
+-- its expression is of its column's kind
+abbrev pub set_fits : List ScopeColumn → List Param → Set → Bool
+set_fits scope params set = expr_fits scope params (column_kind scope (unqualified set.column)) set.expr.first set.expr.more
+
+abbrev pub set_kind_test : List ScopeColumn → List Param → Set → Test
+set_kind_test scope params set = test (not (set_fits scope params set)) denials.WrongType
+
+-- its column; its terms; and then their kinds
 abbrev pub set_tests : List ScopeColumn → List Param → List Set → Set → List Test
 set_tests scope params before set =
-    test (named_count scope (unqualified set.column) == 0) denials.NoColumn
-    ∷ test (list_any (λ other. bytes_eq other.column set.column) before) denials.TwoColumns
-    ∷ term_tests scope params set.expr.first ++ more_tests scope params set.expr.more
-    ++ test (not (expr_fits scope params (column_kind scope (unqualified set.column)) set.expr.first set.expr.more)) denials.WrongType ∷ []
+    set_column_tests scope before set
+    ++ term_tests scope params set.expr.first ++ more_tests scope params set.expr.more ++ set_kind_test scope params set ∷ []
 
 -- each assignment, after those before it
 abbrev pub sets_tests : List ScopeColumn → List Param → List Set → List Set → List Test

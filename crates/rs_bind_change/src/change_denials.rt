@@ -1,6 +1,6 @@
 //! Denials of changes of rows.
 
-ghost use Rattle.std.specs.Prelude.{◌≡◌, ◌==◌, not, [], ◌∷◌, flat_map, bytes_eq};
+ghost use Rattle.std.specs.Prelude.{◌≡◌, ◌==◌, [], ◌∷◌, flat_map, bytes_eq};
 ghost use Rattle.std.specs.List.{list_all, list_any, zip};
 ghost use Rattle.rs_bind_change.specs.Denials as spec;
 ghost use Rattle.rs_scope.specs.Denials as denials;
@@ -141,7 +141,7 @@ fn expr_fits(scope: &[ScopeColumn], params: &[Param], kind: Option<Kind>, expr: 
 }
 
 fn set_fits(scope: &[ScopeColumn], params: &[Param], set: &Set) -> bool
-    ensures { result ≡ spec.expr_fits scope.now params.now (named.column_kind scope.now (named.unqualified set.now.column)) set.now.expr.first set.now.expr.more }
+    ensures { result ≡ spec.set_fits scope.now params.now set.now }
 {
     let kind = column_kind(scope, &unqualified(set.column));
     expr_fits(scope, params, kind, &set.expr)
@@ -154,7 +154,7 @@ fn is_set(before: &[Set], column: Ident) -> bool
 }
 
 fn set_column_denial(scope: &[ScopeColumn], before: &[Set], set: &Set) -> Option<Denial>
-    ensures { result ≡ denials.first_denial (denials.test (named.named_count scope.now (named.unqualified set.now.column) == 0) Denial.NoColumn ∷ denials.test (list_any (λ other. bytes_eq other.column set.now.column) before.now) Denial.TwoColumns ∷ []) }
+    ensures { result ≡ denials.first_denial (spec.set_column_tests scope.now before.now set.now) }
 {
     if is_absent(scope, set.column) {
         Some(Denial::NoColumn)
@@ -166,7 +166,7 @@ fn set_column_denial(scope: &[ScopeColumn], before: &[Set], set: &Set) -> Option
 }
 
 fn set_kind_denial(scope: &[ScopeColumn], params: &[Param], set: &Set) -> Option<Denial>
-    ensures { result ≡ denials.first_denial (denials.test (not (spec.expr_fits scope.now params.now (named.column_kind scope.now (named.unqualified set.now.column)) set.now.expr.first set.now.expr.more)) Denial.WrongType ∷ []) }
+    ensures { result ≡ denials.first_denial (spec.set_kind_test scope.now params.now set.now ∷ []) }
 {
     denial_if(!set_fits(scope, params, set), Denial::WrongType)
 }

@@ -59,11 +59,15 @@ shape_of scope select = record {
   grouped = is_grouped select;
 }
 
+-- a query over these columns, whose tables have these aliases
+abbrev pub bound_over : List ScopeColumn → List (List ℕ) → List Param → Select → List Heading → Bound
+bound_over scope aliases params select headings =
+    bounds.Select (map (λ heading. heading.name) headings) aliases (map (λ heading. as_u16 (length heading.columns)) headings)
+    (bound_clauses scope params select.clauses) (shape_of scope select)
+
 abbrev pub bound_select : Select → List Heading → List Param → Bound
 bound_select select headings params =
-    let scope = query_scope select.from headings in
-    bounds.Select (map (λ heading. heading.name) headings) (aliases_of select.from headings) (map (λ heading. as_u16 (length heading.columns)) headings)
-    (bound_clauses scope params select.clauses) (shape_of scope select)
+    bound_over (query_scope select.from headings) (aliases_of select.from headings) params select headings
 
 -- ---- what is bound, or the cause of the denial
 

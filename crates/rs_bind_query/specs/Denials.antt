@@ -106,9 +106,13 @@ names_item scope select (keys.Place n) = not (n == 0) && not (nat_lt (item_count
 abbrev pub keys_tests : List ScopeColumn → Select → List Test
 keys_tests scope select = map (λ key. test (not (names_item scope select key.by)) denials.NoColumn) select.order
 
--- two tables have one alias; the names in the order of the text; the grouping; the keys
+-- of a query over these columns, whose tables have these aliases: two tables have one alias; the names in the order of the
+-- text; the grouping; the keys
+abbrev pub tests_over : List ScopeColumn → List (List ℕ) → List Param → Select → List Test
+tests_over scope aliases params select =
+    test (not (all_differ aliases)) denials.TwoColumns
+    ∷ names_tests scope params select ++ grouping_test scope select ∷ keys_tests scope select
+
 abbrev pub select_tests : Select → List Heading → List Param → List Test
 select_tests select headings params =
-    let scope = query_scope select.from headings in
-    test (not (all_differ (aliases_of select.from headings))) denials.TwoColumns
-    ∷ names_tests scope params select ++ grouping_test scope select ∷ keys_tests scope select
+    tests_over (query_scope select.from headings) (aliases_of select.from headings) params select

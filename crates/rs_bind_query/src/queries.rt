@@ -2,7 +2,6 @@
 
 ghost use Rattle.std.specs.Prelude.{◌≡◌, map, length, IfOk};
 ghost use Rattle.rs_bind_query.specs.Binding as spec;
-ghost use Rattle.rs_scope.specs.Predicates as predicates;
 ghost use Rattle.rs_scope.specs.Scope.{as_u16 as u16_of};
 
 use crate::select_denials::select_denial;
@@ -42,7 +41,7 @@ fn bound_select(
     headings: &[Heading],
     params: &[Param],
 ) -> Result<Bound, NoMemory>
-    ensures { IfOk result (λ bound. bound ≡ Bound.Select (map (λ heading. heading.name) headings.now) aliases (map (λ heading. u16_of (length heading.columns)) headings.now) (predicates.bound_clauses scope.now params.now select.now.clauses) (spec.shape_of scope.now select.now)) }
+    ensures { IfOk result (λ bound. bound ≡ spec.bound_over scope.now aliases params.now select.now headings.now) }
 {
     Ok(Bound::Select {
         names: names_of(alloc, headings)?,

@@ -1,6 +1,6 @@
 //! Denials of queries.
 
-ghost use Rattle.std.specs.Prelude.{◌≡◌, [], ◌∷◌, ◌++◌, not, flat_map, bytes_eq};
+ghost use Rattle.std.specs.Prelude.{◌≡◌, [], ◌∷◌, flat_map, bytes_eq};
 ghost use Rattle.std.specs.List.{list_any};
 ghost use Rattle.rs_bind_query.specs.Denials as spec;
 ghost use Rattle.rs_scope.specs.Denials as denials;
@@ -127,7 +127,7 @@ pub(crate) fn select_denial(
     params: &[Param],
     select: &Select,
 ) -> Option<Denial>
-    ensures { result ≡ denials.first_denial (denials.test (not (spec.all_differ aliases.now)) Denial.TwoColumns ∷ spec.names_tests scope.now params.now select.now ++ spec.grouping_test scope.now select.now ∷ spec.keys_tests scope.now select.now) }
+    ensures { result ≡ denials.first_denial (spec.tests_over scope.now aliases.now params.now select.now) }
 {
     denial_if(!all_differ(aliases), Denial::TwoColumns)
         .or_else(|| names_denial(scope, params, select))

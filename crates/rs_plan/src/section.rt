@@ -5,6 +5,7 @@ ghost use Rattle.std.specs.List.{list_any};
 ghost use Rattle.rs_plan.specs.Section as spec;
 
 use rs_ast::{BoundClause, BoundClauses, BoundCmp, BoundRows, BoundSets, BoundSide, Op, Places};
+use rs_base::{Swn, Txn};
 
 /// A section. Its columns are column indexes of its table. A scan and a fetch give the values of `columns` of the rows
 /// that satisfy the predicate; a fetch, of those whose value in the column `by` is a given one.
@@ -29,6 +30,14 @@ pub enum SectionKind {
         sets: BoundSets,
         clauses: BoundClauses,
     },
+}
+
+/// A section over the table of this name that this transaction created.
+#[derive(Drop)]
+pub struct Section {
+    pub name: Swn,
+    pub made: Txn,
+    pub kind: SectionKind,
 }
 
 /// Returns whether the operand is a value or a parameter.

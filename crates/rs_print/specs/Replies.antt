@@ -1,5 +1,5 @@
 -- The printed text of rows, requests, answers and replies.
-use Rattle.std.specs.Prelude.{ℕ, List, [], ◌∷◌, ◌++◌, map, flat_map, length, decimal, codes}
+use Rattle.std.specs.Prelude.{ℕ, List, ◌∷◌, ◌++◌, map, flat_map, length, decimal, codes}
 use Rattle.std.specs.List.{join_with_byte}
 use Rattle.rs_base.specs.declared.value.Value.{Value}
 use Rattle.rs_base.specs.declared.txn.Txn.{Txn}

@@ -34,12 +34,12 @@ rises slots i j d rising less within =
 pub found_by_search : (number : ℕ) (slots : List Slot) (r : Result ℕ ℕ) → IsStrictlySortedBy nat_cmp (slot_numbers slots) → IsSearchInRange r (length slots) → IsBinarySearchResult (λ slot. nat_cmp slot.number number) slots r → MatchOption (result_ok r) (Lacks number slots) (HasAt number slots)
 found_by_search number slots (Ok at) rising within found = record { within = within; same = λ d. ranked (get_or slots at d).number number Equal (sym (found d)) }
 found_by_search number slots (Err at) rising within found =
-    let parted = found (searchable_from_sorted nat_cmp_total (λ (slot : Slot). slot.number) slots number (λ k d low high. not_less _ _ (rises slots k (k + 1) d rising (omega arith) high))) in
+    let divided = found (searchable_from_sorted nat_cmp_total (λ (slot : Slot). slot.number) slots number (λ k d low high. not_less _ _ (rises slots k (k + 1) d rising (omega arith) high))) in
     record {
       none = λ k d inside same.
           elim (cases_lt k at) [
-            | inl before ↦ (let less : (get_or slots k d).number < number = ranked (get_or slots k d).number number Less (sym (parted.0 k d (omega arith) before)) in omega arith)
-            | inr after ↦ (let less : number < (get_or slots k d).number = ranked (get_or slots k d).number number Greater (sym (parted.1 k d after inside)) in omega arith)
+            | inl before ↦ (let less : (get_or slots k d).number < number = ranked (get_or slots k d).number number Less (sym (divided.0 k d (omega arith) before)) in omega arith)
+            | inr after ↦ (let less : number < (get_or slots k d).number = ranked (get_or slots k d).number number Greater (sym (divided.1 k d after inside)) in omega arith)
           ];
     }
 
