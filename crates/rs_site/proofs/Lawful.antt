@@ -13,7 +13,7 @@ use Rattle.rs_site.specs.declared.input.Input.TheVariants as inputs
 use Rattle.rs_site.specs.declared.outs.Decided.{Decided}
 use Rattle.rs_session.specs.declared.session.Session.{Session}
 use Rattle.rs_site.specs.Asking.{remembering, is_next, origin_of, on_ask}
-use Rattle.rs_site.specs.Laws.{last_of, IsLogged, IsNextCommit, NumbersRise, CommitsAreMeaning, DecidedAreLogged}
+use Rattle.rs_site.specs.Laws.{last_of, IsLogged, IsNextCommit, NumbersRise, CommitsAreMeaning, DecidedAreLogged, NoSectionRuns}
 use Rattle.rs_session.specs.Sessions.{session_of, last_is_answered}
 use Rattle.rs_site.specs.Planned.{Committed, Planned}
 use Rattle.rs_site.specs.State.{SiteState, next_txn}
@@ -81,6 +81,16 @@ logged site step (Executing x) = subst IsLogged (sym x.is) (record { appended = 
 pub decided_are_logged : DecidedAreLogged
 decided_are_logged site input = logged site (planned_step site input) (step_kind site input)
 
+-- ---- stored sections
+
+unrun : (site : SiteState) (step : Planned) → Kind site step → step.outs.runs ≡ []
+unrun site step (Staying stays) = stays.unrun
+unrun site step (Remembering r) = ap (λ (p : Planned). p.outs.runs) r.is
+unrun site step (Executing x) = ap (λ (p : Planned). p.outs.runs) x.is
+
+pub no_section_runs : NoSectionRuns
+no_section_runs site input = unrun site (planned_step site input) (step_kind site input)
+
 -- ---- repeats
 
 not_next : (n : ℕ) (session : Session) → n ≤ session.last → is_next n session ≡ true → ⊥
@@ -92,14 +102,14 @@ repeat_stays site from ask low =
     let session : Session = session_of ask.user site.desk.sessions in
     by_when (Stays site) _ _ _
     (λ _. by_when (Stays site) _ _ _
-    (λ _. by_when (Stays site) _ _ _ (λ _. sent site from _ refl)
+    (λ _. by_when (Stays site) _ _ _ (λ _. sent site from _ refl refl)
     (λ _. by_when (Stays site) _ _ _ (λ _. again_stays site from origin 0 session.reply)
-    (λ _. by_when (Stays site) _ _ _ (λ next. absurd (not_next ask.number session low next)) (λ _. sent site from _ refl))))
-    (λ _. sent site from _ refl))
+    (λ _. by_when (Stays site) _ _ _ (λ next. absurd (not_next ask.number session low next)) (λ _. sent site from _ refl refl))))
+    (λ _. sent site from _ refl refl))
     (λ _. further_stays site from origin ask.part)
 
 pub repeats_run_nothing : (site : SiteState) (from : Peer) (bytes : List ℕ) (ask : Ask) → message_of bytes ≡ Some (messages.Ask ask) → ask.number ≤ last_of ask.user site.desk
     → Stays site (planned_step site (inputs.Datagram from bytes))
 unfolding planned_step
 repeats_run_nothing site from bytes ask read low =
-    by_when (Stays site) _ _ _ (λ _. sent site from _ refl) (λ _. subst (λ r. Stays site (on_read site from r)) (sym read) (repeat_stays site from ask low))
+    by_when (Stays site) _ _ _ (λ _. sent site from _ refl refl) (λ _. subst (λ r. Stays site (on_read site from r)) (sym read) (repeat_stays site from ask low))

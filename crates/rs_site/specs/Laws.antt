@@ -69,6 +69,10 @@ pub record IsLogged (planned : Planned) : Type 0 where
 abbrev pub DecidedAreLogged : Type 0
 DecidedAreLogged = (site : SiteState) (input : Input) → IsLogged (planned_step site input)
 
+-- no step runs a stored section: there are none so far
+abbrev pub NoSectionRuns : Type 0
+NoSectionRuns = (site : SiteState) (input : Input) → (outs_of site input).runs ≡ []
+
 -- The ask is of the first part of the user's next request in the site's epoch, and the last one is answered.
 pub record IsNextAsk (site : SiteState) (ask : Ask) : Type 0 where
   pub part : ask.part ≡ 0

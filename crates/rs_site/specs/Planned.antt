@@ -7,14 +7,15 @@ use Rattle.rs_site.specs.State.{SiteState}
 ---- output
 
 abbrev pub no_outs : Outs
-no_outs = record { sends = []; replies = []; decided = [] }
+no_outs = record { sends = []; replies = []; decided = []; runs = [] }
 
--- what the one sends, replies and commits, and then what the other does
+-- what the one sends, replies, commits and runs, and then what the other does
 abbrev pub with_outs : Outs → Outs → Outs
 with_outs one other = record {
   sends = one.sends ++ other.sends;
   replies = one.replies ++ other.replies;
   decided = one.decided ++ other.decided;
+  runs = one.runs ++ other.runs;
 }
 
 ---- plans

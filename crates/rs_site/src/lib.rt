@@ -16,8 +16,8 @@ mod who;
 pub use input::Input;
 pub use laws::{
     commits_are_meaning, decided_are_logged, kept_reply_is_repeated, next_is_accepted,
-    numbers_rise, repeats_run_nothing,
+    no_section_runs, numbers_rise, repeats_run_nothing,
 };
-pub use outs::{Decided, Decideds, Outs};
+pub use outs::{Decided, Decideds, Outs, RunOf, Runs};
 pub use rs_session::{Told, Tolds};
 pub use site::Site;
