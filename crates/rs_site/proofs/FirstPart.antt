@@ -6,7 +6,6 @@ use Rattle.rs_base.specs.declared.peer.Peer.{Peer}
 use Rattle.rs_msg.specs.declared.message.Ask.{Ask}
 use Rattle.rs_msg.specs.declared.message.Message.TheVariants as messages
 use Rattle.rs_msg.specs.Message.{IsMessage}
-use Rattle.rs_msg.specs.Reader.{message_of}
 use Rattle.rs_msg.specs.Written.{message_bytes}
 use Rattle.rs_msg.proofs.Sizes.{ask_fits}
 use Rattle.rs_msg.proofs.Whole.{message_read, once_message, written_message}

@@ -20,7 +20,7 @@ use Rattle.rs_site.specs.State.{SiteState, next_txn}
 use Rattle.rs_site.specs.Step.{on_read, planned_step}
 use Rattle.rs_session.proofs.PutSessions.{session_put, session_beside, user_is}
 use Rattle.rs_site.proofs.Planning.{by_when}
-use Rattle.rs_site.proofs.Sorts.{Stays, IsNext, Kind, Staying, Remembering, Executing, step_kind, sent, again_stays, further_stays}
+use Rattle.rs_site.proofs.Sorts.{Stays, Kind, Staying, Remembering, Executing, step_kind, sent, again_stays, further_stays}
 
 last_rises : (desk : Desk) (origin : Origin) (reply : Reply) (user : List ℕ) → origin.number ≡ last_of origin.user desk + 1 → last_of user desk ≤ last_of user (remembering desk origin reply)
 last_rises desk origin reply user next =

@@ -1,5 +1,5 @@
 -- A step as a plan: what a site appends to its log, what it is after that, and what it sends.
-use Rattle.std.specs.Prelude.{◌≡◌, Bool, true, false, ◌||◌, List, [], ◌∷◌, ◌++◌, Option, Some, None, if◌then◌else◌}
+use Rattle.std.specs.Prelude.{◌≡◌, Bool, true, false, ◌||◌, List, [], ◌++◌, Option, Some, None, if◌then◌else◌}
 use Rattle.rs_site.specs.declared.outs.Decided.{Decided}
 use Rattle.rs_site.specs.declared.outs.Outs.{Outs}
 use Rattle.rs_site.specs.State.{SiteState}

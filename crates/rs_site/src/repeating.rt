@@ -1,6 +1,6 @@
 //! Replies that are sent again.
 
-ghost use Rattle.std.specs.Prelude.{◌≡◌, IfOk};
+ghost use Rattle.std.specs.Prelude.{IfOk};
 ghost use Rattle.rs_site.specs.Asking as spec;
 ghost use Rattle.rs_site.specs.Planned.{IsDone};
 ghost use Rattle.rs_session.specs.Sessions.{session_of};
