@@ -84,9 +84,10 @@ accepted_alone world site input to came sites one step =
 -- a dropped input has no output
 became_idle : (world : World) (site : SiteState) → world.sites ≡ place_of site ∷ [] → became world (idle site) ≡ world
 became_idle world site sites =
-    ap (λ (all : List Place). record world { sites = all; sent = world.sent ++ []; replies = world.replies ++ [] }) (sym sites)
-    ∙ ap (λ (xs : List _). record world { sent = xs; replies = world.replies ++ [] }) (append-nil world.sent)
-    ∙ ap (λ (xs : List _). record world { replies = xs }) (append-nil world.replies)
+    ap (λ (all : List Place). record world { sites = all; sent = world.sent ++ []; replies = world.replies ++ []; runs = world.runs ++ [] }) (sym sites)
+    ∙ ap (λ (xs : List _). record world { sent = xs; replies = world.replies ++ []; runs = world.runs ++ [] }) (append-nil world.sent)
+    ∙ ap (λ (xs : List _). record world { replies = xs; runs = world.runs ++ [] }) (append-nil world.replies)
+    ∙ ap (λ (xs : List _). record world { runs = xs }) (append-nil world.runs)
 
 -- What an action does after those before.
 pub data Does (before : List Action) (world : World) (site : SiteState) (action : Action) : Type 0 where

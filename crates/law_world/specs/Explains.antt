@@ -112,7 +112,7 @@ pub record Explains (events : List Event) (report : Report) : Type 0 where
   -- a repeated reply is the first one
   pub repeated_replies_agree : (k l : ℕ) (a b : Given) → slice_get report.replies k ≡ Some a → slice_get report.replies l ≡ Some b → a.origin ≡ b.origin → IsFinal a.reply → IsFinal b.reply → a.reply ≡ b.reply
   -- no stored section ran
-  pub runs_stand : report.runs ≡ 0
+  pub runs_stand : report.runs ≡ []
   -- in each state a site that is up stores of each resource what the history so far makes of it, once what is decided is
   -- applied there
   pub stores_follow : (before suffix : List Action) (number : ℕ) (site : SiteState) (what : Resource) → actions events ≡ before ++ suffix

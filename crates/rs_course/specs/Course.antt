@@ -124,6 +124,7 @@ after_outs world site outs = record world {
   sent = world.sent ++ flat_map (sent_by site) outs.sends;
   replies = world.replies ++ map given_of outs.replies;
   history = with_entries world.history outs.decided;
+  runs = world.runs ++ outs.runs;
 }
 
 -- the world in which the site of this number is up in this state, or down
