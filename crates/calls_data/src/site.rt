@@ -121,7 +121,7 @@ fn append_decoded(message: Option<&Message>, out: &mut Output) -> Result<(), NoM
 /// Reads a part `SITE USER EPOCH NUMBER PART LINE` of a reply.
 fn read_told(alloc: Global, words: &mut Words<'_>) -> Result<Told, NoMemory> {
     Ok(Told {
-        to: CLIENT,
+        peer: CLIENT,
         origin: words.origin(),
         part: words.small(),
         reply: read_reply(alloc, words.rest())?,

@@ -4,6 +4,8 @@ use Rattle.std.specs.Prelude.{fold}
 use Rattle.std.proofs.lemmas.List.{append-nil}
 use Rattle.std.proofs.lemmas.List.Sums.{fold-append}
 use Rattle.rs_site.specs.declared.outs.Decided.{Decided}
+use Rattle.rs_site.specs.declared.outs.RunOf.{RunOf}
+use Rattle.rs_site.proofs.Lawful.{no_section_runs}
 use Rattle.rs_site.specs.State.{SiteState}
 use Rattle.rs_site.specs.Step.{site_step}
 use Rattle.rs_site.specs.declared.input.Input.{Input}
@@ -38,7 +40,8 @@ grows_stepped : (world : World) (number : ℕ) (input : Input) (site : Option Si
 grows_stepped world number input None = grows_not world world refl refl refl
 grows_stepped world number input (Some site) =
     let more = grows_entries world.history (site_step site input).1.decided in
-    record { givens = _; replies = refl; entries = more.0; history = more.1; runs = refl }
+    let runs : world.runs ++ (site_step site input).1.runs ≡ world.runs = ap (λ (runs : List RunOf). world.runs ++ runs) (no_section_runs site input) ∙ append-nil world.runs in
+    record { givens = _; replies = refl; entries = more.0; history = more.1; runs = runs }
 
 grows_given : (world : World) (given : Option (ℕ × Input)) → Grows world (stepped_by world given)
 grows_given world None = grows_not world world refl refl refl
@@ -71,5 +74,5 @@ pub grows : (before suffix : List Action) → Grows (world_after before) (world_
 grows before suffix = subst (Grows (world_after before)) (sym (fold-append act start before suffix)) (grows_by (world_after before) suffix)
 
 -- no stored section has run
-pub no_runs : (done : List Action) → (world_after done).runs ≡ 0
+pub no_runs : (done : List Action) → (world_after done).runs ≡ []
 no_runs done = (grows [] done).runs

@@ -3,6 +3,7 @@ use Rattle.std.specs.Prelude.{ℕ, ◌-◌, List, [], Option}
 use Rattle.std.specs.List.{slice_get}
 use Rattle.rs_base.specs.Reading.{◌>>=◌}
 use Rattle.rs_site.specs.declared.outs.Decided.{Decided}
+use Rattle.rs_site.specs.declared.outs.RunOf.{RunOf}
 use Rattle.rs_site.specs.State.{SiteState}
 use Rattle.rs_course.specs.declared.datagram.Datagram.{Datagram}
 use Rattle.rs_course.specs.declared.report.Given.{Given}
@@ -12,18 +13,18 @@ pub record Place : Type 0 where
   pub up : Option SiteState
 
 -- The places of sites 1 and up; each datagram ever sent, the first with number 1; the numbers of those that were delivered
--- or lost, rising; and what is reported so far: the replies, the history, and the number of stored sections that ran.
+-- or lost, rising; and what is reported so far: the replies, the history, and the runs of stored sections.
 pub record World : Type 0 where
   pub sites : List Place
   pub sent : List Datagram
   pub gone : List ℕ
   pub replies : List Given
   pub history : List Decided
-  pub runs : ℕ
+  pub runs : List RunOf
 
 -- before the first event there is no site, and nothing was sent
 abbrev pub start : World
-start = record { sites = []; sent = []; gone = []; replies = []; history = []; runs = 0 }
+start = record { sites = []; sent = []; gone = []; replies = []; history = []; runs = [] }
 
 -- the state of the site of this number, if it is up
 abbrev pub site_at : World → ℕ → Option SiteState

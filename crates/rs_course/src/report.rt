@@ -2,7 +2,7 @@
 
 use rs_base::{Origin, Reply, SiteNo, Swn, Txn};
 use rs_rows::StoredRows;
-use rs_site::Decideds;
+use rs_site::{Decideds, Runs};
 use sqlite_items::Items;
 
 /// A reply, and the request that it answers, as it was asked.
@@ -37,11 +37,11 @@ pub struct SiteView {
 /// The view of each site, sorted by number.
 pub type SiteViews = Items<SiteView>;
 
-/// The replies, the committed executions in their serial order, the number of stored sections that ran, and the sites.
+/// The replies, the committed executions in their serial order, the runs of stored sections, and the sites.
 #[derive(Drop)]
 pub struct Report {
     pub replies: ReplyList,
     pub history: Decideds,
-    pub runs: u64,
+    pub runs: Runs,
     pub sites: SiteViews,
 }

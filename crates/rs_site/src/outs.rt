@@ -2,8 +2,10 @@
 
 ghost use Rattle.std.specs.Prelude.{◌≡◌, [], ◌∷◌, IfOk};
 ghost use Rattle.rs_site.specs.Asking as spec;
+ghost use Rattle.rs_site.specs.Planned as planned;
 
-use rs_base::{Bytes, Datagrams, NoMemory, Origin, Peer, Reply, Txn, one_item};
+use rs_base::{Bytes, Datagrams, NoMemory, Origin, Peer, Reply, SiteNo, Txn, one_item};
+use rs_plan::SectionId;
 use rs_session::{Told, Tolds};
 use sqlite_items::Items;
 use std::alloc::Global;
@@ -18,22 +20,33 @@ pub struct Decided {
 
 pub type Decideds = Items<Decided>;
 
-/// The output of a step: datagrams to sites, replies, and committed executions.
+/// A run of a stored section: the site that ran it, and the section.
+#[derive(Clone, Copy)]
+pub struct RunOf {
+    pub site: SiteNo,
+    pub id: SectionId,
+}
+
+pub type Runs = Items<RunOf>;
+
+/// The output of a step: datagrams to sites, replies, committed executions, and runs of stored sections.
 #[derive(Drop)]
 pub struct Outs {
     pub sends: Datagrams,
     pub replies: Tolds,
     pub decided: Decideds,
+    pub runs: Runs,
 }
 
 /// Returns the empty output.
 pub(crate) fn no_outs(alloc: Global) -> Outs
-    ensures { result ≡ spec.no_outs }
+    ensures { result ≡ planned.no_outs }
 {
     Outs {
         sends: Items::new(alloc),
         replies: Items::new(alloc),
         decided: Items::new(alloc),
+        runs: Items::new(alloc),
     }
 }
 
@@ -48,7 +61,7 @@ pub(crate) fn reply_with(
     ensures { IfOk result (λ outs. outs ≡ spec.reply_with to.now origin.now part reply) }
 {
     let reported = Told {
-        to: *to,
+        peer: *to,
         origin: *origin,
         part,
         reply,

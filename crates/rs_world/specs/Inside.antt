@@ -4,6 +4,6 @@ use Rattle.rs_course.specs.World.{World}
 use Rattle.rs_world.specs.Sites.{places_of}
 use Rattle.rs_world.specs.declared.world.World.TheInside.{Inside}
 
--- all sites are up, the datagrams up to a number are gone, and no stored section ran
+-- all sites are up, and the datagrams up to a number are gone
 abbrev pub world_of : Inside → World
-world_of a = record { sites = places_of a.sites; sent = a.sent; gone = range_with_len 1 a.delivered; replies = a.replies; history = a.history; runs = 0 }
+world_of a = record { sites = places_of a.sites; sent = a.sent; gone = range_with_len 1 a.delivered; replies = a.replies; history = a.history; runs = a.runs }

@@ -4,6 +4,7 @@ use Rattle.std.specs.List.{enumerate_from}
 use Rattle.rs_base.specs.Printing.{printed_swn}
 use Rattle.rs_print.specs.Replies.{printed_row, printed_txn, printed_origin, printed_reply}
 use Rattle.rs_site.specs.declared.outs.Decided.{Decided}
+use Rattle.rs_site.specs.declared.outs.RunOf.{RunOf}
 use Rattle.rs_course.specs.declared.report.Given.{Given}
 use Rattle.rs_course.specs.declared.report.SiteView.{SiteView}
 use Rattle.rs_course.specs.declared.report.Report.{Report}
@@ -36,8 +37,9 @@ printed_site view = codes "site " ++ decimal view.site ++ printed_state view.up 
 abbrev pub printed_history : List Decided → List ℕ
 printed_history history = codes "history " ++ decimal (length history) ++ codes "\n" ++ flat_map printed_entry (enumerate_from 1 history)
 
-abbrev pub printed_runs : ℕ → List ℕ
-printed_runs runs = codes "runs " ++ decimal runs ++ codes "\n"
+-- their number
+abbrev pub printed_runs : List RunOf → List ℕ
+printed_runs runs = codes "runs " ++ decimal (length runs) ++ codes "\n"
 
 abbrev pub printed_report : Report → List ℕ
 printed_report report = flat_map printed_given report.replies ++ printed_history report.history ++ printed_runs report.runs ++ flat_map printed_site report.sites

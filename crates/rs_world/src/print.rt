@@ -9,7 +9,7 @@ use rs_base::{Bytes, NoMemory};
 use rs_course::{Given, Report, SiteView, TableView};
 use rs_print::append;
 use rs_rows::RowRun;
-use rs_site::Decided;
+use rs_site::{Decided, RunOf};
 use std::alloc::Global;
 
 fn print_givens(givens: &[Given], out: &mut Bytes) -> Result<(), NoMemory>
@@ -125,11 +125,11 @@ fn print_sites(sites: &[SiteView], out: &mut Bytes) -> Result<(), NoMemory>
     Ok(())
 }
 
-fn print_runs(runs: u64, out: &mut Bytes) -> Result<(), NoMemory>
-    ensures { OnOk result (out.new ≡ out.old ++ spec.printed_runs runs) }
+fn print_runs(runs: &[RunOf], out: &mut Bytes) -> Result<(), NoMemory>
+    ensures { OnOk result (out.new ≡ out.old ++ spec.printed_runs runs.now) }
 {
     out.extend(b"runs ")?;
-    append::number(out, runs)?;
+    append::number(out, runs.len() as u64)?;
     out.extend(b"\n")
 }
 
@@ -138,7 +138,7 @@ fn print_parts(report: &Report, out: &mut Bytes) -> Result<(), NoMemory>
 {
     print_givens(report.replies.as_slice(), out)?;
     print_history(report.history.as_slice(), out)?;
-    print_runs(report.runs, out)?;
+    print_runs(report.runs.as_slice(), out)?;
     print_sites(report.sites.as_slice(), out)
 }
 

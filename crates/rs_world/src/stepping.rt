@@ -66,10 +66,13 @@ impl World {
             sends,
             replies,
             decided,
+            runs,
         } = outs;
         send_all(alloc, &mut self.sent, site, sends)?;
         give_all(alloc, &mut self.replies, replies)?;
-        self.history.append_new(alloc, decided)
+        self.history.append_new(alloc, decided)?;
+        self.runs.append(runs)?;
+        Ok(())
     }
 
     /// Gives the site of this number an input, if there is such a site.

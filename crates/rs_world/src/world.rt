@@ -10,6 +10,7 @@ use crate::sites::Sites;
 use rs_base::NoMemory;
 use rs_course::{Datagram, ReplyList, Report};
 use rs_sched::Event;
+use rs_site::Runs;
 use sqlite_items::Items;
 use std::alloc::Global;
 use std::marker::Model;
@@ -24,6 +25,7 @@ pub struct World {
     pub(crate) delivered: usize,
     pub(crate) replies: ReplyList,
     pub(crate) history: History,
+    pub(crate) runs: Runs,
 }
 
 impl Model for World {
@@ -46,6 +48,7 @@ impl World {
             delivered: 0,
             replies: ReplyList::new(alloc),
             history: History::new(alloc),
+            runs: Runs::new(alloc),
         }
     }
 
@@ -85,12 +88,13 @@ impl World {
             sites,
             replies,
             history,
+            runs,
             ..
         } = self;
         Ok(Report {
             replies,
             history: history.into_entries(),
-            runs: 0,
+            runs,
             sites: sites.into_views(alloc)?,
         })
     }
