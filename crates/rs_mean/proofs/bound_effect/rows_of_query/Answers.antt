@@ -1,4 +1,4 @@
-use Rattle.std.proofs.Common.{◌≡◌, List, [], IfOk, sym, subst, rules, arith}
+use Rattle.std.proofs.Common.{◌≡◌, List, IfOk, sym, subst, rules, arith}
 use Rattle.std.proofs.lemmas.Grind.{common_steps}
 use Rattle.rs_ast.specs.declared.bound.BoundCmp.{BoundCmp}
 use Rattle.rs_eval.proofs.Unfilled.{clauses_stay}
