@@ -16,11 +16,11 @@ use Rattle.rs_sched.specs.declared.event.Event.{Event}
 use Rattle.rs_sched.specs.declared.event.Event.TheVariants as events
 use Rattle.rs_sched.specs.Schedule.{IsValid, IsLater, AreLater}
 use Rattle.rs_site.specs.Asking.{last_number, on_first}
+use Rattle.rs_site.specs.Planned.{Planned}
 use Rattle.rs_site.specs.State.{SiteState, next_txn}
 use Rattle.rs_site.specs.Statement.{statement_of, offset_replied}
 use Rattle.rs_site.specs.declared.input.Input.{Input}
 use Rattle.rs_site.specs.declared.input.Input.TheVariants as inputs
-use Rattle.rs_site.specs.declared.outs.Outs.{Outs}
 use Rattle.rs_site.specs.declared.outs.Decided.{Decided}
 use Rattle.rs_site.proofs.Acceptance.{Acceptance, NotRead, Read, accepted}
 use Rattle.rs_site.proofs.Asked.{Asked, asked}
@@ -135,21 +135,21 @@ module _ (given : List Event) (valid : IsValid given) (are : IsTrue (are_accepte
   module _ (origin : Origin) (text : List ℕ) (is : IsPost origin text) where
     -- the result of the delivery by which the ask is received
     pub record Comes (before : List Action) (site : SiteState) : Type 0 where
-      pub came : SiteState × Outs
+      pub came : Planned
       pub cases : Asked site (peers.Client 0) origin text came
       pub go : GoOn site
-      pub room : site.begun < last_number
+      pub room : site.desk.begun < last_number
       pub reported_after : List Given
-      pub replies_are : (course given).replies ≡ ((world_after before).replies ++ map given_of came.1.replies) ++ reported_after
+      pub replies_are : (course given).replies ≡ ((world_after before).replies ++ map given_of came.outs.replies) ++ reported_after
       pub more : List Decided
-      pub history_is : (course given).history ≡ ((world_after before).history ++ came.1.decided) ++ more
+      pub history_is : (course given).history ≡ ((world_after before).history ++ came.outs.decided) ++ more
 
     comes_now : (done suffix : List Action) → can.others ≡ done ++ GiveNext ∷ suffix → slice_get (after done).sent (gone_count (after done)) ≡ Some (ask_datagram origin text)
         → (m : StateAt (Works given) (Open 1 ∷ done) (after done)) → Comes (Open 1 ∷ done) m.site
     comes_now done suffix separated waits m =
         let world = after done in
-        let came : SiteState × Outs = on_first m.site (peers.Client 0) origin text in
-        let next : world_after ((Open 1 ∷ done) ++ GiveNext ∷ []) ≡ onward world came.0 (map given_of came.1.replies) came.1.decided
+        let came : Planned = on_first m.site (peers.Client 0) origin text in
+        let next : world_after ((Open 1 ∷ done) ++ GiveNext ∷ []) ≡ onward world came.after (map given_of came.outs.replies) came.outs.decided
         = after_push done GiveNext ∙ turns_received (Open 1 ∷ done) world m.site m.stands.one m.stands.below origin text is waits in
         let on = grows ((Open 1 ∷ done) ++ GiveNext ∷ []) suffix in
         let whole : course given ≡ world_after (((Open 1 ∷ done) ++ GiveNext ∷ []) ++ suffix)
@@ -228,8 +228,8 @@ module _ (given : List Event) (valid : IsValid given) (are : IsTrue (are_accepte
         by_accepted c (NotRead none e) = absurd (let both : None ≡ Some stmt = sym none ∙ reads in cc)
         by_accepted c (Read s read e) =
             let prefix : List Decided = (world_after accepts.before).history in
-            let entry : Decided = record { txn = next_txn accepts.site; origin = origin; text = text } in
-            let whole : (course given).history ≡ (prefix ++ entry ∷ []) ++ c.more = c.history_is ∙ ap (λ (p : SiteState × Outs). (prefix ++ p.1.decided) ++ c.more) e in
+            let entry : Decided = record { txn = next_txn accepts.site.who accepts.site.desk; origin = origin; text = text } in
+            let whole : (course given).history ≡ (prefix ++ entry ∷ []) ++ c.more = c.history_is ∙ ap (λ (p : Planned). (prefix ++ p.outs.decided) ++ c.more) e in
             record {
               position = length prefix;
               entry = entry;
@@ -249,7 +249,7 @@ module _ (given : List Event) (valid : IsValid given) (are : IsTrue (are_accepte
         by_accepted c (NotRead not_read e) =
             let prefix : List Given = (world_after accepts.before).replies in
             let syntax : Given = replied_as (replies.Syntax (offset_replied text)) in
-            let whole : (course given).replies ≡ (prefix ++ syntax ∷ []) ++ c.reported_after = c.replies_are ∙ ap (λ (p : SiteState × Outs). (prefix ++ map given_of p.1.replies) ++ c.reported_after) e in
+            let whole : (course given).replies ≡ (prefix ++ syntax ∷ []) ++ c.reported_after = c.replies_are ∙ ap (λ (p : Planned). (prefix ++ map given_of p.outs.replies) ++ c.reported_after) e in
             subst (λ (gs : List Given). Contains gs syntax) (sym whole) (Contains-append_left (prefix ++ syntax ∷ []) c.reported_after syntax (Contains-push prefix syntax))
 
 asked_is_post : (given : List Event) → IsValid given → IsTrue (are_accepted false given) → (origin : Origin) (text : List ℕ) → Contains given (events.Ask origin text) → IsPost origin text

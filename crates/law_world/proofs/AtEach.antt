@@ -6,8 +6,8 @@ use Rattle.rs_base.specs.Reading.{◌>>=◌}
 use Rattle.rs_base.specs.declared.peer.Peer.TheVariants as peers
 use Rattle.rs_base.specs.declared.txn.Origin.{Origin}
 use Rattle.rs_sched.specs.declared.event.Event.{Event}
-use Rattle.rs_site.specs.declared.outs.Outs.{Outs}
 use Rattle.rs_site.specs.declared.outs.Decided.{Decided}
+use Rattle.rs_site.specs.Planned.{Planned}
 use Rattle.rs_site.specs.State.{SiteState, opened}
 use Rattle.rs_site.proofs.Asked.{Asked}
 use Rattle.rs_course.specs.declared.report.Given.{Given}
@@ -30,8 +30,8 @@ pub record ReceivesNext (given : List Event) (before : List Action) (site : Site
   pub stands : Stands before (world_after before) site
 
 -- the next delivery leaves the site as this, and has this output
-abbrev pub DeliversNext : List Action → SiteState × Outs → Type 0
-DeliversNext before came = world_after (before ++ GiveNext ∷ []) ≡ onward (world_after before) came.0 (map given_of came.1.replies) came.1.decided
+abbrev pub DeliversNext : List Action → Planned → Type 0
+DeliversNext before came = world_after (before ++ GiveNext ∷ []) ≡ onward (world_after before) came.after (map given_of came.outs.replies) came.outs.decided
 
 -- a fact of a prefix of the actions, and of the site, the replies and the history after it
 abbrev pub Fact : Type 1
@@ -47,9 +47,9 @@ pub record StateAt (P : Fact) (before : List Action) (world : World) : Type 0 wh
 pub record IsLaw (given : List Event) (P : Fact) : Type 0 where
   pub first : P (Open 1 ∷ []) (opened 1 1) [] []
   pub later : (before : List Action) (action : Action) (site : SiteState) (givens : List Given) (entries : List Decided) → P before site givens entries → P (before ++ action ∷ []) site givens entries
-  pub received : (before : List Action) (site : SiteState) (origin : Origin) (text : List ℕ) (came : SiteState × Outs) → ReceivesNext given before site origin text
+  pub received : (before : List Action) (site : SiteState) (origin : Origin) (text : List ℕ) (came : Planned) → ReceivesNext given before site origin text
       → DeliversNext before came → Asked site (peers.Client 0) origin text came → P before site (world_after before).replies (world_after before).history
-      → P before came.0 ((world_after before).replies ++ map given_of came.1.replies) ((world_after before).history ++ came.1.decided)
+      → P before came.after ((world_after before).replies ++ map given_of came.outs.replies) ((world_after before).history ++ came.outs.decided)
 
 module _ (given : List Event) (playable : Playable given) (P : Fact) (law : IsLaw given P) where
   abbrev At : List Action → Type 0
@@ -84,10 +84,10 @@ module _ (given : List Event) (playable : Playable given) (P : Fact) (law : IsLa
       let receiving : ReceivesNext given (Open 1 ∷ done) now.site origin text = record { receives = receives; post = is.post; posted = is.posted; stands = now.stands } in
       let delivers : DeliversNext (Open 1 ∷ done) came = sym (ap (λ (h : Action). after (done ++ h ∷ [])) is.deliver) ∙ is_next ∙ made in
       subst (StateAt P (Open 1 ∷ (done ++ action ∷ []))) (sym made) (record {
-        site = came.0;
-        stands = stands_received (Open 1 ∷ done) (after done) now.site now.stands action came.0 (map given_of came.1.replies) came.1.decided (same_site now.site (peers.Client 0) origin text came cases)
+        site = came.after;
+        stands = stands_received (Open 1 ∷ done) (after done) now.site now.stands action came.after (map given_of came.outs.replies) came.outs.decided (same_site now.site (peers.Client 0) origin text came cases)
             (below_received now.site (peers.Client 0) origin text (after done).history now.stands.below came cases);
-        holds = law.later (Open 1 ∷ done) action came.0 ((after done).replies ++ map given_of came.1.replies) ((after done).history ++ came.1.decided)
+        holds = law.later (Open 1 ∷ done) action came.after ((after done).replies ++ map given_of came.outs.replies) ((after done).history ++ came.outs.decided)
             (law.received (Open 1 ∷ done) now.site origin text came receiving delivers cases now.holds);
       })
 

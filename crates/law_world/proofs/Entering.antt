@@ -8,10 +8,10 @@ use Rattle.rs_base.specs.declared.reply.Reply.TheVariants as replies
 use Rattle.rs_mean.specs.declared.built.Stmt.{Stmt}
 use Rattle.rs_site.specs.Statement.{statement_of, offset_replied}
 use Rattle.rs_sched.specs.declared.event.Event.{Event}
-use Rattle.rs_site.specs.declared.outs.Outs.{Outs}
 use Rattle.rs_site.specs.declared.outs.Decided.{Decided}
-use Rattle.rs_site.specs.Asking.{executed, remembering}
+use Rattle.rs_site.specs.Asking.{executed, with_reply}
 use Rattle.rs_session.specs.Sessions.{session_of}
+use Rattle.rs_site.specs.Planned.{Planned}
 use Rattle.rs_site.specs.State.{SiteState}
 use Rattle.rs_site.proofs.Asked.{Asked, Refused, RepliedAgain, Silent, NoRequest, Spent, Executed, IsLast, IsNext}
 use Rattle.rs_course.specs.declared.report.Given.{Given}
@@ -31,10 +31,10 @@ module _ (given : List Event) (before : List Action) (state : SiteState) (origin
   abbrev history : List Decided
   history = (world_after before).history
 
-  abbrev After : SiteState × Outs → Type 0
-  After came = Entered given came.0 (givens ++ map given_of came.1.replies) (history ++ came.1.decided)
+  abbrev After : Planned → Type 0
+  After came = Entered given came.after (givens ++ map given_of came.outs.replies) (history ++ came.outs.decided)
 
-  home : origin.site ≡ state.me
+  home : origin.site ≡ state.who.me
   home = receiving.post.site ∙ sym receiving.stands.one.me
 
   without_entry : (next : SiteState) (more : List Given) → Entered given next (givens ++ more) history → Entered given next (givens ++ more) (history ++ [])
@@ -47,22 +47,22 @@ module _ (given : List Event) (before : List Action) (state : SiteState) (origin
       → Entered given next (givens ++ (record { origin = origin; reply = reply }) ∷ []) (history ++ [])
   on_replied next reply meant entered = without_entry next ((record { origin = origin; reply = reply }) ∷ []) (entered_said given next givens history (record { origin = origin; reply = reply }) meant entered)
 
-  on_repeat : (reply : Reply) → IsLast state origin → (session_of origin.user state.sessions).reply ≡ Some reply → Entered given state (givens ++ (record { origin = origin; reply = reply }) ∷ []) (history ++ [])
+  on_repeat : (reply : Reply) → IsLast state origin → (session_of origin.user state.desk.sessions).reply ≡ Some reply → Entered given state (givens ++ (record { origin = origin; reply = reply }) ∷ []) (history ++ [])
   on_repeat reply last kept =
       let asked : last_origin state origin.user ≡ origin = λ i. record { site = sym home i; user = origin.user; epoch = sym last.epoch i; number = sym last.number i } in
       on_replied state reply (λ committed.
       let there = holds.known origin.user reply kept committed in
       (there.0, subst (λ (o : Origin). IsMeaningAt 1 history there.0 (record { origin = o; reply = reply })) asked there.1)) holds
 
-  on_no_request : IsNext state origin → Entered given (remembering state origin (replies.Syntax (offset_replied text))) (givens ++ (record { origin = origin; reply = replies.Syntax (offset_replied text) }) ∷ []) (history ++ [])
-  on_no_request next = on_replied (remembering state origin (replies.Syntax (offset_replied text))) (replies.Syntax (offset_replied text)) (λ committed. absurd committed)
+  on_no_request : IsNext state origin → Entered given (with_reply origin (replies.Syntax (offset_replied text)) state) (givens ++ (record { origin = origin; reply = replies.Syntax (offset_replied text) }) ∷ []) (history ++ [])
+  on_no_request next = on_replied (with_reply origin (replies.Syntax (offset_replied text)) state) (replies.Syntax (offset_replied text)) (λ committed. absurd committed)
       (entered_remembered given state givens history origin (replies.Syntax (offset_replied text)) next.number home next.epoch (λ committed. committed) holds)
 
   on_executed : IsNext state origin → (stmt : Stmt) → statement_of text ≡ Some stmt → After (executed state (peers.Client 0) origin text stmt)
   on_executed next stmt reads = entered_executed given state givens history origin text stmt reads next.number home next.epoch receiving.stands.one.me receiving.stands.one.epoch
       (record { before = before; action = GiveNext; site = state; receives = receiving.receives; epoch = next.epoch; number = next.number }) holds
 
-  entered_received : (came : SiteState × Outs) → Asked state (peers.Client 0) origin text came → After came
+  entered_received : (came : Planned) → Asked state (peers.Client 0) origin text came → After came
   entered_received came (Refused reply refusal is e) = subst After (sym e) (on_replied state reply (λ committed. absurd (refusal_is_not_final reply refusal (committed_is_final reply committed))) holds)
   entered_received came (RepliedAgain reply last kept e) = subst After (sym e) (on_repeat reply last kept)
   entered_received came (Silent last kept e) = subst After (sym e) on_nothing

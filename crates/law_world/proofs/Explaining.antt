@@ -44,7 +44,7 @@ explains given valid are =
       repeated_replies_agree = repeated_replies_agree given valid are;
       runs_stand = ap (λ (w : World). w.runs) (course_is given) ∙ no_runs (actions given);
       stores_follow = λ before suffix number site what separated at applied.
-          ap (λ (db : Database). expected db site.me what) (subst (λ (n : ℕ). site.database ≡ database_of n (world_after before).history) one (history.databases_follow given can before suffix number site separated at));
+          ap (λ (db : Database). expected db site.who.me what) (subst (λ (n : ℕ). site.held.database ≡ database_of n (world_after before).history) one (history.databases_follow given can before suffix number site separated at));
       sites_shown = ap (λ (views : List SiteView). length views) (history.sites_are given can) ∙ one;
       views_agree = λ i site at applied. subst (λ (n : ℕ). IsShown n (course given) i site) one (history.views_agree given can i site at);
       tables_typed = tables_typed (sites_of given) (course given).history;
@@ -57,4 +57,4 @@ explains given valid are =
         → database_of n (take (i + 1) history) ≡ database_of n (take i history)
 
     IsShown : ℕ → World → ℕ → SiteState → Type 0
-    IsShown n world i site = slice_get (report_of world).sites i ≡ Some (record { site = i + 1; up = Some site.epoch; tables = tables_at (i + 1) (database_of n world.history) })
+    IsShown n world i site = slice_get (report_of world).sites i ≡ Some (record { site = i + 1; up = Some site.who.epoch; tables = tables_at (i + 1) (database_of n world.history) })

@@ -8,9 +8,9 @@ use Rattle.rs_base.specs.declared.peer.Peer.{Peer}
 use Rattle.rs_base.specs.declared.txn.Origin.{Origin}
 use Rattle.rs_base.specs.declared.txn.Txn.{Txn}
 use Rattle.rs_base.specs.Txn.{txn_cmp}
+use Rattle.rs_site.specs.Planned.{Planned}
 use Rattle.rs_site.specs.State.{SiteState, next_txn}
 use Rattle.rs_site.specs.declared.outs.Decided.{Decided}
-use Rattle.rs_site.specs.declared.outs.Outs.{Outs}
 use Rattle.rs_site.proofs.Asked.{Asked, Refused, RepliedAgain, Silent, NoRequest, Spent, Executed}
 use Rattle.rs_course.specs.History.{has_txn, entered, with_entries}
 use Rattle.law_world.proofs.Gets.{get_push}
@@ -38,7 +38,7 @@ grows_entries history (entry ∷ entries) =
 
 -- the transactions of the entries have numbers that the site has begun
 abbrev pub AreBelow : SiteState → List Decided → Type 0
-AreBelow site history = (i : ℕ) (entry : Decided) → slice_get history i ≡ Some entry → entry.txn.number ≤ site.begun
+AreBelow site history = (i : ℕ) (entry : Decided) → slice_get history i ≡ Some entry → entry.txn.number ≤ site.desk.begun
 
 differs : (a b : Txn) → a.number < b.number → is_at (txn_cmp a) b ≡ false
 differs a b lt = by (nat_cmp a.site b.site) (nat_cmp a.epoch b.epoch) (nat_cmp a.number b.number) (let less : nat_cmp a.number b.number ≡ Less = grind (arith, lt) in less)
@@ -58,14 +58,14 @@ no_txn txn (entry ∷ entries) below =
 -- ---- an ask is received
 
 module _ (site : SiteState) (from : Peer) (origin : Origin) (text : List ℕ) (history : List Decided) (below : AreBelow site history) where
-  abbrev Comes : SiteState × Outs → Type 0
-  Comes came = with_entries history came.1.decided ≡ history ++ came.1.decided
+  abbrev Comes : Planned → Type 0
+  Comes came = with_entries history came.outs.decided ≡ history ++ came.outs.decided
 
   abbrev entry : Decided
-  entry = record { txn = next_txn site; origin = origin; text = text }
+  entry = record { txn = next_txn site.who site.desk; origin = origin; text = text }
 
   -- the entry that comes is of a new transaction
-  pub fresh_received : (came : SiteState × Outs) → Asked site from origin text came → Comes came
+  pub fresh_received : (came : Planned) → Asked site from origin text came → Comes came
   fresh_received came (Refused reply refusal is e) = subst Comes (sym e) (sym (append-nil history))
   fresh_received came (RepliedAgain reply last kept e) = subst Comes (sym e) (sym (append-nil history))
   fresh_received came (Silent last kept e) = subst Comes (sym e) (sym (append-nil history))
@@ -74,20 +74,20 @@ module _ (site : SiteState) (from : Peer) (origin : Origin) (text : List ℕ) (h
   fresh_received came (Executed next stmt reads room e) = subst Comes (sym e)
       (ap (λ (b : Bool). cond b history (history ++ entry ∷ [])) (no_txn entry.txn history (λ i e at. let le = below i e at in omega (arith, le))))
 
-  abbrev Stays : SiteState × Outs → Type 0
-  Stays came = AreBelow came.0 (history ++ came.1.decided)
+  abbrev Stays : Planned → Type 0
+  Stays came = AreBelow came.after (history ++ came.outs.decided)
 
   same_below : AreBelow site (history ++ [])
   same_below = subst (AreBelow site) (sym (append-nil history)) below
 
-  next_below : (i : ℕ) (e : Decided) → slice_get (history ++ entry ∷ []) i ≡ Some e → e.txn.number ≤ site.begun + 1
+  next_below : (i : ℕ) (e : Decided) → slice_get (history ++ entry ∷ []) i ≡ Some e → e.txn.number ≤ site.desk.begun + 1
   next_below i e at =
       elim (get_push history entry e i at) [
         | inl p ↦ let le = below i e p.1 in omega (arith, le)
-        | inr p ↦ subst (λ (x : Decided). x.txn.number ≤ site.begun + 1) p.1 (let le : site.begun + 1 ≤ site.begun + 1 = omega arith in le)
+        | inr p ↦ subst (λ (x : Decided). x.txn.number ≤ site.desk.begun + 1) p.1 (let le : site.desk.begun + 1 ≤ site.desk.begun + 1 = omega arith in le)
       ]
 
-  pub below_received : (came : SiteState × Outs) → Asked site from origin text came → Stays came
+  pub below_received : (came : Planned) → Asked site from origin text came → Stays came
   below_received came (Refused reply refusal is e) = subst Stays (sym e) same_below
   below_received came (RepliedAgain reply last kept e) = subst Stays (sym e) same_below
   below_received came (Silent last kept e) = subst Stays (sym e) same_below

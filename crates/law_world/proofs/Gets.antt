@@ -1,5 +1,5 @@
 -- Lists that grow at their end, position by position.
-use Rattle.std.proofs.Common.{◌≡◌, ℕ, zero, suc, ◌+◌, ◌<◌, ◌≤◌, ◌⊎◌, inl, inr, List, [], ◌∷◌, ◌++◌, length, take, Some, None, refl, ap, ◌∙◌, arith}
+use Rattle.std.proofs.Common.{◌≡◌, ℕ, zero, suc, ◌+◌, ◌<◌, ◌⊎◌, inl, inr, List, [], ◌∷◌, ◌++◌, length, take, Some, refl, ap, ◌∙◌, arith}
 use Rattle.std.specs.Prelude.{slice_get}
 
 -- a position of a list with x at its end has an element of the list, or x
@@ -12,18 +12,6 @@ get_push (z ∷ zs) x y (suc i) e =
       | inl p ↦ inl (omega (arith, p.0), p.1)
       | inr q ↦ inr (omega (arith, q.0), q.1)
     ]
-
--- the position of an element is below the length
-pub get_below : {X : Type 0} (xs : List X) (y : X) (i : ℕ) → slice_get xs i ≡ Some y → i < length xs
-get_below [] y i e = absurd cc
-get_below (x ∷ xs) y zero e = omega arith
-get_below (x ∷ xs) y (suc i) e = omega (arith, get_below xs y i e)
-
--- a position without an element isn't below the length
-pub get_past : {X : Type 0} (xs : List X) (i : ℕ) → slice_get xs i ≡ None → length xs ≤ i
-get_past [] i e = omega arith
-get_past (x ∷ xs) zero e = absurd cc
-get_past (x ∷ xs) (suc i) e = omega (arith, get_past xs i e)
 
 -- each position below the length has an element
 pub get_at : {X : Type 0} (xs : List X) (i : ℕ) → i < length xs → (y : X) × (slice_get xs i ≡ Some y)

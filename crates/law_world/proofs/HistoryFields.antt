@@ -100,7 +100,7 @@ module _ (given : List Event) (can : Playable given) where
 
   -- in each state the database of a site that is up is that of the history so far
   pub databases_follow : (before suffix : List Action) (number : ℕ) (site : SiteState) → actions given ≡ before ++ suffix
-      → site_at (world_after before) number ≡ Some site → site.database ≡ database_of 1 (world_after before).history
+      → site_at (world_after before) number ≡ Some site → site.held.database ≡ database_of 1 (world_after before).history
   databases_follow [] suffix number site separated at = absurd cc
   databases_follow (first ∷ done) suffix number site separated at =
       let heads : Open 1 ∷ can.others ≡ first ∷ (done ++ suffix) = sym can.separated ∙ separated in
@@ -109,7 +109,7 @@ module _ (given : List Event) (can : Playable given) where
       let now = at_each given can (λ before state givens history. Entered given state givens history) (entered_law given) done suffix rest in
       let there : site_at (after done) number ≡ Some site = subst (λ (h : Action). site_at (world_after (h ∷ done)) number ≡ Some site) opens at in
       let is : site ≡ now.site = the_one (after done).sites now.site site (number - 1) now.stands.one.sites there in
-      subst (λ (h : Action). site.database ≡ database_of 1 (world_after (h ∷ done)).history) (sym opens) (ap (λ (s : SiteState). s.database) is ∙ now.holds.database)
+      subst (λ (h : Action). site.held.database ≡ database_of 1 (world_after (h ∷ done)).history) (sym opens) (ap (λ (s : SiteState). s.held.database) is ∙ now.holds.database)
 
   -- the one site shows the tables of the history
   pub sites_are : (report_of (course given)).sites ≡ (record { site = 1; up = Some 1; tables = tables_at 1 (database_of 1 (course given).history) }) ∷ []
@@ -122,18 +122,18 @@ module _ (given : List Event) (can : Playable given) where
 
   -- a site that is up shows its epoch and the tables of the history
   pub views_agree : (i : ℕ) (site : SiteState) → slice_get (course given).sites i ≡ Some (place_of site)
-      → slice_get (report_of (course given)).sites i ≡ Some (record { site = i + 1; up = Some site.epoch; tables = tables_at (i + 1) (database_of 1 (course given).history) })
+      → slice_get (report_of (course given)).sites i ≡ Some (record { site = i + 1; up = Some site.who.epoch; tables = tables_at (i + 1) (database_of 1 (course given).history) })
   views_agree i site at = by i (ap (λ (places : List Place). slice_get places i) (sym one_place) ∙ at)
     where
       by : (i : ℕ) → slice_get (place_of end.site ∷ []) i ≡ Some (place_of site)
-          → slice_get (report_of (course given)).sites i ≡ Some (record { site = i + 1; up = Some site.epoch; tables = tables_at (i + 1) (database_of 1 (course given).history) })
+          → slice_get (report_of (course given)).sites i ≡ Some (record { site = i + 1; up = Some site.who.epoch; tables = tables_at (i + 1) (database_of 1 (course given).history) })
       by (suc i) there = absurd cc
       by zero there =
           let same : place_of end.site ≡ place_of site = cc in
           let up : Some end.site ≡ Some site = ap (λ (place : Place). place.up) same in
           let is : end.site ≡ site = cc in
           ap (λ (views : List SiteView). slice_get views 0) sites_are
-          ∙ ap (λ (epoch : ℕ). Some (record { site = 1; up = Some epoch; tables = tables_at 1 (database_of 1 (course given).history) })) (sym end.stands.one.epoch ∙ ap (λ (s : SiteState). s.epoch) is)
+          ∙ ap (λ (epoch : ℕ). Some (record { site = 1; up = Some epoch; tables = tables_at 1 (database_of 1 (course given).history) })) (sym end.stands.one.epoch ∙ ap (λ (s : SiteState). s.who.epoch) is)
 
   pub tables_in_order : IsInOrder (database_of 1 (course given).history)
   tables_in_order = subst IsInOrder end.holds.database end.holds.in_order

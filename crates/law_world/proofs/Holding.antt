@@ -10,7 +10,7 @@ use Rattle.rs_base.specs.declared.reply.Reply.TheVariants as replies
 use Rattle.rs_sched.specs.declared.event.Event.{Event}
 use Rattle.rs_sched.specs.Schedule.{IsValid}
 use Rattle.rs_site.specs.declared.outs.Decided.{Decided}
-use Rattle.rs_site.specs.declared.outs.Outs.{Outs}
+use Rattle.rs_site.specs.Planned.{Planned}
 use Rattle.rs_site.specs.State.{SiteState, opened}
 use Rattle.rs_site.proofs.Asked.{Asked, Refused, RepliedAgain, Silent, NoRequest, Spent, Executed}
 use Rattle.rs_course.specs.declared.report.Given.{Given}
@@ -62,13 +62,13 @@ pub record IsEntryOf (origin : Origin) (text : List ℕ) (entry : Decided) : Typ
 abbrev AreOf : Origin → List ℕ → List Decided → Type 0
 AreOf origin text entries = (entries ≡ []) ⊎ ((entry : Decided) × (entries ≡ entry ∷ []) × IsEntryOf origin text entry)
 
-are_of : (site : SiteState) (origin : Origin) (text : List ℕ) (came : SiteState × Outs) → Asked site (peers.Client 0) origin text came → AreOf origin text came.1.decided
-are_of site origin text came (Refused reply is true e) = inl (ap (λ (p : SiteState × Outs). p.1.decided) e)
-are_of site origin text came (RepliedAgain reply last kept e) = inl (ap (λ (p : SiteState × Outs). p.1.decided) e)
-are_of site origin text came (Silent last kept e) = inl (ap (λ (p : SiteState × Outs). p.1.decided) e)
-are_of site origin text came (NoRequest next none e) = inl (ap (λ (p : SiteState × Outs). p.1.decided) e)
-are_of site origin text came (Spent next stmt reads spent e) = inl (ap (λ (p : SiteState × Outs). p.1.decided) e)
-are_of site origin text came (Executed next stmt reads room e) = inr (_, ap (λ (p : SiteState × Outs). p.1.decided) e, record { origin_is = refl; text_is = refl })
+are_of : (site : SiteState) (origin : Origin) (text : List ℕ) (came : Planned) → Asked site (peers.Client 0) origin text came → AreOf origin text came.outs.decided
+are_of site origin text came (Refused reply is true e) = inl (ap (λ (p : Planned). p.outs.decided) e)
+are_of site origin text came (RepliedAgain reply last kept e) = inl (ap (λ (p : Planned). p.outs.decided) e)
+are_of site origin text came (Silent last kept e) = inl (ap (λ (p : Planned). p.outs.decided) e)
+are_of site origin text came (NoRequest next none e) = inl (ap (λ (p : Planned). p.outs.decided) e)
+are_of site origin text came (Spent next stmt reads spent e) = inl (ap (λ (p : Planned). p.outs.decided) e)
+are_of site origin text came (Executed next stmt reads room e) = inr (_, ap (λ (p : Planned). p.outs.decided) e, record { origin_is = refl; text_is = refl })
 
 module _ (before : List Action) (history : List Decided) (posted : ArePosted before history) where
   posted_push : (entry : Decided) → Contains before (Post entry.origin entry.text) → ArePosted before (history ++ entry ∷ [])
@@ -95,7 +95,7 @@ is_law all = record {
   received = λ before site origin text came next delivers cases holds. record {
     kept = reported_keeps all before GiveNext site (peers.Client 0) origin text next.receives next.post.within.text (next.post.site ∙ sym next.stands.one.me) (world_after before).replies (world_after before).history refl
         holds.kept came cases (ap (λ (w : World). w.replies) delivers);
-    posted = posted_received before (world_after before).history holds.posted origin text next.posted came.1.decided (are_of site origin text came cases);
+    posted = posted_received before (world_after before).history holds.posted origin text next.posted came.outs.decided (are_of site origin text came cases);
   };
 }
 

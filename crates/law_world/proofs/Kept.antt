@@ -7,6 +7,7 @@ use Rattle.rs_base.specs.declared.reply.Reply.TheVariants as replies
 use Rattle.rs_sched.specs.declared.event.Event.{Event}
 use Rattle.rs_session.specs.declared.session.Session.{Session}
 use Rattle.rs_site.specs.declared.outs.Decided.{Decided}
+use Rattle.rs_site.specs.declared.who.Who.{Who}
 use Rattle.rs_session.specs.Sessions.{Book, session_of, with_session}
 use Rattle.rs_site.specs.State.{SiteState}
 use Rattle.rs_site.proofs.Asked.{IsNext}
@@ -17,7 +18,7 @@ use Rattle.law_world.proofs.Gets.{get_push}
 
 -- the user's last accepted request
 abbrev pub last_origin : SiteState → List ℕ → Origin
-last_origin site user = record { site = site.me; user = user; epoch = site.epoch; number = (session_of user site.sessions).last }
+last_origin site user = record { site = site.who.me; user = user; epoch = site.who.epoch; number = (session_of user site.desk.sessions).last }
 
 -- the history has an entry of this request
 pub record IsEntered (history : List Decided) (request : Origin) : Type 0 where
@@ -28,12 +29,12 @@ pub record IsEntered (history : List Decided) (request : Origin) : Type 0 where
 
 -- the reply is the one stored for its user's last request
 pub record IsKept (site : SiteState) (reported : Given) : Type 0 where
-  pub number : reported.origin.number ≡ (session_of reported.origin.user site.sessions).last
-  pub reply : (session_of reported.origin.user site.sessions).reply ≡ Some reported.reply
+  pub number : reported.origin.number ≡ (session_of reported.origin.user site.desk.sessions).last
+  pub reply : (session_of reported.origin.user site.desk.sessions).reply ≡ Some reported.reply
 
 -- it is that, or that of an earlier request
 abbrev pub IsSettled : SiteState → Given → Type 0
-IsSettled site reported = (reported.origin.number < (session_of reported.origin.user site.sessions).last) ⊎ IsKept site reported
+IsSettled site reported = (reported.origin.number < (session_of reported.origin.user site.desk.sessions).last) ⊎ IsKept site reported
 
 -- the stored replies
 abbrev pub IsKeepable : Reply → Type 0
@@ -49,12 +50,12 @@ IsKeepable (replies.Gap last) = ⊥
 pub record Kept (all : List Event) (site : SiteState) (reports : List Given) (history : List Decided) : Type 0 where
   pub truly : (k : ℕ) (reported : Given) → slice_get reports k ≡ Some reported → IsGivenTruly all k reported
   pub syntax_replied : (k position : ℕ) (reported : Given) → slice_get reports k ≡ Some reported → reported.reply ≡ replies.Syntax position → IsNoRequest all reported.origin position
-  pub syntax_kept : (user : List ℕ) (position : ℕ) → (session_of user site.sessions).reply ≡ Some (replies.Syntax position) → IsNoRequest all (last_origin site user) position
-  pub keepable : (user : List ℕ) (reply : Reply) → (session_of user site.sessions).reply ≡ Some reply → IsKeepable reply
+  pub syntax_kept : (user : List ℕ) (position : ℕ) → (session_of user site.desk.sessions).reply ≡ Some (replies.Syntax position) → IsNoRequest all (last_origin site user) position
+  pub keepable : (user : List ℕ) (reply : Reply) → (session_of user site.desk.sessions).reply ≡ Some reply → IsKeepable reply
   pub settled : (k : ℕ) (reported : Given) → slice_get reports k ≡ Some reported → IsFinal reported.reply → IsSettled site reported
   pub again : (k l : ℕ) (a b : Given) → slice_get reports k ≡ Some a → slice_get reports l ≡ Some b → a.origin ≡ b.origin → IsFinal a.reply → IsFinal b.reply → a.reply ≡ b.reply
   pub entered_replied : (k : ℕ) (reported : Given) → slice_get reports k ≡ Some reported → IsCommitted reported.reply → IsEntered history reported.origin
-  pub entered_kept : (user : List ℕ) (reply : Reply) → (session_of user site.sessions).reply ≡ Some reply → IsCommitted reply → IsEntered history (last_origin site user)
+  pub entered_kept : (user : List ℕ) (reply : Reply) → (session_of user site.desk.sessions).reply ≡ Some reply → IsCommitted reply → IsEntered history (last_origin site user)
 
 pub same_origin : (a b : Origin) → a.site ≡ b.site → a.user ≡ b.user → a.epoch ≡ b.epoch → a.number ≡ b.number → a ≡ b
 same_origin a b site user epoch number = λ i. record { site = site i; user = user i; epoch = epoch i; number = number i }
@@ -78,7 +79,7 @@ module _ (all : List Event) (site : SiteState) (reports : List Given) (history :
   meets k a at same final_a final_replied =
       let now = final final_replied in
       let number : a.origin.number ≡ reported.origin.number = ap (λ (o : Origin). o.number) same in
-      let session : session_of a.origin.user site.sessions ≡ session_of reported.origin.user site.sessions = ap (λ (o : Origin). session_of o.user site.sessions) same in
+      let session : session_of a.origin.user site.desk.sessions ≡ session_of reported.origin.user site.desk.sessions = ap (λ (o : Origin). session_of o.user site.desk.sessions) same in
       elim (holds.settled k a at final_a) [
         | inl low ↦ absurd (omega (arith, low, now.number, number, ap (λ (s : Session). s.last) session))
         | inr kept ↦ let both : Some a.reply ≡ Some reported.reply = sym kept.reply ∙ ap (λ (s : Session). s.reply) session ∙ now.reply in cc
@@ -140,17 +141,23 @@ module _ (all : List Event) (site : SiteState) (reports : List Given) (history :
 ---- a request is accepted, and its reply stored
 
 module _ (all : List Event) (site : SiteState) (reports : List Given) (history : List Decided) (holds : Kept all site reports history)
-    (origin : Origin) (home : origin.site ≡ site.me) (next : IsNext site origin) (reply : Reply) (after : SiteState) (me : after.me ≡ site.me) (epoch : after.epoch ≡ site.epoch)
-    (sessions : after.sessions ≡ with_session origin.user (record { last = origin.number; reply = Some reply }) site.sessions) (more : List Decided)
+    (origin : Origin) (home : origin.site ≡ site.who.me) (next : IsNext site origin) (reply : Reply) (after : SiteState) (who : after.who ≡ site.who)
+    (sessions : after.desk.sessions ≡ with_session origin.user (record { last = origin.number; reply = Some reply }) site.desk.sessions) (more : List Decided)
     (may_be : IsKeepable reply) (syntax_is : (position : ℕ) → reply ≡ replies.Syntax position → IsNoRequest all origin position) (entered : IsCommitted reply → IsEntered (history ++ more) origin) where
   abbrev accepted_session : Session
   accepted_session = record { last = origin.number; reply = Some reply }
 
-  of_user : (user : List ℕ) → user ≡ origin.user → session_of user after.sessions ≡ accepted_session
-  of_user user e = ap (λ (u : List ℕ). session_of u after.sessions) e ∙ ap (λ (book : Book). session_of origin.user book) sessions ∙ session_put origin.user accepted_session site.sessions
+  me : after.who.me ≡ site.who.me
+  me = ap (λ (w : Who). w.me) who
 
-  of_other : (user : List ℕ) → user ≢ origin.user → session_of user after.sessions ≡ session_of user site.sessions
-  of_other user differ = ap (λ (book : Book). session_of user book) sessions ∙ session_beside origin.user accepted_session site.sessions user differ
+  epoch : after.who.epoch ≡ site.who.epoch
+  epoch = ap (λ (w : Who). w.epoch) who
+
+  of_user : (user : List ℕ) → user ≡ origin.user → session_of user after.desk.sessions ≡ accepted_session
+  of_user user e = ap (λ (u : List ℕ). session_of u after.desk.sessions) e ∙ ap (λ (book : Book). session_of origin.user book) sessions ∙ session_put origin.user accepted_session site.desk.sessions
+
+  of_other : (user : List ℕ) → user ≢ origin.user → session_of user after.desk.sessions ≡ session_of user site.desk.sessions
+  of_other user differ = ap (λ (book : Book). session_of user book) sessions ∙ session_beside origin.user accepted_session site.desk.sessions user differ
 
   is_last : (user : List ℕ) → user ≡ origin.user → origin ≡ last_origin after user
   is_last user e = same_origin origin (last_origin after user) (home ∙ sym me) (sym e) (next.epoch ∙ sym epoch) (sym (ap (λ (s : Session). s.last) (of_user user e)))
@@ -158,7 +165,7 @@ module _ (all : List Event) (site : SiteState) (reports : List Given) (history :
   as_before : (user : List ℕ) → user ≢ origin.user → last_origin site user ≡ last_origin after user
   as_before user differ = same_origin (last_origin site user) (last_origin after user) (sym me) refl (sym epoch) (sym (ap (λ (s : Session). s.last) (of_other user differ)))
 
-  syntax_after : (user : List ℕ) (position : ℕ) → (session_of user after.sessions).reply ≡ Some (replies.Syntax position) → IsNoRequest all (last_origin after user) position
+  syntax_after : (user : List ℕ) (position : ℕ) → (session_of user after.desk.sessions).reply ≡ Some (replies.Syntax position) → IsNoRequest all (last_origin after user) position
   syntax_after user position kept =
       elim (user_is user origin.user) [
         | inl e ↦
@@ -168,7 +175,7 @@ module _ (all : List Event) (site : SiteState) (reports : List Given) (history :
         | inr differ ↦ subst (λ (o : Origin). IsNoRequest all o position) (as_before user differ) (holds.syntax_kept user position (sym (ap (λ (s : Session). s.reply) (of_other user differ)) ∙ kept))
       ]
 
-  keepable_after : (user : List ℕ) (kept : Reply) → (session_of user after.sessions).reply ≡ Some kept → IsKeepable kept
+  keepable_after : (user : List ℕ) (kept : Reply) → (session_of user after.desk.sessions).reply ≡ Some kept → IsKeepable kept
   keepable_after user kept at =
       elim (user_is user origin.user) [
         | inl e ↦
@@ -178,7 +185,7 @@ module _ (all : List Event) (site : SiteState) (reports : List Given) (history :
         | inr differ ↦ holds.keepable user kept (sym (ap (λ (s : Session). s.reply) (of_other user differ)) ∙ at)
       ]
 
-  entered_after : (user : List ℕ) (kept : Reply) → (session_of user after.sessions).reply ≡ Some kept → IsCommitted kept → IsEntered (history ++ more) (last_origin after user)
+  entered_after : (user : List ℕ) (kept : Reply) → (session_of user after.desk.sessions).reply ≡ Some kept → IsCommitted kept → IsEntered (history ++ more) (last_origin after user)
   entered_after user kept at committed =
       elim (user_is user origin.user) [
         | inl e ↦
@@ -196,8 +203,8 @@ module _ (all : List Event) (site : SiteState) (reports : List Given) (history :
       let old = holds.settled k reported at final in
       elim (user_is reported.origin.user origin.user) [
         | inl e ↦
-            let now : (session_of reported.origin.user after.sessions).last ≡ origin.number = ap (λ (s : Session). s.last) (of_user reported.origin.user e) in
-            let was : (session_of reported.origin.user site.sessions).last ≡ (session_of origin.user site.sessions).last = ap (λ (u : List ℕ). (session_of u site.sessions).last) e in
+            let now : (session_of reported.origin.user after.desk.sessions).last ≡ origin.number = ap (λ (s : Session). s.last) (of_user reported.origin.user e) in
+            let was : (session_of reported.origin.user site.desk.sessions).last ≡ (session_of origin.user site.desk.sessions).last = ap (λ (u : List ℕ). (session_of u site.desk.sessions).last) e in
             inl (elim old [
               | inl low ↦ omega (arith, low, now, was, next.number)
               | inr kept ↦ omega (arith, kept.number, now, was, next.number)

@@ -12,10 +12,10 @@ use Rattle.rs_base.specs.declared.txn.Origin.{Origin}
 use Rattle.rs_base.specs.declared.reply.Reply.{Reply}
 use Rattle.rs_sched.specs.declared.event.Event.{Event}
 use Rattle.rs_session.specs.declared.session.Session.{Session}
-use Rattle.rs_site.specs.declared.outs.Outs.{Outs}
 use Rattle.rs_site.specs.declared.outs.Decided.{Decided}
-use Rattle.rs_site.specs.Asking.{last_number, on_first, remembering}
+use Rattle.rs_site.specs.Asking.{last_number, on_first, remembering, with_reply}
 use Rattle.rs_session.specs.Sessions.{Book, session_of, is_there, last_is_answered}
+use Rattle.rs_site.specs.Planned.{Planned}
 use Rattle.rs_site.specs.State.{SiteState}
 use Rattle.rs_site.proofs.Asked.{Asked, Refused, RepliedAgain, Silent, NoRequest, Spent, Executed, asked}
 use Rattle.rs_session.proofs.PutSessions.{session_put, session_beside, user_is}
@@ -38,34 +38,34 @@ use Rattle.law_world.proofs.Walk.{after, after_push, walk}
 -- ---- the last request of each user is answered
 
 abbrev pub GoOn : SiteState → Type 0
-GoOn site = (user : List ℕ) → last_is_answered (session_of user site.sessions) ≡ true
+GoOn site = (user : List ℕ) → last_is_answered (session_of user site.desk.sessions) ≡ true
 
 or_true : (b : Bool) → (b || true) ≡ true
 or_true true = refl
 or_true false = refl
 
-go_on_remembering : (site : SiteState) (origin : Origin) (reply : Reply) → GoOn site → GoOn (remembering site origin reply)
+go_on_remembering : (site : SiteState) (origin : Origin) (reply : Reply) → GoOn site → GoOn (with_reply origin reply site)
 go_on_remembering site origin reply go user =
     elim (user_is user origin.user) [
       | inl e ↦
-          let is : session_of user book ≡ session = ap (λ (u : List ℕ). session_of u book) e ∙ session_put origin.user session site.sessions in
+          let is : session_of user book ≡ session = ap (λ (u : List ℕ). session_of u book) e ∙ session_put origin.user session site.desk.sessions in
           ap last_is_answered is ∙ or_true (origin.number == 0)
-      | inr differ ↦ ap last_is_answered (session_beside origin.user session site.sessions user differ) ∙ go user
+      | inr differ ↦ ap last_is_answered (session_beside origin.user session site.desk.sessions user differ) ∙ go user
     ]
   where
     session : Session
     session = record { last = origin.number; reply = Some reply }
 
     book : Book
-    book = (remembering site origin reply).sessions
+    book = (remembering site.desk origin reply).sessions
 
-go_on_received : (site : SiteState) (origin : Origin) (text : List ℕ) (came : SiteState × Outs) → Asked site (peers.Client 0) origin text came → GoOn site → GoOn came.0
-go_on_received site origin text came (Refused reply refusal is e) go = subst (λ (p : SiteState × Outs). GoOn p.0) (sym e) go
-go_on_received site origin text came (RepliedAgain reply last kept e) go = subst (λ (p : SiteState × Outs). GoOn p.0) (sym e) go
-go_on_received site origin text came (Silent last kept e) go = subst (λ (p : SiteState × Outs). GoOn p.0) (sym e) go
-go_on_received site origin text came (NoRequest next none e) go = subst (λ (p : SiteState × Outs). GoOn p.0) (sym e) (go_on_remembering site origin _ go)
-go_on_received site origin text came (Spent next stmt reads spent e) go = subst (λ (p : SiteState × Outs). GoOn p.0) (sym e) go
-go_on_received site origin text came (Executed next stmt reads room e) go = subst (λ (p : SiteState × Outs). GoOn p.0) (sym e) (go_on_remembering site origin _ go)
+go_on_received : (site : SiteState) (origin : Origin) (text : List ℕ) (came : Planned) → Asked site (peers.Client 0) origin text came → GoOn site → GoOn came.after
+go_on_received site origin text came (Refused reply refusal is e) go = subst (λ (p : Planned). GoOn p.after) (sym e) go
+go_on_received site origin text came (RepliedAgain reply last kept e) go = subst (λ (p : Planned). GoOn p.after) (sym e) go
+go_on_received site origin text came (Silent last kept e) go = subst (λ (p : Planned). GoOn p.after) (sym e) go
+go_on_received site origin text came (NoRequest next none e) go = subst (λ (p : Planned). GoOn p.after) (sym e) (go_on_remembering site origin _ go)
+go_on_received site origin text came (Spent next stmt reads spent e) go = subst (λ (p : Planned). GoOn p.after) (sym e) go
+go_on_received site origin text came (Executed next stmt reads room e) go = subst (λ (p : Planned). GoOn p.after) (sym e) (go_on_remembering site origin _ go)
 
 abbrev pub Works : List Event → List Action → SiteState → List Given → List Decided → Type 0
 Works given before site givens history = GoOn site × Entered given site givens history
@@ -93,14 +93,14 @@ none_kept session kept go =
 not_numbered : (origin : Origin) → origin.number ≡ 0 → numbered origin ≡ []
 not_numbered origin none = ap (λ (n : ℕ). cond (n == 0) [] (origin ∷ [])) none
 
-module _ (site : SiteState) (origin : Origin) (text : List ℕ) (go : GoOn site) (room : site.begun < last_number) where
-  abbrev IsReplied : SiteState × Outs → Type 0
-  IsReplied came = (requests_answered (map given_of came.1.replies) ≡ numbered origin) × (length came.1.decided ≤ 1)
+module _ (site : SiteState) (origin : Origin) (text : List ℕ) (go : GoOn site) (room : site.desk.begun < last_number) where
+  abbrev IsReplied : Planned → Type 0
+  IsReplied came = (requests_answered (map given_of came.outs.replies) ≡ numbered origin) × (length came.outs.decided ≤ 1)
 
-  pub reported_once : (came : SiteState × Outs) → Asked site (peers.Client 0) origin text came → IsReplied came
+  pub reported_once : (came : Planned) → Asked site (peers.Client 0) origin text came → IsReplied came
   reported_once came (Refused reply refusal is e) = subst IsReplied (sym e) (append-nil (numbered origin), omega arith)
   reported_once came (RepliedAgain reply last kept e) = subst IsReplied (sym e) (append-nil (numbered origin), omega arith)
-  reported_once came (Silent last kept e) = subst IsReplied (sym e) (sym (not_numbered origin (last.number ∙ none_kept (session_of origin.user site.sessions) kept (go origin.user))), omega arith)
+  reported_once came (Silent last kept e) = subst IsReplied (sym e) (sym (not_numbered origin (last.number ∙ none_kept (session_of origin.user site.desk.sessions) kept (go origin.user))), omega arith)
   reported_once came (NoRequest next none e) = subst IsReplied (sym e) (append-nil (numbered origin), omega arith)
   reported_once came (Spent next stmt reads spent e) = absurd (omega (arith, spent, room))
   reported_once came (Executed next stmt reads is e) = subst IsReplied (sym e) (append-nil (numbered origin), omega arith)
@@ -172,22 +172,22 @@ module _ (done : List Action) (world : World) (now : Progress done world) where
           ]
 
   -- an ask that waited is received
-  on_received : (site : SiteState) (post : Posting) → slice_get (posts_of done) (gone_count world) ≡ Some post → (came : SiteState × Outs)
-      → requests_answered (map given_of came.1.replies) ≡ numbered post.0 → length came.1.decided ≤ 1 → (w : ℕ) → waiting done ≡ suc w
-      → Progress (done ++ GiveNext ∷ []) (onward world came.0 (map given_of came.1.replies) came.1.decided)
+  on_received : (site : SiteState) (post : Posting) → slice_get (posts_of done) (gone_count world) ≡ Some post → (came : Planned)
+      → requests_answered (map given_of came.outs.replies) ≡ numbered post.0 → length came.outs.decided ≤ 1 → (w : ℕ) → waiting done ≡ suc w
+      → Progress (done ++ GiveNext ∷ []) (onward world came.after (map given_of came.outs.replies) came.outs.decided)
   on_received site post at came reported few w some = record {
     sent = now.sent ∙ ap (λ (ps : List Posting). map datagram_of ps) (sym posts_same);
     posts = λ i other there. now.posts i other (ap (λ (ps : List Posting). slice_get ps i) (sym posts_same) ∙ there);
     waits_for = omega (arith, now.waits_for, some, waiting_push done GiveNext, one_more);
     answered =
-        flat_map-append (λ (given : Given). numbered given.origin) world.replies (map given_of came.1.replies)
-        ∙ ap (λ (os : List Origin). os ++ requests_answered (map given_of came.1.replies)) now.answered
+        flat_map-append (λ (given : Given). numbered given.origin) world.replies (map given_of came.outs.replies)
+        ∙ ap (λ (os : List Origin). os ++ requests_answered (map given_of came.outs.replies)) now.answered
         ∙ ap (λ (os : List Origin). numbered_of (take (gone_count world) (posts_of done)) ++ os) (reported ∙ sym (append-nil (numbered post.0)))
         ∙ sym (flat_map-append (λ (p : Posting). numbered p.0) (take (gone_count world) (posts_of done)) (post ∷ []))
         ∙ ap numbered_of (sym (take-get (posts_of done) (gone_count world) post at))
         ∙ ap (λ (ps : List Posting). numbered_of (take (gone_count world + 1) ps)) (sym posts_same)
         ∙ ap (λ (n : ℕ). numbered_of (take n (posts_of (done ++ GiveNext ∷ [])))) (sym one_more);
-    entries = omega (arith, length-append world.history came.1.decided, now.entries, few, one_more);
+    entries = omega (arith, length-append world.history came.outs.decided, now.entries, few, one_more);
   }
     where
       one_more : length (range_with_len 1 (gone_count world + 1)) ≡ gone_count world + 1
@@ -207,7 +207,7 @@ module _ (given : List Event) (can : Playable given) (few : length (posts_of can
       let parts : posts_of can.others ≡ posts_of done ++ posts_of suffix = ap posts_of separated ∙ flat_map-append posts_in done suffix in
       omega (arith, few, ap (λ (ps : List Posting). length ps) parts, length-append (posts_of done) (posts_of suffix))
 
-  pub room_now : (done suffix : List Action) → can.others ≡ done ++ suffix → Progress done (after done) → (site : SiteState) → site.begun ≡ length (after done).history → site.begun < last_number
+  pub room_now : (done suffix : List Action) → can.others ≡ done ++ suffix → Progress done (after done) → (site : SiteState) → site.desk.begun ≡ length (after done).history → site.desk.begun < last_number
   room_now done suffix separated now site begun = omega (arith, begun, now.entries, now.waits_for, as_many done (after done) now, few_now done suffix separated)
 
   by_waiting : (done suffix : List Action) → can.others ≡ done ++ GiveNext ∷ suffix → Progress done (after done) → (n : ℕ) → waiting done ≡ n → Progress (done ++ GiveNext ∷ []) (act (after done) GiveNext)
@@ -222,7 +222,7 @@ module _ (given : List Event) (can : Playable given) (few : length (posts_of can
       let is = now.posts (gone_count world) post found.1 in
       let m = state_at done (GiveNext ∷ suffix) separated in
       let there : slice_get world.sent (gone_count world) ≡ Some (datagram_of post) = ap (λ (ds : List Datagram). slice_get ds (gone_count world)) now.sent ∙ get_map datagram_of (posts_of done) (gone_count world) post found.1 in
-      let came : SiteState × Outs = on_first m.site (peers.Client 0) post.0 post.1 in
+      let came : Planned = on_first m.site (peers.Client 0) post.0 post.1 in
       let reported = reported_once m.site post.0 post.1 m.holds.0 (room_now done (GiveNext ∷ suffix) separated now m.site m.holds.1.begun) came (asked m.site (peers.Client 0) post.0 post.1) in
       subst (Progress (done ++ GiveNext ∷ [])) (sym (turns_received (Open 1 ∷ done) world m.site m.stands.one m.stands.below post.0 post.1 is there)) (on_received done world now m.site post found.1 came reported.0 reported.1 w some)
 

@@ -1,5 +1,5 @@
 -- What an action does to a world of one site that was only asked.
-use Rattle.std.proofs.Common.{◌≡◌, ℕ, ◌+◌, ◌≤◌, Bool, true, false, cond, List, [], ◌∷◌, ◌++◌, length, Option, Some, None, refl, sym, ap, ◌∙◌, arith, nat_lt}
+use Rattle.std.proofs.Common.{◌≡◌, ℕ, ◌+◌, ◌≤◌, false, List, [], ◌∷◌, ◌++◌, length, Option, Some, None, refl, sym, ap, ◌∙◌, arith, nat_lt}
 use Rattle.std.specs.List.{slice_get, range_with_len, Contains}
 use Rattle.std.proofs.lemmas.Bool.Decides.{nat_tests}
 use Rattle.std.proofs.lemmas.List.{append-nil}
@@ -12,16 +12,16 @@ use Rattle.rs_msg.specs.Reader.{message_of}
 use Rattle.rs_msg.specs.Written.{message_bytes}
 use Rattle.rs_site.specs.declared.input.Input.{Input}
 use Rattle.rs_site.specs.declared.input.Input.TheVariants as inputs
-use Rattle.rs_site.specs.declared.outs.Outs.{Outs}
-use Rattle.rs_site.specs.Asking.{no_output, on_first}
+use Rattle.rs_site.specs.Asking.{on_first}
+use Rattle.rs_site.specs.Planned.{Planned, idle}
 use Rattle.rs_site.specs.State.{SiteState}
-use Rattle.rs_site.specs.Step.{most_bytes, on_read, site_step}
+use Rattle.rs_site.specs.Step.{most_bytes, on_read, planned_step}
+use Rattle.rs_site.proofs.Planning.{when_true, when_false, by_when}
 use Rattle.rs_course.specs.declared.datagram.Datagram.{Datagram}
 use Rattle.rs_course.specs.Course.{Action, Open, Post, Give, GiveNext, Lose, Tick, Stop, Arm, Restart, Noise, after_outs, stepped, stepped_by, ask_datagram, noise_of, act}
 use Rattle.rs_course.specs.World.{World, Place}
-use Rattle.rs_course.proofs.Pending.{AreGoneTo, none_next, one_next}
+use Rattle.rs_course.proofs.Pending.{AreGoneTo, get_below, get_past, none_next, one_next}
 use Rattle.rs_msg.proofs.Sizes.{ask_fits}
-use Rattle.law_world.proofs.Gets.{get_below, get_past}
 use Rattle.law_world.proofs.Messages.{ask_is_read}
 use Rattle.law_world.proofs.Played.{ask_of, IsPost, IsPlayed}
 
@@ -34,23 +34,19 @@ short : (bytes : List ℕ) → length bytes ≤ 32768 → nat_lt most_bytes (len
 short bytes le = grind (arith, nat_tests, le)
 
 -- a site receives what was asked of it
-pub step_of_ask : (site : SiteState) (origin : Origin) (text : List ℕ) → site.me ≡ 1 → IsPost origin text
-    → site_step site (inputs.Datagram (peers.Client 0) (asked_by origin text)) ≡ on_first site (peers.Client 0) origin text
-unfolding site_step
+pub step_of_ask : (site : SiteState) (origin : Origin) (text : List ℕ) → site.who.me ≡ 1 → IsPost origin text
+    → planned_step site (inputs.Datagram (peers.Client 0) (asked_by origin text)) ≡ on_first site (peers.Client 0) origin text
+unfolding planned_step
 step_of_ask site origin text me is =
-    ap (λ (b : Bool). cond b (no_output site) (on_read site (peers.Client 0) (message_of (asked_by origin text)))) (short (asked_by origin text) (ask_fits (ask_of origin text) is.within))
+    when_false _ _ _ (short (asked_by origin text) (ask_fits (ask_of origin text) is.within))
     ∙ ap (λ (m : Option Message). on_read site (peers.Client 0) m) (ask_is_read (ask_of origin text) is.within)
+    ∙ when_true _ _ _ refl
     ∙ ap (λ (s : ℕ). on_first site (peers.Client 0) (record { site = s; user = origin.user; epoch = origin.epoch; number = origin.number }) text) (me ∙ sym is.site)
 
 -- a site receives what is no message
-pub step_of_noise : (site : SiteState) (bytes : List ℕ) → message_of bytes ≡ None → site_step site (inputs.Datagram (peers.Client 0) bytes) ≡ no_output site
-unfolding site_step
-step_of_noise site bytes none =
-    ap (λ (m : Option Message). cond (nat_lt most_bytes (length bytes)) (no_output site) (on_read site (peers.Client 0) m)) none ∙ both (nat_lt most_bytes (length bytes))
-  where
-    both : (b : Bool) → cond b (no_output site) (no_output site) ≡ no_output site
-    both true = refl
-    both false = refl
+pub step_of_noise : (site : SiteState) (bytes : List ℕ) → message_of bytes ≡ None → planned_step site (inputs.Datagram (peers.Client 0) bytes) ≡ idle site
+unfolding planned_step
+step_of_noise site bytes none = by_when (λ (p : Planned). p ≡ idle site) _ _ _ (λ _. refl) (λ _. ap (λ (m : Option Message). on_read site (peers.Client 0) m) none)
 
 -- ---- the world
 
@@ -65,29 +61,29 @@ gone_count world = length world.gone
 -- the world has this one site, and the datagrams that are gone are the first ones
 pub record IsOf (world : World) (site : SiteState) : Type 0 where
   pub sites : world.sites ≡ place_of site ∷ []
-  pub me : site.me ≡ 1
-  pub many : site.sites ≡ 1
-  pub epoch : site.epoch ≡ 1
+  pub me : site.who.me ≡ 1
+  pub many : site.who.sites ≡ 1
+  pub epoch : site.who.epoch ≡ 1
   pub gone : AreGoneTo world (gone_count world)
 
 -- the world after its one site handled an input, with this output
-abbrev pub became : World → SiteState × Outs → World
-became world came = after_outs (record world { sites = place_of came.0 ∷ [] }) 1 came.1
+abbrev pub became : World → Planned → World
+became world came = after_outs (record world { sites = place_of came.after ∷ [] }) 1 came.outs
 
 -- an ask that waits is received
-abbrev pub receiving : World → SiteState × Outs → World
+abbrev pub receiving : World → Planned → World
 receiving world came = became (record world { gone = range_with_len 1 (gone_count world + 1) }) came
 
 -- the one site handles an input
-accepted_alone : (world : World) (site : SiteState) (input : Input) (to : ℕ) (came : SiteState × Outs) → world.sites ≡ place_of site ∷ [] → to ≡ 1 → site_step site input ≡ came → stepped_by world (Some (to, input)) ≡ became world came
+accepted_alone : (world : World) (site : SiteState) (input : Input) (to : ℕ) (came : Planned) → world.sites ≡ place_of site ∷ [] → to ≡ 1 → planned_step site input ≡ came → stepped_by world (Some (to, input)) ≡ became world came
 accepted_alone world site input to came sites one step =
     ap (λ (n : ℕ). stepped_by world (Some (n, input))) one
     ∙ ap (λ (all : List Place). stepped (record world { sites = all }) 1 input (slice_get all 0 >>= λ place. place.up)) sites
-    ∙ ap (λ (p : SiteState × Outs). became world p) step
+    ∙ ap (λ (p : Planned). became world p) step
 
 -- a dropped input has no output
-became_no_output : (world : World) (site : SiteState) → world.sites ≡ place_of site ∷ [] → became world (no_output site) ≡ world
-became_no_output world site sites =
+became_idle : (world : World) (site : SiteState) → world.sites ≡ place_of site ∷ [] → became world (idle site) ≡ world
+became_idle world site sites =
     ap (λ (all : List Place). record world { sites = all; sent = world.sent ++ []; replies = world.replies ++ [] }) (sym sites)
     ∙ ap (λ (xs : List _). record world { sent = xs; replies = world.replies ++ [] }) (append-nil world.sent)
     ∙ ap (λ (xs : List _). record world { replies = xs }) (append-nil world.replies)
@@ -112,7 +108,7 @@ module _ (before : List Action) (world : World) (site : SiteState) (one : IsOf w
   pub receives_next : (origin : Origin) (text : List ℕ) → IsPost origin text → slice_get world.sent (gone_count world) ≡ Some (ask_datagram origin text)
       → act world GiveNext ≡ receiving world (on_first site (peers.Client 0) origin text)
   receives_next origin text post there =
-      one_next world (gone_count world) one.gone (get_below world.sent (ask_datagram origin text) (gone_count world) there) (ask_datagram origin text) there
+      one_next world (gone_count world) one.gone (get_below world.sent (gone_count world) (ask_datagram origin text) there) (ask_datagram origin text) there
       ∙ accepted_alone (record world { gone = range_with_len 1 (gone_count world + 1) }) site (inputs.Datagram (peers.Client 0) (asked_by origin text)) origin.site (on_first site (peers.Client 0) origin text)
       one.sites post.site (step_of_ask site origin text one.me post)
 
@@ -126,7 +122,7 @@ module _ (before : List Action) (world : World) (site : SiteState) (one : IsOf w
 
   by_noise : (number : ℕ) (bytes : List ℕ) → number ≡ 1 → (read : Option Message) → message_of bytes ≡ read → stepped_by world (noise_of number bytes read) ≡ world
   by_noise number bytes first None e =
-      accepted_alone world site (inputs.Datagram (peers.Client 0) bytes) number (no_output site) one.sites first (step_of_noise site bytes e) ∙ became_no_output world site one.sites
+      accepted_alone world site (inputs.Datagram (peers.Client 0) bytes) number (idle site) one.sites first (step_of_noise site bytes e) ∙ became_idle world site one.sites
   by_noise number bytes first (Some message) e = refl
 
   -- noise does nothing

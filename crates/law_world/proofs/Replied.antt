@@ -7,9 +7,9 @@ use Rattle.rs_base.specs.declared.txn.Origin.{Origin}
 use Rattle.rs_mean.specs.declared.built.Stmt.{Stmt}
 use Rattle.rs_mean.specs.Meaning.{Outcome, meaning}
 use Rattle.rs_sched.specs.declared.event.Event.{Event}
-use Rattle.rs_site.specs.declared.outs.Outs.{Outs}
 use Rattle.rs_site.specs.declared.outs.Decided.{Decided}
 use Rattle.rs_site.specs.Asking.{execution_of, reply_of, executed}
+use Rattle.rs_site.specs.Planned.{Planned}
 use Rattle.rs_site.specs.State.{SiteState, next_txn}
 use Rattle.rs_site.proofs.Asked.{Asked, Refused, RepliedAgain, Silent, NoRequest, Spent, Executed}
 use Rattle.rs_course.specs.declared.report.Given.{Given}
@@ -39,8 +39,8 @@ is_committed (Ok answered) = tt
 is_committed (Err cause) = tt
 
 module _ (site : SiteState) (origin : Origin) (text : List ℕ) (givens : List Given) (history : List Decided) (holds : AreReported givens history) where
-  abbrev After : SiteState × Outs → Type 0
-  After came = AreReported (givens ++ map given_of came.1.replies) (history ++ came.1.decided)
+  abbrev After : Planned → Type 0
+  After came = AreReported (givens ++ map given_of came.outs.replies) (history ++ came.outs.decided)
 
   no_entry : (more : List Given) → AreReported (givens ++ more) (history ++ [])
   no_entry more i entry at = reported_more givens more entry (holds i entry (subst (λ (h : List Decided). slice_get h i ≡ Some entry) (append-nil history) at))
@@ -53,10 +53,10 @@ module _ (site : SiteState) (origin : Origin) (text : List ℕ) (givens : List G
       ]
     where
       outcome : Outcome
-      outcome = (meaning site.database (execution_of (next_txn site) origin stmt)).1
+      outcome = (meaning site.held.database (execution_of (next_txn site.who site.desk) origin stmt)).1
 
       new : Decided
-      new = record { txn = next_txn site; origin = origin; text = text }
+      new = record { txn = next_txn site.who site.desk; origin = origin; text = text }
 
       reported : Given
       reported = record { origin = origin; reply = reply_of outcome }
@@ -64,7 +64,7 @@ module _ (site : SiteState) (origin : Origin) (text : List ℕ) (givens : List G
       new_replied : IsReplied (givens ++ reported ∷ []) new
       new_replied = record { position = length givens; given = reported; there = get_last givens reported; origin = refl; committed = is_committed outcome }
 
-  reported_received : (came : SiteState × Outs) → Asked site (peers.Client 0) origin text came → After came
+  reported_received : (came : Planned) → Asked site (peers.Client 0) origin text came → After came
   reported_received came (Refused reply refusal is e) = subst After (sym e) (no_entry ((record { origin = origin; reply = reply }) ∷ []))
   reported_received came (RepliedAgain reply last kept e) = subst After (sym e) (no_entry ((record { origin = origin; reply = reply }) ∷ []))
   reported_received came (Silent last kept e) = subst After (sym e) (no_entry [])

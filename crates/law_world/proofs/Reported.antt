@@ -14,7 +14,8 @@ use Rattle.law_world.specs.Explains.{IsCommitted}
 use Rattle.rs_course.specs.Moments.{actions, world_after}
 use Rattle.law_world.proofs.Holding.{ArePosted, holds_at}
 use Rattle.law_world.proofs.Kept.{IsEntered, get_prefix}
-use Rattle.law_world.proofs.Gets.{get_below, get_at}
+use Rattle.rs_course.proofs.Pending.{get_below}
+use Rattle.law_world.proofs.Gets.{get_at}
 
 -- no two entries have one request
 abbrev pub AreDistinct : List Decided → Type 0
@@ -40,7 +41,7 @@ module _ (before : List Action) (prefix more : List Decided) (posted : ArePosted
       → slice_get (prefix ++ more) j ≡ Some b → ((text : List ℕ) → Contains before (Post b.origin text) → ⊥) → i < j
   earlier i j origin a b entered at_a is at_b unasked =
       let same : i ≡ entered.position = one_place (prefix ++ more) distinct i entered.position a entered.entry at_a (get_prefix prefix more entered.entry entered.position entered.there) (is ∙ sym entered.origin) in
-      let low : entered.position < length prefix = get_below prefix entered.entry entered.position entered.there in
+      let low : entered.position < length prefix = get_below prefix entered.position entered.entry entered.there in
       elim (cases_lt j (length prefix)) [
         | inl lt ↦ absurd (unasked b.text (posted j b (at_start prefix more b j at_b lt)))
         | inr le ↦ omega (arith, same, low, le)

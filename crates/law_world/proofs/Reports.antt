@@ -12,10 +12,10 @@ use Rattle.rs_site.proofs.Said.{reported_nothing}
 use Rattle.rs_mean.specs.Meaning.{Outcome, meaning}
 use Rattle.rs_sched.specs.declared.event.Event.{Event}
 use Rattle.rs_site.specs.declared.outs.Decided.{Decided}
-use Rattle.rs_site.specs.declared.outs.Outs.{Outs}
 use Rattle.rs_session.specs.Sessions.{session_of}
+use Rattle.rs_site.specs.Planned.{Planned}
 use Rattle.rs_site.specs.State.{SiteState, next_txn}
-use Rattle.rs_site.specs.Asking.{reply_of, execution_of, executed, remembering}
+use Rattle.rs_site.specs.Asking.{reply_of, execution_of, executed, remembering, with_reply}
 use Rattle.rs_site.specs.Truth.{IsTrueReply}
 use Rattle.rs_site.proofs.Asked.{Asked, Refused, RepliedAgain, Silent, NoRequest, Spent, Executed, IsRefusal, IsLast, IsNext}
 use Rattle.rs_course.specs.declared.report.Given.{Given}
@@ -75,7 +75,7 @@ get_last (y ∷ ys) x = get_last ys x
 ---- an ask is received
 
 module _ (all : List Event) (before : List Action) (action : Action) (site : SiteState) (from : Peer) (origin : Origin) (text : List ℕ) (receives : Receives all before action site origin text)
-    (short : length text ≤ 8192) (home : origin.site ≡ site.me) (reports : List Given) (history : List Decided) (number : length (world_after before).replies ≡ length reports)
+    (short : length text ≤ 8192) (home : origin.site ≡ site.who.me) (reports : List Given) (history : List Decided) (number : length (world_after before).replies ≡ length reports)
     (holds : Kept all site reports history) where
   abbrev replied_as : Reply → Given
   replied_as reply = record { origin = origin; reply = reply }
@@ -84,8 +84,8 @@ module _ (all : List Event) (before : List Action) (action : Action) (site : Sit
   abbrev Gives : List Given → Type 0
   Gives more = (world_after (before ++ action ∷ [])).replies ≡ reports ++ more
 
-  abbrev After : SiteState × Outs → Type 0
-  After came = Gives (map given_of came.1.replies) → Kept all came.0 (reports ++ map given_of came.1.replies) (history ++ came.1.decided)
+  abbrev After : Planned → Type 0
+  After came = Gives (map given_of came.outs.replies) → Kept all came.after (reports ++ map given_of came.outs.replies) (history ++ came.outs.decided)
 
   truly_as : (reply : Reply) → Gives (replied_as reply ∷ []) → IsTrueReply site origin reply → IsGivenTruly all (length reports) (replied_as reply)
   truly_as reply gives is = record {
@@ -112,7 +112,7 @@ module _ (all : List Event) (before : List Action) (action : Action) (site : Sit
       (λ final. absurd (refusal_is_not_final reply refusal final))
       (λ committed. absurd (refusal_is_not_final reply refusal (committed_is_final reply committed))))
 
-  on_repeat : (reply : Reply) → IsLast site origin → (session_of origin.user site.sessions).reply ≡ Some reply → Gives (replied_as reply ∷ []) → Kept all site (reports ++ replied_as reply ∷ []) (history ++ [])
+  on_repeat : (reply : Reply) → IsLast site origin → (session_of origin.user site.desk.sessions).reply ≡ Some reply → Gives (replied_as reply ∷ []) → Kept all site (reports ++ replied_as reply ∷ []) (history ++ [])
   on_repeat reply last kept gives =
       let is : last_origin site origin.user ≡ origin = same_origin (last_origin site origin.user) origin (sym home) refl (sym last.epoch) (sym last.number) in
       without_entry (replied_as reply ∷ []) (said all site reports history holds (replied_as reply) (truly_as reply gives (true_if_keepable site origin reply (holds.keepable origin.user reply kept)))
@@ -120,30 +120,30 @@ module _ (all : List Event) (before : List Action) (action : Action) (site : Sit
       (λ final. record { number = last.number; reply = kept })
       (λ committed. subst (λ (o : Origin). IsEntered history o) is (holds.entered_kept origin.user reply kept committed)))
 
-  on_accepted : IsNext site origin → (reply : Reply) → (after : SiteState) → after.me ≡ site.me → after.epoch ≡ site.epoch → after.sessions ≡ (remembering site origin reply).sessions → (more : List Decided)
+  on_accepted : IsNext site origin → (reply : Reply) → (after : SiteState) → after.who ≡ site.who → after.desk.sessions ≡ (remembering site.desk origin reply).sessions → (more : List Decided)
       → IsKeepable reply → ((position : ℕ) → reply ≡ replies.Syntax position → IsNoRequest all origin position) → (IsCommitted reply → IsEntered (history ++ more) origin)
       → Gives (replied_as reply ∷ []) → Kept all after (reports ++ replied_as reply ∷ []) (history ++ more)
-  on_accepted next reply after me epoch sessions more may syntax_is entered gives =
-      said all after reports (history ++ more) (remembered all site reports history holds origin home next reply after me epoch sessions more may syntax_is entered) (replied_as reply)
+  on_accepted next reply after who sessions more may syntax_is entered gives =
+      said all after reports (history ++ more) (remembered all site reports history holds origin home next reply after who sessions more may syntax_is entered) (replied_as reply)
       (truly_as reply gives (true_if_keepable site origin reply may)) syntax_is
-      (λ final. kept_then all site reports history holds origin home next reply after me epoch sessions more may syntax_is entered) entered
+      (λ final. kept_then all site reports history holds origin home next reply after who sessions more may syntax_is entered) entered
 
-  on_no_request : IsNext site origin → statement_of text ≡ None → Gives (replied_as (replies.Syntax (offset_replied text)) ∷ []) → Kept all (remembering site origin (replies.Syntax (offset_replied text))) (reports ++ replied_as (replies.Syntax (offset_replied text)) ∷ []) (history ++ [])
+  on_no_request : IsNext site origin → statement_of text ≡ None → Gives (replied_as (replies.Syntax (offset_replied text)) ∷ []) → Kept all (with_reply origin (replies.Syntax (offset_replied text)) site) (reports ++ replied_as (replies.Syntax (offset_replied text)) ∷ []) (history ++ [])
   on_no_request next none gives =
       let no_request : IsNoRequest all origin (offset_replied text) = record { text = text; accepts = record { before = before; action = action; site = site; receives = receives; epoch = next.epoch; number = next.number }; no_request = none; says = reported_nothing text short none } in
-      on_accepted next (replies.Syntax (offset_replied text)) (remembering site origin (replies.Syntax (offset_replied text))) refl refl refl [] tt
+      on_accepted next (replies.Syntax (offset_replied text)) (with_reply origin (replies.Syntax (offset_replied text)) site) refl refl [] tt
       (λ position e. let same : offset_replied text ≡ position = cc in subst (IsNoRequest all origin) same no_request)
       (λ committed. absurd committed) gives
 
   on_executed : IsNext site origin → (stmt : Stmt) → After (executed site from origin text stmt)
   on_executed next stmt gives =
-      let outcome : Outcome = (meaning site.database (execution_of (next_txn site) origin stmt)).1 in
-      let entry : Decided = record { txn = next_txn site; origin = origin; text = text } in
-      on_accepted next (reply_of outcome) (executed site from origin text stmt).0 refl refl refl (entry ∷ []) (keepable_outcome outcome)
+      let outcome : Outcome = (meaning site.held.database (execution_of (next_txn site.who site.desk) origin stmt)).1 in
+      let entry : Decided = record { txn = next_txn site.who site.desk; origin = origin; text = text } in
+      on_accepted next (reply_of outcome) (executed site from origin text stmt).after refl refl (entry ∷ []) (keepable_outcome outcome)
       (λ position e. absurd (outcome_is_no_syntax outcome position e))
       (λ committed. record { position = length history; entry = entry; there = get_last history entry; origin = refl }) gives
 
-  pub reported_keeps : (came : SiteState × Outs) → Asked site from origin text came → After came
+  pub reported_keeps : (came : Planned) → Asked site from origin text came → After came
   reported_keeps came (Refused reply refusal is e) = subst After (sym e) (on_refusal reply refusal is)
   reported_keeps came (RepliedAgain reply last kept e) = subst After (sym e) (on_repeat reply last kept)
   reported_keeps came (Silent last kept e) = subst After (sym e) on_nothing

@@ -5,8 +5,9 @@ use Rattle.std.proofs.lemmas.List.FromFn.{length-range_with_len}
 use Rattle.std.proofs.lemmas.List.Elements.{Contains-append_left, Contains-push}
 use Rattle.rs_base.specs.declared.peer.Peer.{Peer}
 use Rattle.rs_base.specs.declared.txn.Origin.{Origin}
-use Rattle.rs_site.specs.declared.outs.Outs.{Outs}
 use Rattle.rs_site.specs.declared.outs.Decided.{Decided}
+use Rattle.rs_site.specs.declared.who.Who.{Who}
+use Rattle.rs_site.specs.Planned.{Planned}
 use Rattle.rs_site.specs.State.{SiteState, opened}
 use Rattle.rs_site.proofs.Asked.{Asked, Refused, RepliedAgain, Silent, NoRequest, Spent, Executed}
 use Rattle.rs_course.specs.declared.report.Given.{Given}
@@ -36,18 +37,13 @@ stands_first = record {
     nothing i x e = cc
 
 -- a site stays the one that it is
-pub record IsSameSite (site next : SiteState) : Type 0 where
-  pub me : next.me ≡ site.me
-  pub many : next.sites ≡ site.sites
-  pub epoch : next.epoch ≡ site.epoch
-
-pub same_site : (site : SiteState) (from : Peer) (origin : Origin) (text : List ℕ) (came : SiteState × Outs) → Asked site from origin text came → IsSameSite site came.0
-same_site site from origin text came (Refused reply is true e) = subst (λ (p : SiteState × Outs). IsSameSite site p.0) (sym e) (record { me = refl; many = refl; epoch = refl })
-same_site site from origin text came (RepliedAgain reply last kept e) = subst (λ (p : SiteState × Outs). IsSameSite site p.0) (sym e) (record { me = refl; many = refl; epoch = refl })
-same_site site from origin text came (Silent last none e) = subst (λ (p : SiteState × Outs). IsSameSite site p.0) (sym e) (record { me = refl; many = refl; epoch = refl })
-same_site site from origin text came (NoRequest next none e) = subst (λ (p : SiteState × Outs). IsSameSite site p.0) (sym e) (record { me = refl; many = refl; epoch = refl })
-same_site site from origin text came (Spent next stmt reads spent e) = subst (λ (p : SiteState × Outs). IsSameSite site p.0) (sym e) (record { me = refl; many = refl; epoch = refl })
-same_site site from origin text came (Executed next stmt reads room e) = subst (λ (p : SiteState × Outs). IsSameSite site p.0) (sym e) (record { me = refl; many = refl; epoch = refl })
+pub same_site : (site : SiteState) (from : Peer) (origin : Origin) (text : List ℕ) (came : Planned) → Asked site from origin text came → came.after.who ≡ site.who
+same_site site from origin text came (Refused reply is true e) = ap (λ (p : Planned). p.after.who) e
+same_site site from origin text came (RepliedAgain reply last kept e) = ap (λ (p : Planned). p.after.who) e
+same_site site from origin text came (Silent last none e) = ap (λ (p : Planned). p.after.who) e
+same_site site from origin text came (NoRequest next none e) = ap (λ (p : Planned). p.after.who) e
+same_site site from origin text came (Spent next stmt reads spent e) = ap (λ (p : Planned). p.after.who) e
+same_site site from origin text came (Executed next stmt reads room e) = ap (λ (p : Planned). p.after.who) e
 
 module _ (before : List Action) (world : World) (site : SiteState) (stands : Stands before world site) (action : Action) where
   later : (datagram : Datagram) → IsAsked before datagram → IsAsked (before ++ action ∷ []) datagram
@@ -73,13 +69,13 @@ module _ (before : List Action) (world : World) (site : SiteState) (stands : Sta
             | inr p ↦ subst (λ (d : Datagram). IsAsked (before ++ action ∷ []) d) p.1 new
           ]
 
-  pub stands_received : (next : SiteState) (givens : List Given) (entries : List Decided) → IsSameSite site next → AreBelow next (world.history ++ entries) → Stands (before ++ action ∷ []) (onward world next givens entries) next
+  pub stands_received : (next : SiteState) (givens : List Given) (entries : List Decided) → next.who ≡ site.who → AreBelow next (world.history ++ entries) → Stands (before ++ action ∷ []) (onward world next givens entries) next
   stands_received next givens entries same below = record {
     one = record {
       sites = refl;
-      me = same.me ∙ stands.one.me;
-      many = same.many ∙ stands.one.many;
-      epoch = same.epoch ∙ stands.one.epoch;
+      me = ap (λ (w : Who). w.me) same ∙ stands.one.me;
+      many = ap (λ (w : Who). w.sites) same ∙ stands.one.many;
+      epoch = ap (λ (w : Who). w.epoch) same ∙ stands.one.epoch;
       gone = ap (λ (n : ℕ). range_with_len 1 n) (sym (length-range_with_len 1 (gone_count world + 1)));
     };
     sent = λ i datagram at. later datagram (stands.sent i datagram at);

@@ -6,9 +6,9 @@ use Rattle.std.proofs.lemmas.List.{append-nil}
 use Rattle.rs_base.specs.declared.peer.Peer.{Peer}
 use Rattle.rs_base.specs.declared.peer.Peer.TheVariants as peers
 use Rattle.rs_base.specs.declared.txn.Origin.{Origin}
-use Rattle.rs_site.specs.declared.outs.Outs.{Outs}
 use Rattle.rs_site.specs.declared.outs.Decided.{Decided}
 use Rattle.rs_site.specs.Asking.{on_first}
+use Rattle.rs_site.specs.Planned.{Planned}
 use Rattle.rs_site.specs.State.{SiteState}
 use Rattle.rs_site.proofs.Asked.{Asked, Refused, RepliedAgain, Silent, NoRequest, Spent, Executed, asked}
 use Rattle.rs_course.specs.declared.report.Given.{Given}
@@ -41,28 +41,28 @@ onward world site givens entries = record {
 pub data Turns (before : List Action) (world : World) (site : SiteState) (action : Action) (next : World) : Type 0 where
   Posted : (origin : Origin) → (text : List ℕ) → IsPost origin text → action ≡ Post origin text → next ≡ record world { sent = world.sent ++ ask_datagram origin text ∷ [] } → Turns before world site action next
   Stayed : next ≡ world → Turns before world site action next
-  Received : (origin : Origin) → (text : List ℕ) → IsReceived before world action origin text → (came : SiteState × Outs) → Asked site (peers.Client 0) origin text came
-      → next ≡ onward world came.0 (map given_of came.1.replies) came.1.decided → Turns before world site action next
+  Received : (origin : Origin) → (text : List ℕ) → IsReceived before world action origin text → (came : Planned) → Asked site (peers.Client 0) origin text came
+      → next ≡ onward world came.after (map given_of came.outs.replies) came.outs.decided → Turns before world site action next
 
-no_sends : (site : SiteState) (from : Peer) (origin : Origin) (text : List ℕ) (came : SiteState × Outs) → Asked site from origin text came → came.1.sends ≡ []
-no_sends site from origin text came (Refused reply is true e) = ap (λ (p : SiteState × Outs). p.1.sends) e
-no_sends site from origin text came (RepliedAgain reply last kept e) = ap (λ (p : SiteState × Outs). p.1.sends) e
-no_sends site from origin text came (Silent last none e) = ap (λ (p : SiteState × Outs). p.1.sends) e
-no_sends site from origin text came (NoRequest next none e) = ap (λ (p : SiteState × Outs). p.1.sends) e
-no_sends site from origin text came (Spent next stmt reads spent e) = ap (λ (p : SiteState × Outs). p.1.sends) e
-no_sends site from origin text came (Executed next stmt reads room e) = ap (λ (p : SiteState × Outs). p.1.sends) e
+no_sends : (site : SiteState) (from : Peer) (origin : Origin) (text : List ℕ) (came : Planned) → Asked site from origin text came → came.outs.sends ≡ []
+no_sends site from origin text came (Refused reply is true e) = ap (λ (p : Planned). p.outs.sends) e
+no_sends site from origin text came (RepliedAgain reply last kept e) = ap (λ (p : Planned). p.outs.sends) e
+no_sends site from origin text came (Silent last none e) = ap (λ (p : Planned). p.outs.sends) e
+no_sends site from origin text came (NoRequest next none e) = ap (λ (p : Planned). p.outs.sends) e
+no_sends site from origin text came (Spent next stmt reads spent e) = ap (λ (p : Planned). p.outs.sends) e
+no_sends site from origin text came (Executed next stmt reads room e) = ap (λ (p : Planned). p.outs.sends) e
 
-receives_on : (world : World) (came : SiteState × Outs) → came.1.sends ≡ [] → with_entries world.history came.1.decided ≡ world.history ++ came.1.decided
-    → receiving world came ≡ onward world came.0 (map given_of came.1.replies) came.1.decided
+receives_on : (world : World) (came : Planned) → came.outs.sends ≡ [] → with_entries world.history came.outs.decided ≡ world.history ++ came.outs.decided
+    → receiving world came ≡ onward world came.after (map given_of came.outs.replies) came.outs.decided
 receives_on world came none fresh =
-    let sent : world.sent ++ flat_map (sent_by 1) came.1.sends ≡ world.sent = ap (λ (sends : List (Peer × List ℕ)). world.sent ++ flat_map (sent_by 1) sends) none ∙ append-nil world.sent in
-    ap (λ (all : List Datagram). record (onward world came.0 (map given_of came.1.replies) []) { sent = all; history = with_entries world.history came.1.decided }) sent
-    ∙ ap (λ (history : List Decided). record (onward world came.0 (map given_of came.1.replies) []) { history = history }) fresh
+    let sent : world.sent ++ flat_map (sent_by 1) came.outs.sends ≡ world.sent = ap (λ (sends : List (Peer × List ℕ)). world.sent ++ flat_map (sent_by 1) sends) none ∙ append-nil world.sent in
+    ap (λ (all : List Datagram). record (onward world came.after (map given_of came.outs.replies) []) { sent = all; history = with_entries world.history came.outs.decided }) sent
+    ∙ ap (λ (history : List Decided). record (onward world came.after (map given_of came.outs.replies) []) { history = history }) fresh
 
 -- the world after the delivery of the ask that waits longest
 pub turns_received : (before : List Action) (world : World) (site : SiteState) → IsOf world site → AreBelow site world.history → (origin : Origin) (text : List ℕ) → IsPost origin text
     → slice_get world.sent (gone_count world) ≡ Some (ask_datagram origin text)
-    → act world GiveNext ≡ onward world (on_first site (peers.Client 0) origin text).0 (map given_of (on_first site (peers.Client 0) origin text).1.replies) (on_first site (peers.Client 0) origin text).1.decided
+    → act world GiveNext ≡ onward world (on_first site (peers.Client 0) origin text).after (map given_of (on_first site (peers.Client 0) origin text).outs.replies) (on_first site (peers.Client 0) origin text).outs.decided
 turns_received before world site one below origin text post there =
     let from = peers.Client 0 in
     let came = on_first site from origin text in

@@ -117,11 +117,11 @@ pub record Explains (events : List Event) (report : Report) : Type 0 where
   -- applied there
   pub stores_follow : (before suffix : List Action) (number : ℕ) (site : SiteState) (what : Resource) → actions events ≡ before ++ suffix
       → site_at (world_after before) number ≡ Some site → IsApplied site what
-      → content_of site what ≡ expected (database_of (sites_of events) (world_after before).history) site.me what
+      → content_of site what ≡ expected (database_of (sites_of events) (world_after before).history) site.who.me what
   -- the report shows each site; one that is up, with all applied, shows the tables of the whole history that it stores
   pub sites_shown : length report.sites ≡ sites_of events
   pub views_agree : (i : ℕ) (site : SiteState) → slice_get (course events).sites i ≡ Some (record { up = Some site }) → ((what : Resource) → IsApplied site what)
-      → slice_get report.sites i ≡ Some (record { site = i + 1; up = Some site.epoch; tables = tables_at (i + 1) (database_of (sites_of events) report.history) })
+      → slice_get report.sites i ≡ Some (record { site = i + 1; up = Some site.who.epoch; tables = tables_at (i + 1) (database_of (sites_of events) report.history) })
   pub tables_in_order : IsInOrder (database_of (sites_of events) report.history)
   -- each of its rows has a value for each column, of its kind, and each of its tables is stored at one of the sites
   pub tables_typed : EachTable IsTyped (database_of (sites_of events) report.history)

@@ -11,12 +11,14 @@ use Rattle.rs_course.specs.declared.datagram.Datagram.{Datagram}
 use Rattle.rs_course.specs.Course.{GiveNext, datagram_at, delivery_at, delivery_of, gives, lowest_pending, stepped_by, without, act}
 use Rattle.rs_course.specs.World.{World}
 
-get_below : {X : Type 0} (xs : List X) (i : ℕ) (x : X) → slice_get xs i ≡ Some x → i < length xs
+-- the position of an element is below the length
+pub get_below : {X : Type 0} (xs : List X) (i : ℕ) (x : X) → slice_get xs i ≡ Some x → i < length xs
 get_below [] i x e = absurd cc
 get_below (y ∷ ys) zero x e = omega arith
 get_below (y ∷ ys) (suc i) x e = omega (arith, get_below ys i x e)
 
-get_past : {X : Type 0} (xs : List X) (i : ℕ) → slice_get xs i ≡ None → length xs ≤ i
+-- a position without an element isn't below the length
+pub get_past : {X : Type 0} (xs : List X) (i : ℕ) → slice_get xs i ≡ None → length xs ≤ i
 get_past [] i e = omega arith
 get_past (y ∷ ys) zero e = absurd cc
 get_past (y ∷ ys) (suc i) e = omega (arith, get_past ys i e)

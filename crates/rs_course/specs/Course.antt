@@ -1,5 +1,5 @@
 -- The course of events: the world after each. An event is a list of actions, and the world is a fold of them.
-use Rattle.std.specs.Prelude.{ℕ, ◌+◌, ◌-◌, Bool, not, nat_lt, ◌||◌, ◌==◌, List, [], ◌∷◌, ◌++◌, map, slice_set, fold, flat_map, replicate, length, Option, Some, None, if◌then◌else◌}
+use Rattle.std.specs.Prelude.{ℕ, ◌+◌, ◌-◌, Bool, true, not, nat_lt, ◌||◌, ◌==◌, List, [], ◌∷◌, ◌++◌, map, slice_set, fold, flat_map, replicate, length, Option, Some, None, if◌then◌else◌}
 use Rattle.std.specs.BTreeSet.{insert_key}
 use Rattle.std.specs.List.{slice_get, range_with_len, find, list_any}
 use Rattle.std.specs.Ordering.{nat_cmp}
@@ -16,8 +16,9 @@ use Rattle.rs_site.specs.declared.input.Input.{Input}
 use Rattle.rs_site.specs.declared.input.Input.TheVariants as inputs
 use Rattle.rs_site.specs.declared.outs.Decided.{Decided}
 use Rattle.rs_site.specs.declared.outs.Outs.{Outs}
+use Rattle.rs_site.specs.Planned.{done}
 use Rattle.rs_site.specs.State.{SiteState, opened}
-use Rattle.rs_site.specs.Step.{site_step}
+use Rattle.rs_site.specs.Step.{planned_step, site_step}
 use Rattle.rs_sched.specs.declared.event.Event.{Event}
 use Rattle.rs_sched.specs.declared.event.Event.TheVariants as events
 use Rattle.rs_course.specs.declared.datagram.Datagram.{Datagram}
@@ -125,14 +126,16 @@ after_outs world site outs = record world {
   history = with_entries world.history outs.decided;
 }
 
--- the world in which the site of this number is up in this state
-abbrev pub with_site : ℕ → SiteState → World → World
-with_site number site world = record world { sites = slice_set world.sites (number - 1) (record { up = Some site }) }
+-- the world in which the site of this number is up in this state, or down
+abbrev pub with_place : ℕ → Option SiteState → World → World
+with_place number up world = record world { sites = slice_set world.sites (number - 1) (record { up = up }) }
 
--- what is given to a site that is down is lost
+-- What is given to a site that is down is lost. The logs of sites that are up have all items that are appended, so far.
 abbrev pub stepped : World → ℕ → Input → Option SiteState → World
 stepped world number input None = world
-stepped world number input (Some site) = let step = site_step site input in after_outs (with_site number step.0 world) number step.1
+stepped world number input (Some site) =
+    let step = done (planned_step site input) true in
+    after_outs (with_place number step.0 world) number step.1
 
 -- the site that is given an input takes it
 abbrev pub stepped_by : World → Option (ℕ × Input) → World

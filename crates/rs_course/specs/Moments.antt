@@ -59,5 +59,5 @@ pub record Accepts (given : List Event) (origin : Origin) (text : List ℕ) : Ty
   pub action : Action
   pub site : SiteState
   pub receives : Receives given before action site origin text
-  pub epoch : origin.epoch ≡ site.epoch
-  pub number : origin.number ≡ (session_of origin.user site.sessions).last + 1
+  pub epoch : origin.epoch ≡ site.who.epoch
+  pub number : origin.number ≡ (session_of origin.user site.desk.sessions).last + 1

@@ -24,7 +24,7 @@ tables_at number db = map table_view (filter (is_at_site number) db.tables)
 -- a site that is up shows its epoch and its tables, and one that is down shows none
 abbrev pub view_when : ℕ → Option SiteState → SiteView
 view_when number None = record { site = number; up = None; tables = [] }
-view_when number (Some site) = record { site = number; up = Some site.epoch; tables = tables_at number site.database }
+view_when number (Some site) = record { site = number; up = Some site.who.epoch; tables = tables_at number site.held.database }
 
 abbrev pub view_of : ℕ × Place → SiteView
 view_of (number, place) = view_when number place.up

@@ -4,5 +4,6 @@ pub mod Asked
 pub mod FirstPart
 pub mod Lawful
 pub mod NoOutput
+pub mod Planning
 pub mod Sorts
 pub mod Acceptance

@@ -1,6 +1,7 @@
 pub mod Asking
 pub mod Dropped
 pub mod Laws
+pub mod Planned
 pub mod State
 pub mod Statement
 pub mod Step

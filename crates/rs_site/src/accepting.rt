@@ -1,18 +1,17 @@
 //! Accepted asks.
 
-ghost use Rattle.std.specs.Prelude.{◌≡◌, ◌+◌, ◌<◌, ◌≤◌, length, IfOk, IfErr, OnOk, OnErr, Some, None};
+ghost use Rattle.std.specs.Prelude.{◌≡◌, ◌<◌, ◌≤◌, length, IfOk, IfErr, OnOk, OnErr, Some, None};
 ghost use Rattle.rs_mean.specs.Changes.{changed};
 ghost use Rattle.rs_parse.specs.Parsing.{text_limit};
 ghost use Rattle.rs_site.specs.Asking as spec;
-ghost use Rattle.rs_site.specs.State.{next_txn};
+ghost use Rattle.rs_site.specs.Planned.{IsDone};
 ghost use Rattle.rs_site.specs.Statement.{statement_of, offset_replied};
 
 use crate::outs::{Decided, Outs, commits, no_outs, reply_with};
 use crate::site::Site;
-use rs_base::{Bytes, NoMemory, Origin, Peer, Reply, Txn};
+use rs_base::{Bytes, NoMemory, Origin, Peer, Reply};
 use rs_mean::{Change, Effect, Execution, Outcome, Stmt};
 use rs_parse::{ParseFault, parse};
-use rs_session::Session;
 use std::alloc::Global;
 
 /// Returns the reply that reports an outcome.
@@ -44,47 +43,18 @@ fn statement(alloc: Global, text: &[u8]) -> Result<Result<Stmt, u32>, NoMemory>
 }
 
 impl Site {
-    /// Returns the next transaction, while the epoch has one left.
-    fn next_txn(&self) -> Txn
-        requires { self.now.begun < spec.last_number }
-        ensures { result ≡ next_txn self.now }
-    {
-        Txn {
-            site: self.me,
-            epoch: self.epoch,
-            number: self.begun + 1,
-        }
-    }
-
-    /// Stores that the request was accepted, and its reply.
-    fn remember(&mut self, origin: &Origin, reply: Reply) -> Result<(), NoMemory>
-        ensures ok { OnOk result (self.new ≡ spec.remembering self.old origin.now reply) }
-        ensures err { OnErr result (self.new ≡ self.old) }
-    {
-        let session = Session {
-            last: origin.number,
-            reply: Some(reply),
-        };
-        self.sessions.put(&origin.user, session)?;
-        Ok(())
-    }
-
     /// Applies the change as the next transaction, and stores that the request was accepted, and its reply.
     fn commit(&mut self, change: Change, origin: &Origin, reply: Reply) -> Result<(), NoMemory>
-        requires { self.old.begun < spec.last_number }
-        ensures ok { OnOk result (self.new ≡ record (spec.remembering self.old origin.now reply) { begun = self.old.begun + 1; database = changed change self.old.database }) }
+        requires { self.old.desk.begun < spec.last_number }
+        ensures ok { OnOk result (self.new ≡ spec.with_reply origin.now reply (spec.with_change (changed change self.old.held.database) self.old)) }
         ensures err { OnErr result (self.new ≡ self.old) }
     {
-        let session = Session {
-            last: origin.number,
-            reply: Some(reply),
-        };
-        let before = self.sessions.put(&origin.user, session)?;
-        if let Err(fault) = self.database.apply(change) {
-            self.sessions.put_back(&origin.user, before);
+        let before = self.desk.remember(origin, reply)?;
+        if let Err(fault) = self.held.database.apply(change) {
+            self.desk.sessions.put_back(&origin.user, before);
             return Err(fault);
         }
-        self.begun += 1;
+        self.desk.begun += 1;
         Ok(())
     }
 
@@ -97,21 +67,21 @@ impl Site {
         text: Bytes,
         stmt: Stmt,
     ) -> Result<Outs, NoMemory>
-        requires { self.old.begun < spec.last_number }
-        ensures ok { IfOk result (λ outs. spec.executed self.old from.now origin.now text stmt ≡ (self.new, outs)) }
+        requires { self.old.desk.begun < spec.last_number }
+        ensures ok { IfOk result (IsDone (spec.executed self.old from.now origin.now text stmt) self.new) }
         ensures err { OnErr result (self.new ≡ self.old) }
     {
         let execution = Execution {
-            txn: self.next_txn(),
+            txn: self.who.next_txn(&self.desk),
             user: origin.user,
             site: origin.site,
             stmt,
         };
-        let Effect { change, outcome } = self.database.effect_of(alloc, &execution)?;
+        let Effect { change, outcome } = self.held.database.effect_of(alloc, &execution)?;
         let reply = reply_of(outcome);
         let kept = reply.copy(alloc)?;
         let decided = Decided {
-            txn: self.next_txn(),
+            txn: self.who.next_txn(&self.desk),
             origin: *origin,
             text,
         };
@@ -121,6 +91,7 @@ impl Site {
     }
 
     /// Accepts a statement. It is dropped if the epoch has no transaction left.
+    #[tactic(auto, unfolding(crate::specs::Planned::when))]
     fn take_statement(
         &mut self,
         alloc: Global,
@@ -129,10 +100,10 @@ impl Site {
         text: Bytes,
         stmt: Stmt,
     ) -> Result<Outs, NoMemory>
-        ensures ok { IfOk result (λ outs. spec.accepted_as self.old from.now origin.now text (Some stmt) ≡ (self.new, outs)) }
+        ensures ok { IfOk result (IsDone (spec.accepted_as self.old from.now origin.now text (Some stmt)) self.new) }
         ensures err { OnErr result (self.new ≡ self.old) }
     {
-        if self.begun == u64::MAX {
+        if self.desk.begun == u64::MAX {
             return Ok(no_outs(alloc));
         }
         self.execute(alloc, from, origin, text, stmt)
@@ -146,11 +117,11 @@ impl Site {
         origin: &Origin,
         offset: u32,
     ) -> Result<Outs, NoMemory>
-        ensures ok { IfOk result (λ outs. spec.no_request self.old from.now origin.now offset ≡ (self.new, outs)) }
+        ensures ok { IfOk result (IsDone (spec.no_request self.old from.now origin.now offset) self.new) }
         ensures err { OnErr result (self.new ≡ self.old) }
     {
         let outs = reply_with(alloc, from, origin, 0, Reply::Syntax(offset))?;
-        self.remember(origin, Reply::Syntax(offset))?;
+        self.desk.remember(origin, Reply::Syntax(offset))?;
         Ok(outs)
     }
 
@@ -163,7 +134,7 @@ impl Site {
         text: Bytes,
     ) -> Result<Outs, NoMemory>
         requires { length text ≤ text_limit }
-        ensures ok { IfOk result (λ outs. spec.accepted self.old from.now origin.now text ≡ (self.new, outs)) }
+        ensures ok { IfOk result (IsDone (spec.accepted self.old from.now origin.now text) self.new) }
         ensures err { OnErr result (self.new ≡ self.old) }
     {
         match statement(alloc, text.as_slice())? {

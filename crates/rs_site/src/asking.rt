@@ -1,9 +1,10 @@
 //! A site's handling of an ask.
 
-ghost use Rattle.std.specs.Prelude.{◌≡◌, ◌+◌, ◌<◌, ◌≤◌, ◌&&◌, ◌==◌, length, IfOk, OnErr};
+ghost use Rattle.std.specs.Prelude.{◌≡◌, ◌≤◌, length, IfOk, OnErr};
 ghost use Rattle.rs_parse.specs.Parsing.{text_limit};
 ghost use Rattle.rs_site.specs.Asking as spec;
-ghost use Rattle.rs_session.specs.Sessions.{session_of, last_is_answered};
+ghost use Rattle.rs_site.specs.Planned.{IsDone};
+ghost use Rattle.rs_session.specs.Sessions.{session_of};
 
 use crate::outs::{Outs, no_outs, reply_with};
 use crate::site::Site;
@@ -12,16 +13,8 @@ use rs_msg::Ask;
 use std::alloc::Global;
 
 impl Site {
-    /// Returns whether the request is the user's next, and the last is answered.
-    fn is_next(&self, origin: &Origin) -> bool
-        requires { (session_of origin.now.user self.now.sessions).last < origin.now.number }
-        ensures { result ≡ (origin.now.number == (session_of origin.now.user self.now.sessions).last + 1 && last_is_answered (session_of origin.now.user self.now.sessions)) }
-    {
-        origin.number == self.sessions.last(&origin.user) + 1
-            && self.sessions.last_is_answered(&origin.user)
-    }
-
     /// Handles the first part of a request in the site's epoch.
+    #[tactic(auto, unfolding(crate::specs::Planned::when))]
     fn by_number(
         &mut self,
         alloc: Global,
@@ -30,23 +23,24 @@ impl Site {
         text: Bytes,
     ) -> Result<Outs, NoMemory>
         requires { length text ≤ text_limit }
-        ensures ok { IfOk result (λ outs. spec.by_number self.old from.now origin.now text (session_of origin.now.user self.old.sessions) ≡ (self.new, outs)) }
+        ensures ok { IfOk result (IsDone (spec.by_number self.old from.now origin.now text (session_of origin.now.user self.old.desk.sessions)) self.new) }
         ensures err { OnErr result (self.new ≡ self.old) }
     {
-        let last = self.sessions.last(&origin.user);
+        let last = self.desk.last(&origin.user);
         if origin.number < last {
             return reply_with(alloc, from, origin, 0, Reply::OldRequest(last));
         }
         if origin.number == last {
             return self.repeated(alloc, from, origin, 0);
         }
-        if self.is_next(origin) {
+        if self.desk.is_next(origin) {
             return self.take(alloc, from, origin, text);
         }
         reply_with(alloc, from, origin, 0, Reply::Gap(last))
     }
 
     /// Handles an ask of a first part.
+    #[tactic(auto, unfolding(crate::specs::Planned::when))]
     fn on_first(
         &mut self,
         alloc: Global,
@@ -55,17 +49,18 @@ impl Site {
         text: Bytes,
     ) -> Result<Outs, NoMemory>
         requires { length text ≤ text_limit }
-        ensures ok { IfOk result (λ outs. spec.on_first self.old from.now origin.now text ≡ (self.new, outs)) }
+        ensures ok { IfOk result (IsDone (spec.on_first self.old from.now origin.now text) self.new) }
         ensures err { OnErr result (self.new ≡ self.old) }
     {
-        if origin.epoch == self.epoch {
+        if origin.epoch == self.who.epoch {
             self.by_number(alloc, from, origin, text)
         } else {
-            reply_with(alloc, from, origin, 0, Reply::OldEpoch(self.epoch))
+            reply_with(alloc, from, origin, 0, Reply::OldEpoch(self.who.epoch))
         }
     }
 
     /// Handles an ask of a further part.
+    #[tactic(auto, unfolding(crate::specs::Planned::when))]
     fn on_further(
         &self,
         alloc: Global,
@@ -73,9 +68,9 @@ impl Site {
         origin: &Origin,
         part: u32,
     ) -> Result<Outs, NoMemory>
-        ensures { IfOk result (λ outs. spec.on_further self.now from.now origin.now part ≡ (self.now, outs)) }
+        ensures { IfOk result (IsDone (spec.on_further self.now from.now origin.now part) self.now) }
     {
-        if origin.epoch == self.epoch && origin.number == self.sessions.last(&origin.user) {
+        if origin.epoch == self.who.epoch && origin.number == self.desk.last(&origin.user) {
             self.repeated(alloc, from, origin, part)
         } else {
             Ok(no_outs(alloc))
@@ -83,9 +78,10 @@ impl Site {
     }
 
     /// Handles an ask from a peer.
+    #[tactic(auto, unfolding(crate::specs::Planned::when))]
     pub(crate) fn on_ask(&mut self, alloc: Global, from: &Peer, ask: Ask) -> Result<Outs, NoMemory>
         requires { length ask.text ≤ text_limit }
-        ensures ok { IfOk result (λ outs. spec.on_ask self.old from.now ask ≡ (self.new, outs)) }
+        ensures ok { IfOk result (IsDone (spec.on_ask self.old from.now ask) self.new) }
         ensures err { OnErr result (self.new ≡ self.old) }
     {
         let Ask {
@@ -96,7 +92,7 @@ impl Site {
             text,
         } = ask;
         let origin = Origin {
-            site: self.me,
+            site: self.who.me,
             user,
             epoch,
             number,

@@ -1,7 +1,7 @@
 //! Laws of every step of a site, whatever its state. Each function here is a law: its contract states it, and its body
 //! does nothing.
 
-ghost use Rattle.rs_site.specs.Laws.{CommitsAreMeaning, KeptReplyIsRepeated, NextIsAccepted, NumbersRise, RepeatsRunNothing};
+ghost use Rattle.rs_site.specs.Laws.{CommitsAreMeaning, DecidedAreLogged, KeptReplyIsRepeated, NextIsAccepted, NumbersRise, RepeatsRunNothing};
 
 /// Each user's last number, and the count of transactions, never fall.
 pub fn numbers_rise()
@@ -23,6 +23,11 @@ pub fn kept_reply_is_repeated()
 /// and the database is the meaning of its statement.
 pub fn commits_are_meaning()
     ensures { CommitsAreMeaning }
+{}
+
+/// What a step reports as committed is what it appends to the log, which it forces then.
+pub fn decided_are_logged()
+    ensures { DecidedAreLogged }
 {}
 
 /// The next ask of a user for a first part, in the site's epoch, whose last one is answered, gets one reply, which is

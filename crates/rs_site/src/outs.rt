@@ -2,6 +2,7 @@
 
 ghost use Rattle.std.specs.Prelude.{◌≡◌, [], ◌∷◌, IfOk};
 ghost use Rattle.rs_site.specs.Asking as spec;
+ghost use Rattle.rs_site.specs.Planned as planned;
 
 use rs_base::{Bytes, Datagrams, NoMemory, Origin, Peer, Reply, Txn, one_item};
 use rs_session::{Told, Tolds};
@@ -28,7 +29,7 @@ pub struct Outs {
 
 /// Returns the empty output.
 pub(crate) fn no_outs(alloc: Global) -> Outs
-    ensures { result ≡ spec.no_outs }
+    ensures { result ≡ planned.no_outs }
 {
     Outs {
         sends: Items::new(alloc),

@@ -1,7 +1,8 @@
 //! Replies that are sent again.
 
-ghost use Rattle.std.specs.Prelude.{◌≡◌, IfOk};
+ghost use Rattle.std.specs.Prelude.{IfOk};
 ghost use Rattle.rs_site.specs.Asking as spec;
+ghost use Rattle.rs_site.specs.Planned.{IsDone};
 ghost use Rattle.rs_session.specs.Sessions.{session_of};
 
 use crate::outs::{Outs, no_outs, reply_with};
@@ -12,6 +13,7 @@ use std::alloc::Global;
 
 impl Site {
     /// Sends the stored reply to the user's last request again, if there is one, and it has this part.
+    #[tactic(auto, unfolding(crate::specs::Planned::when))]
     pub(crate) fn repeated(
         &self,
         alloc: Global,
@@ -19,9 +21,9 @@ impl Site {
         origin: &Origin,
         part: u32,
     ) -> Result<Outs, NoMemory>
-        ensures { IfOk result (λ outs. spec.repeated self.now from.now origin.now part (session_of origin.now.user self.now.sessions).reply ≡ (self.now, outs)) }
+        ensures { IfOk result (IsDone (spec.repeated self.now from.now origin.now part (session_of origin.now.user self.now.desk.sessions).reply) self.now) }
     {
-        let Some(reply) = self.sessions.reply(&origin.user) else {
+        let Some(reply) = self.desk.reply(&origin.user) else {
             return Ok(no_outs(alloc));
         };
         if !has_part(alloc, origin, reply, part)? {

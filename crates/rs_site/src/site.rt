@@ -3,22 +3,20 @@
 ghost use Rattle.std.specs.Prelude.{◌≡◌, IfOk};
 ghost use Rattle.rs_site.specs.State.{opened};
 
+use crate::desk::Desk;
+use crate::held::Held;
+use crate::who::Who;
 use rs_base::{NoMemory, SiteNo};
 use rs_mean::Database;
-use rs_session::Sessions;
 use std::alloc::Global;
 use std::marker::Model;
 
 /// A site. Its state changes by `step` alone.
 #[derive(Drop)]
 pub struct Site {
-    pub(crate) me: SiteNo,
-    pub(crate) sites: SiteNo,
-    pub(crate) epoch: u32,
-    /// The number of transactions begun in this epoch.
-    pub(crate) begun: u64,
-    pub(crate) sessions: Sessions,
-    pub(crate) database: Database,
+    pub(crate) who: Who,
+    pub(crate) desk: Desk,
+    pub(crate) held: Held,
 }
 
 impl Model for Site {
@@ -26,7 +24,7 @@ impl Model for Site {
 
     ghost Value = { SiteState };
 
-    ghost view = { λ it. record { me = it.me; sites = it.sites; epoch = it.epoch; begun = it.begun; sessions = it.sessions; database = it.database } };
+    ghost view = { λ it. record { who = it.who; desk = it.desk; held = it.held } };
 }
 
 impl Site {
@@ -34,41 +32,46 @@ impl Site {
     pub fn open(alloc: Global, me: SiteNo, sites: SiteNo) -> Result<Site, NoMemory>
         ensures { IfOk result (λ site. site ≡ opened me sites) }
     {
-        Ok(Site {
+        let who = Who {
             me,
             sites,
             epoch: 1,
-            begun: 0,
-            sessions: Sessions::new(alloc),
+        };
+        let held = Held {
             database: Database::new(alloc, sites),
+        };
+        Ok(Site {
+            who,
+            desk: Desk::new(alloc),
+            held,
         })
     }
 
     /// Returns the number of the site.
     pub fn me(&self) -> SiteNo
-        ensures { result ≡ self.now.me }
+        ensures { result ≡ self.now.who.me }
     {
-        self.me
+        self.who.me
     }
 
     /// Returns the epoch that requests have to name.
     pub fn epoch(&self) -> u32
-        ensures { result ≡ self.now.epoch }
+        ensures { result ≡ self.now.who.epoch }
     {
-        self.epoch
+        self.who.epoch
     }
 
     /// Returns the database of the site.
     pub fn database(&self) -> &Database
-        ensures { result.now ≡ self.now.database }
+        ensures { result.now ≡ self.now.held.database }
     {
-        &self.database
+        &self.held.database
     }
 
     /// Returns the database of a site that is no longer used.
     pub fn into_database(self) -> Database
-        ensures { result ≡ self.database }
+        ensures { result ≡ self.held.database }
     {
-        self.database
+        self.held.database
     }
 }

@@ -1,10 +1,11 @@
 //! One step of a site.
 
-ghost use Rattle.std.specs.Prelude.{◌≡◌, ℕ, List, IfOk, OnErr};
+ghost use Rattle.std.specs.Prelude.{◌≡◌, ℕ, true, List, Some, IfOk, OnErr};
 ghost use Rattle.rs_base.specs.declared.peer.Peer.{Peer};
 ghost use Rattle.rs_msg.specs.Limits.{HasRoom};
-ghost use Rattle.rs_site.specs.Asking as asking;
 ghost use Rattle.rs_site.specs.Dropped.{IsDropped};
+ghost use Rattle.rs_site.specs.Planned.{IsDone, done};
+ghost use Rattle.rs_site.specs.Planned as planned;
 ghost use Rattle.rs_site.specs.Step as spec;
 ghost use Rattle.rs_site.specs.declared.input.Input.TheVariants as inputs;
 
@@ -22,7 +23,7 @@ impl Site {
     /// Handles a message from a peer.
     fn on_message(&mut self, alloc: Global, from: &Peer, message: Message) -> Result<Outs, NoMemory>
         requires { HasRoom message }
-        ensures ok { IfOk result (λ outs. spec.on_message self.old from.now message ≡ (self.new, outs)) }
+        ensures ok { IfOk result (IsDone (spec.on_message self.old from.now message) self.new) }
         ensures err { OnErr result (self.new ≡ self.old) }
     {
         match message {
@@ -32,9 +33,9 @@ impl Site {
     }
 
     /// Handles a datagram from a peer.
-    #[tactic(auto, using(crate::proofs::Rooms::has_room))]
+    #[tactic(auto, using(crate::proofs::Rooms::has_room), unfolding(crate::specs::Planned::when))]
     fn on_datagram(&mut self, alloc: Global, from: &Peer, bytes: &[u8]) -> Result<Outs, NoMemory>
-        ensures ok { IfOk result (λ outs. spec.on_datagram self.old from.now bytes.now ≡ (self.new, outs)) }
+        ensures ok { IfOk result (IsDone (spec.on_datagram self.old from.now bytes.now) self.new) }
         ensures err { OnErr result (self.new ≡ self.old) }
     {
         if MOST_BYTES < bytes.len() {
@@ -48,9 +49,9 @@ impl Site {
     }
 
     /// Makes the step of its definition.
-    #[tactic(auto, unfolding(crate::specs::Step::site_step))]
+    #[tactic(auto, unfolding(crate::specs::Step::planned_step))]
     fn on_input(&mut self, alloc: Global, input: &Input) -> Result<Outs, NoMemory>
-        ensures ok { IfOk result (λ outs. spec.site_step self.old input.now ≡ (self.new, outs)) }
+        ensures ok { IfOk result (IsDone (spec.planned_step self.old input.now) self.new) }
         ensures err { OnErr result (self.new ≡ self.old) }
     {
         match input {
@@ -63,8 +64,8 @@ impl Site {
     /// no message, and one that no rule handles change nothing, and nothing is sent. On out of memory the site stays as it
     /// was.
     pub fn step(&mut self, alloc: Global, input: &Input) -> Result<Outs, NoMemory>
-        ensures ok { IfOk result (λ outs. spec.site_step self.old input.now ≡ (self.new, outs)) }
-        ensures dropped { (from : Peer) (bytes : List ℕ) → input.now ≡ inputs.Datagram from bytes → IsDropped self.old bytes → IfOk result (λ outs. (self.new ≡ self.old) × (outs ≡ asking.no_outs)) }
+        ensures ok { IfOk result (λ outs. done (spec.planned_step self.old input.now) true ≡ (Some self.new, outs)) }
+        ensures dropped { (from : Peer) (bytes : List ℕ) → input.now ≡ inputs.Datagram from bytes → IsDropped self.old bytes → IfOk result (λ outs. (self.new ≡ self.old) × (outs ≡ planned.no_outs)) }
         ensures err { OnErr result (self.new ≡ self.old) }
     {
         self.on_input(alloc, input)
