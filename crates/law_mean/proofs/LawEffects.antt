@@ -1,16 +1,17 @@
 -- Effects: denied, and then without a change; or done.
-use Rattle.std.proofs.Common.{◌≡◌, List, [], ◌∷◌, Option, Some, None, Ok, Err, refl, subst, sym}
+use Rattle.std.proofs.Common.{◌≡◌, List, [], ◌∷◌, Option, Some, None, Result, Ok, Err, refl, ap, subst, sym}
 use Rattle.rs_base.specs.declared.reply.Answer.{Answer}
 use Rattle.rs_base.specs.declared.reply.Denial.{Denial}
 use Rattle.rs_mean.specs.declared.change.Change.{Change}
 use Rattle.rs_mean.specs.declared.change.Change.TheVariants as changes
 use Rattle.rs_mean.specs.declared.change.Effect.{Effect}
-use Rattle.rs_mean.specs.Effects.{Outcome, done, denied, unless_denied}
+use Rattle.rs_mean.specs.Effects.{done, denied, unless_denied}
+use Rattle.rs_mean.specs.Outcome.{Done, Denied, outcome_of}
 
 -- If it is denied it has no change, and if it is done its change and its answers are so.
 pub record IsSo (P : Change → List Answer → Type 0) (effect : Effect) : Type 0 where
-  pub idle : (cause : Denial) → effect.outcome ≡ Err cause → effect.change ≡ changes.Nothing
-  pub so : (given : List Answer) → effect.outcome ≡ Ok given → P effect.change given
+  pub idle : (cause : Denial) → outcome_of effect.answer ≡ Denied cause → effect.change ≡ changes.Nothing
+  pub so : (given : List Answer) → outcome_of effect.answer ≡ Done given → P effect.change given
 
 module _ (P : Change → List Answer → Type 0) where
   pub so_denied : (cause : Denial) → IsSo P (denied cause)
@@ -27,7 +28,9 @@ module _ (P : Change → List Answer → Type 0) where
   pub holds_of_change : (Q : Change → Type 0) (effect : Effect) → IsSo P effect → Q changes.Nothing
       → ((given : List Answer) → P effect.change given → Q effect.change) → Q effect.change
   holds_of_change Q effect is none each =
-      let at : (outcome : Outcome) → effect.outcome ≡ outcome → Q effect.change
-      = λ outcome. elim outcome as (λ outcome. effect.outcome ≡ outcome → Q effect.change)
-      [ Ok given ↦ λ e. each given (is.so given e) | Err cause ↦ λ e. subst Q (sym (is.idle cause e)) none ] in
-      at effect.outcome refl
+      let at : (answer : Result Answer Denial) → effect.answer ≡ answer → Q effect.change
+      = λ answer. elim answer as (λ answer. effect.answer ≡ answer → Q effect.change) [
+        | Ok given ↦ λ e. each (given ∷ []) (is.so (given ∷ []) (ap outcome_of e))
+        | Err cause ↦ λ e. subst Q (sym (is.idle cause (ap outcome_of e))) none
+      ] in
+      at effect.answer refl

@@ -106,7 +106,7 @@ Fits row = row_size row ≤ max_row_bytes
 
 module _ (sets : List BoundSet) (clauses : List (List BoundCmp)) where
   -- a row that is set fits, and another stays
-  one_fits : (row item : List Value) → Fits row → updated_row sets clauses row ≡ Ok item → (not (holds clauses row) || fits_row item) ≡ true → Fits item
+  one_fits : (row item : List Value) → Fits row → updated_row [] sets clauses row ≡ Ok item → (not (holds clauses row) || fits_row item) ≡ true → Fits item
   one_fits row item fits made test =
       let Claim : Bool → Type 0 = λ b. cond {A = Result (List Value) Denial} b (row_set sets [] row) (Ok row) ≡ Ok item → (not b || fits_row item) ≡ true → Fits item in
       let at : (b : Bool) → Claim b = λ b. elim b as Claim [
@@ -116,7 +116,7 @@ module _ (sets : List BoundSet) (clauses : List (List BoundCmp)) where
       at (holds clauses row) made test
 
   first_fits : (row item : List Value) (rows : List (List Value)) (others : Result (List (List Value)) Denial) (new : List (List Value)) → Fits row
-      → updated_row sets clauses row ≡ Ok item → ((more : List (List Value)) → others ≡ Ok more → set_rows_fit clauses rows more ≡ true → All Fits more)
+      → updated_row [] sets clauses row ≡ Ok item → ((more : List (List Value)) → others ≡ Ok more → set_rows_fit clauses rows more ≡ true → All Fits more)
       → with_first item others ≡ Ok new → set_rows_fit clauses (row ∷ rows) new ≡ true → All Fits new
   first_fits row item rows (Ok more) new fits made rest e test =
       let is : item ∷ more ≡ new = cc in
@@ -125,20 +125,20 @@ module _ (sets : List BoundSet) (clauses : List (List BoundCmp)) where
       subst (All Fits) is (All-cons Fits item more (one_fits row item fits made apart.0) (rest more refl apart.1))
   first_fits row item rows (Err cause) new fits made rest e test = absurd cc
 
-  both_fit : (row : List Value) (rows : List (List Value)) (first : Result (List Value) Denial) (new : List (List Value)) → updated_row sets clauses row ≡ first → Fits row
-      → ((more : List (List Value)) → updated_rows sets clauses rows ≡ Ok more → set_rows_fit clauses rows more ≡ true → All Fits more)
-      → and_others first (updated_rows sets clauses rows) ≡ Ok new → set_rows_fit clauses (row ∷ rows) new ≡ true → All Fits new
-  both_fit row rows (Ok item) new made fits rest e test = first_fits row item rows (updated_rows sets clauses rows) new fits made rest e test
+  both_fit : (row : List Value) (rows : List (List Value)) (first : Result (List Value) Denial) (new : List (List Value)) → updated_row [] sets clauses row ≡ first → Fits row
+      → ((more : List (List Value)) → updated_rows [] sets clauses rows ≡ Ok more → set_rows_fit clauses rows more ≡ true → All Fits more)
+      → and_others first (updated_rows [] sets clauses rows) ≡ Ok new → set_rows_fit clauses (row ∷ rows) new ≡ true → All Fits new
+  both_fit row rows (Ok item) new made fits rest e test = first_fits row item rows (updated_rows [] sets clauses rows) new fits made rest e test
   both_fit row rows (Err cause) new made fits rest e test = absurd cc
 
   -- the rows after an UPDATE fit, if those before do and each that was set does
-  updated_fit : (rows new : List (List Value)) → All Fits rows → updated_rows sets clauses rows ≡ Ok new → set_rows_fit clauses rows new ≡ true → All Fits new
+  updated_fit : (rows new : List (List Value)) → All Fits rows → updated_rows [] sets clauses rows ≡ Ok new → set_rows_fit clauses rows new ≡ true → All Fits new
   updated_fit [] new all e test = let is : [] ≡ new = cc in subst (All Fits) is (All-nil Fits)
   updated_fit (row ∷ rows) new all e test =
-      both_fit row rows (updated_row sets clauses row) new refl (All-head Fits row rows all) (λ more made fit. updated_fit rows more (All-tail Fits row rows all) made fit) e test
+      both_fit row rows (updated_row [] sets clauses row) new refl (All-head Fits row rows all) (λ more made fit. updated_fit rows more (All-tail Fits row rows all) made fit) e test
 
   -- a table stays within its limits if it may have the new rows
-  pub set_within : (found : Option Table) (new : List (List Value)) → IfSome found IsWithin → updated_rows sets clauses (rows_of found) ≡ Ok new
+  pub set_within : (found : Option Table) (new : List (List Value)) → IfSome found IsWithin → updated_rows [] sets clauses (rows_of found) ≡ Ok new
       → may_become clauses (rows_of found) new ≡ true → KeepsIn IsWithin found (λ table. record table { rows = new })
   set_within None new within made may = tt
   set_within (Some table) new within made may =

@@ -69,12 +69,12 @@ module _ (scope : List ScopeColumn) where
       ap₂ (λ (one : Kind) (others : List Kind). one ∷ others) (given_of_kind term column tests.0 parts.0) (given_of_kinds row columns tests.1 parts.1)
 
   -- each row of an INSERT that isn't denied has a value for each column, of its kind
-  pub given_typed : (rows : List (List Term)) → first_denial (insert_tests rows scope []) ≡ None → All (HasKinds (kinds_in scope)) (given_rows (bound_rows scope [] rows))
+  pub given_typed : (rows : List (List Term)) → first_denial (insert_tests rows scope []) ≡ None → All (HasKinds (kinds_in scope)) (given_rows [] (bound_rows scope [] rows))
   given_typed [] passes = All-nil (HasKinds (kinds_in scope))
   given_typed (row ∷ rows) passes =
       let tests = both_pass (row_tests scope [] row) (insert_tests rows scope []) passes in
       let first = passed (test (not (row_fits scope [] row)) denials.WrongType) (flat_map (given_tests []) row) tests.0 in
-      All-cons (HasKinds (kinds_in scope)) (map (term_value [] []) (map (bound_term scope []) row)) (given_rows (bound_rows scope [] rows))
+      All-cons (HasKinds (kinds_in scope)) (map (term_value [] []) (map (bound_term scope []) row)) (given_rows [] (bound_rows scope [] rows))
       (given_of_kinds row scope first.1 (holds_if (row_fits scope [] row) first.0)) (given_typed rows tests.1)
 
 -- ---- UPDATE
@@ -172,7 +172,7 @@ module _ (scope : List ScopeColumn) (few : length scope ≤ 16) where
 
   -- an updated row has values of the kinds that it had
   pub row_typed : (sets : List Set) (clauses : List (List BoundCmp)) (row new : List Value) → first_denial (sets_tests scope [] [] sets) ≡ None
-      → HasKinds (kinds_in scope) row → updated_row (map (bound_set scope []) sets) clauses row ≡ Ok new → HasKinds (kinds_in scope) new
+      → HasKinds (kinds_in scope) row → updated_row [] (map (bound_set scope []) sets) clauses row ≡ Ok new → HasKinds (kinds_in scope) new
   unfolding row_set
   row_typed sets clauses row new passes typed made =
       let bound : List BoundSet = map (bound_set scope []) sets in
@@ -204,10 +204,10 @@ module _ (P : List Value → Type 0) where
   both_so (Ok item) others new p rest e = first_so item others new (p item refl) rest e
   both_so (Err cause) others new p rest e = absurd cc
 
-  module _ (sets : List BoundSet) (clauses : List (List BoundCmp)) (each : (row new : List Value) → P row → updated_row sets clauses row ≡ Ok new → P new) where
+  module _ (sets : List BoundSet) (clauses : List (List BoundCmp)) (each : (row new : List Value) → P row → updated_row [] sets clauses row ≡ Ok new → P new) where
     -- what an update of a row keeps, an UPDATE keeps of each
-    pub updated_so : (rows new : List (List Value)) → All P rows → updated_rows sets clauses rows ≡ Ok new → All P new
+    pub updated_so : (rows new : List (List Value)) → All P rows → updated_rows [] sets clauses rows ≡ Ok new → All P new
     updated_so [] new all e = let is : [] ≡ new = cc in subst (All P) is (All-nil P)
     updated_so (row ∷ rows) new all e =
-        both_so (updated_row sets clauses row) (updated_rows sets clauses rows) new (λ item made. each row item (All-head P row rows all) made)
+        both_so (updated_row [] sets clauses row) (updated_rows [] sets clauses rows) new (λ item made. each row item (All-head P row rows all) made)
         (λ more made. updated_so rows more (All-tail P row rows all) made) e

@@ -20,10 +20,10 @@ module _ (scope : List ScopeColumn) where
   given_row (value ∷ row) = ap (λ values. value ∷ values) (given_row row)
 
   -- the rows of an INSERT of values are these values
-  pub given_as_written : (rows : List (List Value)) → given_rows (bound_rows scope [] (map (map terms.Lit) rows)) ≡ rows
+  pub given_as_written : (rows : List (List Value)) → given_rows [] (bound_rows scope [] (map (map terms.Lit) rows)) ≡ rows
   given_as_written [] = refl
   given_as_written (row ∷ rows) = let first : map (term_value [] []) (map (bound_term scope []) (map terms.Lit row)) ≡ row = given_row row in
-      let others : given_rows (bound_rows scope [] (map (map terms.Lit) rows)) ≡ rows = given_as_written rows in cc
+      let others : given_rows [] (bound_rows scope [] (map (map terms.Lit) rows)) ≡ rows = given_as_written rows in cc
 
 -- ---- UPDATE
 
@@ -34,15 +34,15 @@ module _ (sets : List BoundSet) (clauses : List (List BoundCmp)) where
   first_put row rows (Err cause) new same e = absurd cc
 
   both_put : (row : List Value) (rows : List (List Value)) (first : Result (List Value) Denial) (new : List (List Value))
-      → ((more : List (List Value)) → updated_rows sets clauses rows ≡ Ok more → length more ≡ length rows)
-      → and_others first (updated_rows sets clauses rows) ≡ Ok new → length new ≡ length (row ∷ rows)
-  both_put row rows (Ok item) new same e = first_put item rows (updated_rows sets clauses rows) new same e
+      → ((more : List (List Value)) → updated_rows [] sets clauses rows ≡ Ok more → length more ≡ length rows)
+      → and_others first (updated_rows [] sets clauses rows) ≡ Ok new → length new ≡ length (row ∷ rows)
+  both_put row rows (Ok item) new same e = first_put item rows (updated_rows [] sets clauses rows) new same e
   both_put row rows (Err cause) new same e = absurd cc
 
   -- an UPDATE gives as many rows
-  pub as_many_updated : (rows new : List (List Value)) → updated_rows sets clauses rows ≡ Ok new → length new ≡ length rows
+  pub as_many_updated : (rows new : List (List Value)) → updated_rows [] sets clauses rows ≡ Ok new → length new ≡ length rows
   as_many_updated [] new e = let is : [] ≡ new = cc in omega (arith, ap length is)
-  as_many_updated (row ∷ rows) new e = both_put row rows (updated_row sets clauses row) new (as_many_updated rows) e
+  as_many_updated (row ∷ rows) new e = both_put row rows (updated_row [] sets clauses row) new (as_many_updated rows) e
 
 ---- which rows match
 

@@ -1,5 +1,5 @@
 -- What each done statement changes and answers.
-use Rattle.std.proofs.Common.{◌≡◌, ℕ, Bool, true, false, not, cond, ◌||◌, List, [], ◌∷◌, ◌++◌, map, flat_map, length, Option, Some, None, is_some, is_none, Result, Ok, Err, refl, subst}
+use Rattle.std.proofs.Common.{◌≡◌, ℕ, Bool, true, false, not, cond, ◌||◌, List, [], ◌∷◌, ◌++◌, map, flat_map, length, Option, Some, None, is_some, is_none, Result, Ok, Err, refl, sym, ap, ◌∙◌, subst}
 use Rattle.rs_base.specs.declared.name.Swn.{Swn}
 use Rattle.rs_base.specs.declared.reply.Answer.{Answer}
 use Rattle.rs_base.specs.declared.reply.Answer.TheVariants as answers
@@ -17,6 +17,8 @@ use Rattle.rs_ast.specs.declared.entry.IndexOf.{IndexOf}
 use Rattle.rs_ast.specs.declared.select.Select.{Select}
 use Rattle.rs_ast.specs.declared.stmt.Dml.{Dml}
 use Rattle.rs_ast.specs.declared.stmt.Dml.TheVariants as dmls
+use Rattle.rs_ast.specs.declared.stmt.Stmt.{Stmt}
+use Rattle.rs_ast.specs.declared.stmt.Stmt.TheVariants as stmts
 use Rattle.rs_plan.specs.declared.bound.Bound.TheVariants as bounds
 use Rattle.rs_bind_query.specs.Binding.{select_bound, bound_select, shape_of}
 use Rattle.rs_bind_change.specs.Binding.{bound_rows, bound_set, insert_bound, update_bound, delete_bound}
@@ -29,8 +31,6 @@ use Rattle.rs_scope.specs.Scope.{query_scope, table_scope}
 use Rattle.rs_scope.specs.declared.heading.Heading.{Heading}
 use Rattle.rs_scope.specs.declared.scope.ScopeColumn.{ScopeColumn}
 use Rattle.rs_bind.proofs.OverTests.{both_pass}
-use Rattle.rs_mean.specs.declared.built.Stmt.{Stmt}
-use Rattle.rs_mean.specs.declared.built.Stmt.TheVariants as stmts
 use Rattle.rs_mean.specs.declared.change.Change.{Change}
 use Rattle.rs_mean.specs.declared.change.Change.TheVariants as changes
 use Rattle.rs_mean.specs.declared.execution.Execution.{Execution}
@@ -39,10 +39,14 @@ use Rattle.rs_mean.specs.Database.{Database, table_named, target_of}
 use Rattle.rs_mean.specs.Effects.{done}
 use Rattle.rs_mean.specs.Meaning.{effect_of_stmt, effect_of, meaning}
 use Rattle.rs_mean.specs.Names.{name_of, names_no_site, own_synonym, site_test, table_tests}
+use Rattle.rs_mean.specs.Outcome.{Done}
+use Rattle.rs_eval.specs.Filling.{filled}
 use Rattle.rs_eval.specs.RowChanges.{given_rows, has_room, inserted, updated_rows, may_become, within_limits, updated, other_rows, matching_count}
-use Rattle.rs_mean.specs.RowStatements.{rows_in, heading_in, answering, inserting, updating, once_bound, tables_in, select, insert, update, delete, effect_of_dml}
+use Rattle.rs_mean.specs.RowStatements.{rows_in, heading_in, answering, inserting, updating, no_arguments, once_bound, tables_in, select, insert, update, delete, effect_of_dml}
 use Rattle.rs_join.specs.Selected.{selected}
 use Rattle.rs_mean.specs.TableStatements.{create_tests, new_table, create_table, drop_table, columns_of, indexes_of, column_index, has_index, is_indexed, create_index_tests, new_index, create_index, drop_index_tests, without_index, drop_index, create_synonym_tests, create_synonym, drop_synonym_tests, drop_synonym}
+use Rattle.rs_eval.proofs.Unfilled.{clauses_stay}
+use Rattle.rs_mean.proofs.Meanings.{outcome_is}
 use Rattle.law_mean.proofs.LawTests.{passed, holds_if, absent_if, neither}
 use Rattle.law_mean.proofs.LawEffects.{IsSo, so_denied, so_done, so_unless}
 
@@ -182,23 +186,30 @@ module _ (db : Database) (names : List Swn) (query : Select) where
   abbrev tests : List Test
   tests = select_tests query (map (heading_in db) names) []
 
-  answering_so : first_denial tests ≡ None → (rows : Result (List (List Value)) Denial)
-      → selected (bound_clauses scope [] query.clauses) (shape_of scope query) (map (rows_in db) names) ≡ rows → IsSo (Selects db names query) (answering rows)
-  answering_so fit (Ok rows) e = so_done (Selects db names query) changes.Nothing (answers.Rows rows) (record { rows = rows; is = refl; answers = refl; fit = fit; found = e })
+  abbrev predicate : List (List BoundCmp)
+  predicate = bound_clauses scope [] query.clauses
+
+  abbrev found_by : List (List BoundCmp) → Result (List (List Value)) Denial
+  found_by clauses = selected clauses (shape_of scope query) (map (rows_in db) names)
+
+  answering_so : first_denial tests ≡ None → (rows : Result (List (List Value)) Denial) → found_by (filled [] predicate) ≡ rows → IsSo (Selects db names query) (answering rows)
+  answering_so fit (Ok rows) e =
+      so_done (Selects db names query) changes.Nothing (answers.Rows rows)
+      (record { rows = rows; is = refl; answers = refl; fit = fit; found = ap found_by (sym (clauses_stay predicate)) ∙ e })
   answering_so fit (Err cause) e = so_denied (Selects db names query) cause
 
-  select_so : IsSo (Selects db names query) (select (tables_in db) names query)
+  select_so : IsSo (Selects db names query) (select no_arguments (tables_in db) names query)
   unfolding select_bound
   select_so =
       let headings : List Heading = map (heading_in db) names in
       let tables : List (List (List Value)) = map (rows_in db) names in
       let Claim : Option Denial → Type 0 = λ denial. first_denial tests ≡ denial
-      → IsSo (Selects db names query) (once_bound tables (binding.unless_denied denial (bound_select query headings []))) in
+      → IsSo (Selects db names query) (once_bound [] tables (binding.unless_denied denial (bound_select query headings []))) in
       let at : (denial : Option Denial) → Claim denial = λ denial. elim denial as Claim [
-        | None ↦ λ fit. answering_so fit (selected (bound_clauses scope [] query.clauses) (shape_of scope query) tables) refl
+        | None ↦ λ fit. answering_so fit (found_by (filled [] predicate)) refl
         | Some cause ↦ λ e. so_denied (Selects db names query) cause
       ] in
-      so_unless (Selects db names query) (first_denial (flat_map (table_tests db) names)) (once_bound tables (select_bound query headings []))
+      so_unless (Selects db names query) (first_denial (flat_map (table_tests db) names)) (once_bound [] tables (select_bound query headings []))
       (λ e. at (first_denial tests) refl)
 
 -- ---- INSERT
@@ -208,7 +219,7 @@ scope_in db name = table_scope (heading_in db name)
 
 -- the rows that an INSERT names
 abbrev pub rows_given : Database → Swn → List (List Term) → List (List Value)
-rows_given db name rows = given_rows (bound_rows (scope_in db name) [] rows)
+rows_given db name rows = given_rows [] (bound_rows (scope_in db name) [] rows)
 
 -- no test of kinds denies the rows
 abbrev pub RowsFit : Database → Swn → List (List Term) → Type 0
@@ -222,7 +233,7 @@ pub record Inserts (db : Database) (name : Swn) (rows : List (List Term)) (chang
   pub room : has_room (rows_in db name) (rows_given db name rows) ≡ true
 
 module _ (db : Database) (name : Swn) (rows : List (List Term)) (is_there : IsThere db name) (fit : RowsFit db name rows) where
-  inserting_so : IsSo (Inserts db name rows) (inserting name (inserted (bound_rows (scope_in db name) [] rows) (rows_in db name)))
+  inserting_so : IsSo (Inserts db name rows) (inserting name (inserted [] (bound_rows (scope_in db name) [] rows) (rows_in db name)))
   inserting_so =
       let new : List (List Value) = rows_given db name rows in
       let Claim : Bool → Type 0 = λ room. has_room (rows_in db name) new ≡ room → IsSo (Inserts db name rows) (inserting name (cond {A = Result (List (List Value)) Denial} room (Ok new) (Err denials.TableFull))) in
@@ -233,17 +244,17 @@ module _ (db : Database) (name : Swn) (rows : List (List Term)) (is_there : IsTh
       ] in
       at (has_room (rows_in db name) new) refl
 
-insert_so : (db : Database) (name : Swn) (rows : List (List Term)) → IsSo (Inserts db name rows) (insert (tables_in db) name rows)
+insert_so : (db : Database) (name : Swn) (rows : List (List Term)) → IsSo (Inserts db name rows) (insert no_arguments (tables_in db) name rows)
 unfolding insert_bound
 insert_so db name rows =
     let tables : List (List (List Value)) = rows_in db name ∷ [] in
     let Claim : Option Denial → Type 0 = λ denial. first_denial (insert_tests rows (scope_in db name) []) ≡ denial
-    → IsSo (Inserts db name rows) (once_bound tables (binding.unless_denied denial (bounds.Insert name (bound_rows (scope_in db name) [] rows)))) in
+    → IsSo (Inserts db name rows) (once_bound [] tables (binding.unless_denied denial (bounds.Insert name (bound_rows (scope_in db name) [] rows)))) in
     let at : IsThere db name → (denial : Option Denial) → Claim denial = λ is_there denial. elim denial as Claim [
       | None ↦ λ fit. inserting_so db name rows is_there fit
       | Some cause ↦ λ e. so_denied (Inserts db name rows) cause
     ] in
-    so_unless (Inserts db name rows) (first_denial (table_tests db name)) (once_bound tables (insert_bound rows (heading_in db name) []))
+    so_unless (Inserts db name rows) (first_denial (table_tests db name)) (once_bound [] tables (insert_bound rows (heading_in db name) []))
     (λ e. at (there db name [] e).0 (first_denial (insert_tests rows (scope_in db name) [])) refl)
 
 -- ---- UPDATE
@@ -264,11 +275,11 @@ pub record Updates (db : Database) (name : Swn) (sets : List Set) (written : Lis
   pub answers : given ≡ answers.Changed (matching_count clauses (rows_in db name)) ∷ []
   pub there : IsThere db name
   pub fit : SetsFit db name sets
-  pub made : updated_rows (sets_in db name sets) clauses (rows_in db name) ≡ Ok new
+  pub made : updated_rows [] (sets_in db name sets) clauses (rows_in db name) ≡ Ok new
   pub within : may_become clauses (rows_in db name) new ≡ true
 
 module _ (db : Database) (name : Swn) (sets : List Set) (written : List Clause) (clauses : List (List BoundCmp)) (bound : clauses ≡ bound_clauses (scope_in db name) [] written) (is_there : IsThere db name) (fit : SetsFit db name sets) where
-  within_so : (new : List (List Value)) → updated_rows (sets_in db name sets) clauses (rows_in db name) ≡ Ok new
+  within_so : (new : List (List Value)) → updated_rows [] (sets_in db name sets) clauses (rows_in db name) ≡ Ok new
       → IsSo (Updates db name sets written) (updating name (matching_count clauses (rows_in db name)) (within_limits clauses (rows_in db name) (Ok new)))
   within_so new made =
       let Claim : Bool → Type 0 = λ within. may_become clauses (rows_in db name) new ≡ within
@@ -280,29 +291,29 @@ module _ (db : Database) (name : Swn) (sets : List Set) (written : List Clause) 
       ] in
       at (may_become clauses (rows_in db name) new) refl
 
-  updating_so : IsSo (Updates db name sets written) (updating name (matching_count clauses (rows_in db name)) (updated (sets_in db name sets) clauses (rows_in db name)))
+  updating_so : IsSo (Updates db name sets written) (updating name (matching_count clauses (rows_in db name)) (updated [] (sets_in db name sets) clauses (rows_in db name)))
   updating_so =
-      let Claim : Result (List (List Value)) Denial → Type 0 = λ rows. updated_rows (sets_in db name sets) clauses (rows_in db name) ≡ rows
+      let Claim : Result (List (List Value)) Denial → Type 0 = λ rows. updated_rows [] (sets_in db name sets) clauses (rows_in db name) ≡ rows
       → IsSo (Updates db name sets written) (updating name (matching_count clauses (rows_in db name)) (within_limits clauses (rows_in db name) rows)) in
       let at : (rows : Result (List (List Value)) Denial) → Claim rows = λ rows. elim rows as Claim [
         | Ok new ↦ λ e. within_so new e
         | Err cause ↦ λ e. so_denied (Updates db name sets written) cause
       ] in
-      at (updated_rows (sets_in db name sets) clauses (rows_in db name)) refl
+      at (updated_rows [] (sets_in db name sets) clauses (rows_in db name)) refl
 
-update_so : (db : Database) (name : Swn) (sets : List Set) (clauses : List Clause) → IsSo (Updates db name sets clauses) (update (tables_in db) name sets clauses)
+update_so : (db : Database) (name : Swn) (sets : List Set) (clauses : List Clause) → IsSo (Updates db name sets clauses) (update no_arguments (tables_in db) name sets clauses)
 unfolding update_bound
 update_so db name sets clauses =
     let tables : List (List (List Value)) = rows_in db name ∷ [] in
-    let bound : List (List BoundCmp) = bound_clauses (scope_in db name) [] clauses in
+    let predicate : List (List BoundCmp) = bound_clauses (scope_in db name) [] clauses in
     let tests : List Test = update_tests sets clauses (scope_in db name) [] in
     let Claim : Option Denial → Type 0 = λ denial. first_denial tests ≡ denial
-    → IsSo (Updates db name sets clauses) (once_bound tables (binding.unless_denied denial (bounds.Update name (sets_in db name sets) bound))) in
+    → IsSo (Updates db name sets clauses) (once_bound [] tables (binding.unless_denied denial (bounds.Update name (sets_in db name sets) predicate))) in
     let at : IsThere db name → (denial : Option Denial) → Claim denial = λ is_there denial. elim denial as Claim [
-      | None ↦ λ e. updating_so db name sets clauses bound refl is_there (both_pass (sets_tests (scope_in db name) [] [] sets) (clauses_tests (scope_in db name) [] clauses) e).0
+      | None ↦ λ e. updating_so db name sets clauses (filled [] predicate) (clauses_stay predicate) is_there (both_pass (sets_tests (scope_in db name) [] [] sets) (clauses_tests (scope_in db name) [] clauses) e).0
       | Some cause ↦ λ e. so_denied (Updates db name sets clauses) cause
     ] in
-    so_unless (Updates db name sets clauses) (first_denial (table_tests db name)) (once_bound tables (update_bound sets clauses (heading_in db name) []))
+    so_unless (Updates db name sets clauses) (first_denial (table_tests db name)) (once_bound [] tables (update_bound sets clauses (heading_in db name) []))
     (λ e. at (there db name [] e).0 (first_denial tests) refl)
 
 -- ---- DELETE
@@ -314,21 +325,29 @@ pub record Deletes (db : Database) (name : Swn) (written : List Clause) (change 
   pub answers : given ≡ answers.Changed (matching_count clauses (rows_in db name)) ∷ []
   pub there : IsThere db name
 
-delete_so : (db : Database) (name : Swn) (clauses : List Clause) → IsSo (Deletes db name clauses) (delete (tables_in db) name clauses)
+delete_so : (db : Database) (name : Swn) (clauses : List Clause) → IsSo (Deletes db name clauses) (delete no_arguments (tables_in db) name clauses)
 unfolding delete_bound
 delete_so db name clauses =
     let tables : List (List (List Value)) = rows_in db name ∷ [] in
-    let bound : List (List BoundCmp) = bound_clauses (scope_in db name) [] clauses in
-    let Claim : Option Denial → Type 0 = λ denial. IsSo (Deletes db name clauses) (once_bound tables (binding.unless_denied denial (bounds.Delete name bound))) in
+    let predicate : List (List BoundCmp) = bound_clauses (scope_in db name) [] clauses in
+    let Claim : Option Denial → Type 0 = λ denial. IsSo (Deletes db name clauses) (once_bound [] tables (binding.unless_denied denial (bounds.Delete name predicate))) in
     let at : IsThere db name → (denial : Option Denial) → Claim denial = λ is_there denial. elim denial as Claim [
-      | None ↦ so_done (Deletes db name clauses) (changes.SetRows name (other_rows bound (rows_in db name))) (answers.Changed (matching_count bound (rows_in db name)))
-          (record { clauses = bound; bound = refl; is = refl; answers = refl; there = is_there })
+      | None ↦ so_done (Deletes db name clauses) (changes.SetRows name (other_rows (filled [] predicate) (rows_in db name)))
+          (answers.Changed (matching_count (filled [] predicate) (rows_in db name)))
+          (record { clauses = filled [] predicate; bound = clauses_stay predicate; is = refl; answers = refl; there = is_there })
       | Some cause ↦ so_denied (Deletes db name clauses) cause
     ] in
-    so_unless (Deletes db name clauses) (first_denial (table_tests db name)) (once_bound tables (delete_bound clauses (heading_in db name) []))
+    so_unless (Deletes db name clauses) (first_denial (table_tests db name)) (once_bound [] tables (delete_bound clauses (heading_in db name) []))
     (λ e. at (there db name [] e).0 (first_denial (delete_tests clauses (scope_in db name) [])))
 
 -- ---- every statement
+
+-- A statement that isn't executed so far changes nothing.
+pub record DoesNothing (change : Change) (given : List Answer) : Type 0 where
+  pub is : change ≡ changes.Nothing
+
+nothing_so : IsSo DoesNothing (done changes.Nothing answers.Ok)
+nothing_so = so_done DoesNothing changes.Nothing answers.Ok (record { is = refl })
 
 abbrev pub DoesOfDml : Database → Execution → Dml → Change → List Answer → Type 0
 DoesOfDml db execution (dmls.Select query) = Selects db (map (λ table. name_of db execution table.name) query.from) query
@@ -345,8 +364,9 @@ Does db execution (stmts.DropIndex index written) = DropsIndex db (name_of db ex
 Does db execution (stmts.CreateSynonym synonym written) = AddsSynonym db execution synonym (name_of db execution written)
 Does db execution (stmts.DropSynonym synonym) = DropsSynonym db execution synonym
 Does db execution (stmts.Dml dml) = DoesOfDml db execution dml
+Does db execution stmt = DoesNothing
 
-dml_so : (db : Database) (execution : Execution) (dml : Dml) → IsSo (DoesOfDml db execution dml) (effect_of_dml db execution dml)
+dml_so : (db : Database) (execution : Execution) (dml : Dml) → IsSo (DoesOfDml db execution dml) (effect_of_dml no_arguments db execution dml)
 unfolding effect_of_dml
 dml_so db execution (dmls.Select query) = select_so db (map (λ table. name_of db execution table.name) query.from) query
 dml_so db execution (dmls.Insert written rows) = insert_so db (name_of db execution written) rows
@@ -361,6 +381,7 @@ stmt_so db execution (stmts.DropIndex index written) = drop_index_so db (name_of
 stmt_so db execution (stmts.CreateSynonym synonym written) = create_synonym_so db execution synonym (name_of db execution written)
 stmt_so db execution (stmts.DropSynonym synonym) = drop_synonym_so db execution synonym
 stmt_so db execution (stmts.Dml dml) = dml_so db execution dml
+stmt_so db execution stmt = nothing_so
 
 -- the effect of an execution is that of its statement
 pub effect_so : (db : Database) (execution : Execution) → IsSo (Does db execution execution.stmt) (effect_of db execution)
@@ -368,7 +389,7 @@ unfolding effect_of
 effect_so db execution = stmt_so db execution execution.stmt
 
 -- what an execution of this statement changes and answers if it is done
-pub does : (db : Database) (execution : Execution) (stmt : Stmt) (given : List Answer) → execution.stmt ≡ stmt → (meaning db execution).1 ≡ Ok given
+pub does : (db : Database) (execution : Execution) (stmt : Stmt) (given : List Answer) → execution.stmt ≡ stmt → (meaning db execution).1 ≡ Done given
     → Does db execution stmt (effect_of db execution).change given
-unfolding meaning
-does db execution stmt given is e = subst (λ (s : Stmt). Does db execution s (effect_of db execution).change given) is ((effect_so db execution).so given e)
+does db execution stmt given is e =
+    subst (λ (s : Stmt). Does db execution s (effect_of db execution).change given) is ((effect_so db execution).so given (sym (outcome_is db execution) ∙ e))

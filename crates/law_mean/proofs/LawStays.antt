@@ -6,8 +6,8 @@ use Rattle.rs_base.specs.declared.name.Swn.{Swn}
 use Rattle.rs_base.specs.declared.reply.Answer.{Answer}
 use Rattle.rs_ast.specs.declared.stmt.Dml.{Dml}
 use Rattle.rs_ast.specs.declared.stmt.Dml.TheVariants as dmls
-use Rattle.rs_mean.specs.declared.built.Stmt.{Stmt}
-use Rattle.rs_mean.specs.declared.built.Stmt.TheVariants as stmts
+use Rattle.rs_ast.specs.declared.stmt.Stmt.{Stmt}
+use Rattle.rs_ast.specs.declared.stmt.Stmt.TheVariants as stmts
 use Rattle.rs_mean.specs.declared.change.Change.{Change}
 use Rattle.rs_mean.specs.declared.execution.Execution.{Execution}
 use Rattle.rs_mean.specs.Database.{Database, table_named}
@@ -44,6 +44,7 @@ module _ (db : Database) (execution : Execution) (change : Change) (given : List
     stays_within (stmts.CreateSynonym synonym written) so = subst (Keeps IsWithin db) (sym so.is) tt
     stays_within (stmts.DropSynonym synonym) so = subst (Keeps IsWithin db) (sym so.is) tt
     stays_within (stmts.Dml dml) so = dml_within dml so
+    stays_within stmt so = subst (Keeps IsWithin db) (sym so.is) tt
 
   module _ (each : EachTable (IsAtSite db.sites) db) where
     dml_places : (dml : Dml) → DoesOfDml db execution dml change given → Keeps (IsAtSite db.sites) db change
@@ -65,6 +66,7 @@ module _ (db : Database) (execution : Execution) (change : Change) (given : List
     places_stay (stmts.CreateSynonym synonym written) so = subst (Keeps (IsAtSite db.sites) db) (sym so.is) tt
     places_stay (stmts.DropSynonym synonym) so = subst (Keeps (IsAtSite db.sites) db) (sym so.is) tt
     places_stay (stmts.Dml dml) so = dml_places dml so
+    places_stay stmt so = subst (Keeps (IsAtSite db.sites) db) (sym so.is) tt
 
   module _ (each : EachTable HasDistinctColumns db) where
     dml_columns : (dml : Dml) → DoesOfDml db execution dml change given → Keeps HasDistinctColumns db change
@@ -81,6 +83,7 @@ module _ (db : Database) (execution : Execution) (change : Change) (given : List
     columns_stay (stmts.CreateSynonym synonym written) so = subst (Keeps HasDistinctColumns db) (sym so.is) tt
     columns_stay (stmts.DropSynonym synonym) so = subst (Keeps HasDistinctColumns db) (sym so.is) tt
     columns_stay (stmts.Dml dml) so = dml_columns dml so
+    columns_stay stmt so = subst (Keeps HasDistinctColumns db) (sym so.is) tt
 
   module _ (each : EachTable HasDistinctIndexes db) where
     dml_indexes : (dml : Dml) → DoesOfDml db execution dml change given → Keeps HasDistinctIndexes db change
@@ -102,6 +105,7 @@ module _ (db : Database) (execution : Execution) (change : Change) (given : List
     indexes_stay (stmts.CreateSynonym synonym written) so = subst (Keeps HasDistinctIndexes db) (sym so.is) tt
     indexes_stay (stmts.DropSynonym synonym) so = subst (Keeps HasDistinctIndexes db) (sym so.is) tt
     indexes_stay (stmts.Dml dml) so = dml_indexes dml so
+    indexes_stay stmt so = subst (Keeps HasDistinctIndexes db) (sym so.is) tt
 
   module _ (each : EachTable IsTyped db) where
     dml_typed : (dml : Dml) → DoesOfDml db execution dml change given → Keeps IsTyped db change
@@ -126,3 +130,4 @@ module _ (db : Database) (execution : Execution) (change : Change) (given : List
     stays_typed (stmts.CreateSynonym synonym written) few so = subst (Keeps IsTyped db) (sym so.is) tt
     stays_typed (stmts.DropSynonym synonym) few so = subst (Keeps IsTyped db) (sym so.is) tt
     stays_typed (stmts.Dml dml) few so = dml_typed dml so
+    stays_typed stmt few so = subst (Keeps IsTyped db) (sym so.is) tt

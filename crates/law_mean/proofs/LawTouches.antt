@@ -6,8 +6,8 @@ use Rattle.rs_base.specs.declared.name.Swn.{Swn}
 use Rattle.rs_base.specs.declared.reply.Answer.{Answer}
 use Rattle.rs_ast.specs.declared.stmt.Dml.{Dml}
 use Rattle.rs_ast.specs.declared.stmt.Dml.TheVariants as dmls
-use Rattle.rs_mean.specs.declared.built.Stmt.{Stmt}
-use Rattle.rs_mean.specs.declared.built.Stmt.TheVariants as stmts
+use Rattle.rs_ast.specs.declared.stmt.Stmt.{Stmt}
+use Rattle.rs_ast.specs.declared.stmt.Stmt.TheVariants as stmts
 use Rattle.rs_mean.specs.declared.change.Change.{Change}
 use Rattle.rs_mean.specs.declared.execution.Execution.{Execution}
 use Rattle.rs_mean.specs.declared.synonym.Synonym.{Synonym}
@@ -36,6 +36,7 @@ module _ (db : Database) (execution : Execution) (change : Change) (given : List
   touches (stmts.CreateSynonym synonym written) so = subst (TouchesOnly None) (sym so.is) tt
   touches (stmts.DropSynonym synonym) so = subst (TouchesOnly None) (sym so.is) tt
   touches (stmts.Dml dml) so = dml_touches dml so
+  touches stmt so = subst (TouchesOnly None) (sym so.is) tt
 
   dml_of_tables : (dml : Dml) → DoesOfDml db execution dml change given → IsOfTables change
   dml_of_tables (dmls.Select query) so = subst IsOfTables (sym so.is) tt
@@ -51,6 +52,7 @@ module _ (db : Database) (execution : Execution) (change : Change) (given : List
   of_tables (stmts.CreateSynonym synonym written) leaves so = absurd cc
   of_tables (stmts.DropSynonym synonym) leaves so = absurd cc
   of_tables (stmts.Dml dml) leaves so = dml_of_tables dml so
+  of_tables stmt leaves so = subst IsOfTables (sym so.is) tt
 
   abbrev own : Option (List ℕ) → Option Synonym
   own synonym = option_map (own_synonym execution) synonym
@@ -69,3 +71,4 @@ module _ (db : Database) (execution : Execution) (change : Change) (given : List
   touches_synonym (stmts.CreateSynonym synonym written) so = subst (TouchesSynonym (own (Some synonym))) (sym so.is) refl
   touches_synonym (stmts.DropSynonym synonym) so = subst (TouchesSynonym (own (Some synonym))) (sym so.is) refl
   touches_synonym (stmts.Dml dml) so = dml_of_synonyms dml so
+  touches_synonym stmt so = subst (TouchesSynonym None) (sym so.is) tt

@@ -57,18 +57,18 @@ module _ (alias : List ℕ) where
 
   -- a table stays typed with the rows of an INSERT that isn't denied
   pub longer_typed : (found : Option Table) (rows : List (List Term)) → IfSome found IsTyped → first_denial (insert_tests rows (scope_of found) []) ≡ None
-      → KeepsIn IsTyped found (with_rows (given_rows (bound_rows (scope_of found) [] rows)))
+      → KeepsIn IsTyped found (with_rows (given_rows [] (bound_rows (scope_of found) [] rows)))
   longer_typed None rows typed passes = tt
   longer_typed (Some table) rows typed passes =
       let scope : List ScopeColumn = columns_as alias table.columns in
-      let new : List (List Value) = given_rows (bound_rows scope [] rows) in
+      let new : List (List Value) = given_rows [] (bound_rows scope [] rows) in
       let given : All (HasKinds (kinds_of table.columns)) new
       = subst (λ (these : List Kind). All (HasKinds these) new) (kinds_as alias table.columns) (given_typed scope rows passes) in
       record { few = typed.few; kinds = All-append (HasKinds (kinds_of table.columns)) table.rows new typed.kinds given }
 
   -- a table stays typed with the rows of an UPDATE that isn't denied
   pub updated_typed : (found : Option Table) (sets : List Set) (clauses : List (List BoundCmp)) (new : List (List Value)) → IfSome found IsTyped
-      → first_denial (sets_tests (scope_of found) [] [] sets) ≡ None → updated_rows (map (bound_set (scope_of found) []) sets) clauses (rows_of found) ≡ Ok new
+      → first_denial (sets_tests (scope_of found) [] [] sets) ≡ None → updated_rows [] (map (bound_set (scope_of found) []) sets) clauses (rows_of found) ≡ Ok new
       → KeepsIn IsTyped found (λ table. record table { rows = new })
   updated_typed None sets clauses new typed passes made = tt
   updated_typed (Some table) sets clauses new typed passes made =

@@ -15,8 +15,8 @@ use Rattle.rs_ast.specs.declared.clause.Clause.{Clause}
 use Rattle.rs_ast.specs.declared.change.Term.TheVariants as terms
 use Rattle.rs_ast.specs.declared.entry.IndexOf.{IndexOf}
 use Rattle.rs_ast.specs.declared.stmt.Dml.TheVariants as dmls
-use Rattle.rs_mean.specs.declared.built.Stmt.{Stmt}
-use Rattle.rs_mean.specs.declared.built.Stmt.TheVariants as stmts
+use Rattle.rs_ast.specs.declared.stmt.Stmt.{Stmt}
+use Rattle.rs_ast.specs.declared.stmt.Stmt.TheVariants as stmts
 use Rattle.rs_mean.specs.declared.change.Change.{Change}
 use Rattle.rs_mean.specs.declared.change.Change.TheVariants as changes
 use Rattle.rs_mean.specs.declared.execution.Execution.{Execution}
@@ -24,9 +24,9 @@ use Rattle.rs_mean.specs.declared.synonym.Synonym.{Synonym}
 use Rattle.rs_mean.specs.declared.table.Table.{Table}
 use Rattle.rs_mean.specs.Changes.{changed, with_rows}
 use Rattle.rs_mean.specs.Columns.{has_name}
-use Rattle.rs_mean.specs.Database.{Database, table_named, target_of}
-use Rattle.law_mean.specs.Laws.{AnswersAreTyped, AreSet, assignments_on, predicate_on, DeniedChangesNothing, SelectChangesNothing, SitesStay, NamesStayInOrder, SynonymsStayInOrder, OthersStay, SynonymsStay, OtherSynonymsStay, IndexIsMade, IndexIsDropped, SynonymIsMade, SynonymIsDropped, TableIsMade, TableIsDropped, RowsAreAppended, RowsAreTakenOut, RowsAreChanged, EachTable, IsAtSite, IsWithin, TablesStayAtSites, TablesStayWithin, HasDistinctColumns, ColumnsStayDistinct, HasDistinctIndexes, IndexesStayDistinct, IsTyped, RowsStayTyped, written_of, synonym_of}
-use Rattle.rs_mean.specs.Meaning.{effect_of, meaning}
+use Rattle.rs_mean.specs.Database.{Database, table_named, IsInOrder, target_of, AreSynonymsInOrder}
+use Rattle.law_mean.specs.Laws.{after, AnswersAreTyped, AreSet, assignments_on, predicate_on, DeniedChangesNothing, SelectChangesNothing, SitesStay, NamesStayInOrder, SynonymsStayInOrder, OthersStay, SynonymsStay, OtherSynonymsStay, IndexIsMade, IndexIsDropped, SynonymIsMade, SynonymIsDropped, TableIsMade, TableIsDropped, RowsAreAppended, RowsAreTakenOut, RowsAreChanged, EachTable, IsAtSite, IsWithin, TablesStayAtSites, TablesStayWithin, HasDistinctColumns, ColumnsStayDistinct, HasDistinctIndexes, IndexesStayDistinct, IsTyped, RowsStayTyped, written_of, synonym_of}
+use Rattle.rs_mean.specs.Meaning.{effect_of}
 use Rattle.rs_mean.specs.Names.{name_of, own_synonym}
 use Rattle.rs_eval.specs.RowChanges.{other_rows, matching_count, updated_row, updated_rows, and_others}
 use Rattle.rs_scope.specs.Predicates.{bound_clauses}
@@ -46,61 +46,60 @@ use Rattle.law_mean.proofs.LawTouches.{touches, of_tables, touches_synonym}
 use Rattle.law_mean.proofs.LawStays.{stays_within, places_stay, columns_stay, indexes_stay, stays_typed}
 use Rattle.law_mean.proofs.LawStatements.{Does, does, effect_so, scope_in, sets_in}
 use Rattle.law_mean.proofs.LawTables.{sites_stay_at, change_in_order, TouchesOnly, others_stay_at, IsOfTables, synonyms_stay_at, named_put, named_dropped, named_changing}
+use Rattle.rs_mean.proofs.Meanings.{changed_is, outcome_is}
 use Rattle.rs_mean.proofs.Orders.{synonym_total}
+
+-- the database after an execution of this change
+after_by : (db : Database) (execution : Execution) (change : Change) → (effect_of db execution).change ≡ change → after db execution ≡ changed change db
+after_by db execution change is = changed_is db execution ∙ ap (λ one. changed one db) is
 
 -- ---- what stays
 
 pub denied_changes_nothing : DeniedChangesNothing
-unfolding meaning
-denied_changes_nothing db execution cause e = ap (λ change. changed change db) ((effect_so db execution).idle cause e)
+denied_changes_nothing db execution cause e = after_by db execution changes.Nothing ((effect_so db execution).idle cause (sym (outcome_is db execution) ∙ e))
 
 pub select_changes_nothing : SelectChangesNothing
-unfolding meaning
 select_changes_nothing db execution query is =
     let idle : (effect_of db execution).change ≡ changes.Nothing
     = holds_of_change (Does db execution execution.stmt) (λ change. change ≡ changes.Nothing) (effect_of db execution) (effect_so db execution) refl
     (λ given so. (subst (λ (stmt : Stmt). Does db execution stmt (effect_of db execution).change given) is so).is) in
-    ap (λ change. changed change db) idle
+    after_by db execution changes.Nothing idle
 
 pub sites_stay : SitesStay
-unfolding meaning
-sites_stay db execution = sites_stay_at (effect_of db execution).change db
+sites_stay db execution = ap (λ (new : Database). new.sites) (changed_is db execution) ∙ sites_stay_at (effect_of db execution).change db
 
 pub names_stay_in_order : NamesStayInOrder
-unfolding meaning IsStrictlySortedBy
-names_stay_in_order = (λ sites. tt, λ db execution up. change_in_order (effect_of db execution).change db up)
+unfolding IsStrictlySortedBy
+names_stay_in_order = (λ sites. tt, λ db execution up. subst IsInOrder (sym (changed_is db execution)) (change_in_order (effect_of db execution).change db up))
 
 pub synonyms_stay_in_order : SynonymsStayInOrder
-unfolding meaning IsStrictlySortedBy
-synonyms_stay_in_order = (λ sites. tt, λ db execution up. synonyms_in_order db up (effect_of db execution).change)
+unfolding IsStrictlySortedBy
+synonyms_stay_in_order = (λ sites. tt, λ db execution up. subst AreSynonymsInOrder (sym (changed_is db execution)) (synonyms_in_order db up (effect_of db execution).change))
 
 -- ---- what a statement may change
 
 pub others_stay : OthersStay
-unfolding meaning
 others_stay db execution name other =
     let target : Option Swn = option_map (name_of db execution) (written_of execution.stmt) in
     let only : TouchesOnly target (effect_of db execution).change
     = holds_of_change (Does db execution execution.stmt) (TouchesOnly target) (effect_of db execution) (effect_so db execution) tt
     (λ given so. touches db execution (effect_of db execution).change given execution.stmt so) in
-    others_stay_at target name (effect_of db execution).change db other only
+    ap (table_named name) (changed_is db execution) ∙ others_stay_at target name (effect_of db execution).change db other only
 
 pub synonyms_stay : SynonymsStay
-unfolding meaning
 synonyms_stay db execution leaves =
     let is : IsOfTables (effect_of db execution).change
     = holds_of_change (Does db execution execution.stmt) IsOfTables (effect_of db execution) (effect_so db execution) tt
     (λ given so. of_tables db execution (effect_of db execution).change given execution.stmt leaves so) in
-    synonyms_stay_at (effect_of db execution).change db is
+    ap (λ (new : Database). new.synonyms) (changed_is db execution) ∙ synonyms_stay_at (effect_of db execution).change db is
 
 pub other_synonyms_stay : OtherSynonymsStay
-unfolding meaning
 other_synonyms_stay db execution synonym other =
     let target : Option Synonym = option_map (own_synonym execution) (synonym_of execution.stmt) in
     let only : TouchesSynonym target (effect_of db execution).change
     = holds_of_change (Does db execution execution.stmt) (TouchesSynonym target) (effect_of db execution) (effect_so db execution) tt
     (λ given so. touches_synonym db execution (effect_of db execution).change given execution.stmt so) in
-    other_synonyms_at db target synonym (effect_of db execution).change other only
+    ap (target_of synonym) (changed_is db execution) ∙ other_synonyms_at db target synonym (effect_of db execution).change other only
 
 ---- what is there after a done statement
 
@@ -109,31 +108,28 @@ is_some_if None e = absurd cc
 is_some_if (Some table) e = refl
 
 pub table_is_made : TableIsMade
-unfolding meaning
 table_is_made db execution written columns given is e =
     let so = does db execution (stmts.CreateTable written columns) given is e in
     let name : Swn = name_of db execution written in
-    let put : table_named name (changed (effect_of db execution).change db) ≡ Some (new_table execution.txn name columns)
-    = ap (λ change. table_named name (changed change db)) so.is ∙ named_put name (new_table execution.txn name columns) db in
+    let put : table_named name (after db execution) ≡ Some (new_table execution.txn name columns)
+    = ap (table_named name) (after_by db execution _ so.is) ∙ named_put name (new_table execution.txn name columns) db in
     (so.answers, so.absent, put)
 
 pub table_is_dropped : TableIsDropped
-unfolding meaning
 table_is_dropped db execution written given up is e =
     let so = does db execution (stmts.DropTable written) given is e in
     let name : Swn = name_of db execution written in
-    let none : table_named name (changed (effect_of db execution).change db) ≡ None
-    = ap (λ change. table_named name (changed change db)) so.is ∙ named_dropped name db up in
+    let none : table_named name (after db execution) ≡ None
+    = ap (table_named name) (after_by db execution _ so.is) ∙ named_dropped name db up in
     (so.answers, is_some_if (table_named name db) so.there, none)
 
 pub rows_are_appended : RowsAreAppended
-unfolding meaning
 rows_are_appended db execution written rows given is e =
     let so = does db execution (stmts.Dml (dmls.Insert written (map (map terms.Lit) rows))) given is e in
     let name : Swn = name_of db execution written in
     let same = given_as_written (scope_in db name) rows in
-    let put : table_named name (changed (effect_of db execution).change db) ≡ option_map (with_rows rows) (table_named name db)
-    = ap (λ change. table_named name (changed change db)) (so.is ∙ ap (λ new. changes.AppendRows name new) same) ∙ named_changing name (with_rows rows) db in
+    let put : table_named name (after db execution) ≡ option_map (with_rows rows) (table_named name db)
+    = ap (table_named name) (after_by db execution _ (so.is ∙ ap (λ new. changes.AppendRows name new) same)) ∙ named_changing name (with_rows rows) db in
     (so.answers ∙ ap (λ (new : List (List Value)). answers.Changed (length new) ∷ []) same, is_some_if (table_named name db) so.there, put)
 
 -- the table that was there, and the one with these rows
@@ -156,20 +152,19 @@ assignments_are : (db : Database) (name : Swn) (old : Table) (sets : List Set) �
 assignments_are db name old sets there = ap (λ (found : Option Table). map (bound_set (table_scope (record { name = name; columns = columns_of found })) []) sets) there
 
 set_first : (sets : List BoundSet) (clauses : List (List BoundCmp)) (row : List Value) (rows new : List (List Value)) (first : Result (List Value) Denial) (others : Result (List (List Value)) Denial)
-    → updated_row sets clauses row ≡ first → ((later : List (List Value)) → others ≡ Ok later → AreSet sets clauses rows later) → and_others first others ≡ Ok new → AreSet sets clauses (row ∷ rows) new
+    → updated_row [] sets clauses row ≡ first → ((later : List (List Value)) → others ≡ Ok later → AreSet sets clauses rows later) → and_others first others ≡ Ok new → AreSet sets clauses (row ∷ rows) new
 set_first sets clauses row rows new (Err cause) others is_first each made = absurd cc
 set_first sets clauses row rows new (Ok set) (Err cause) is_first each made = absurd cc
 set_first sets clauses row rows new (Ok set) (Ok later) is_first each made =
     let whole : set ∷ later ≡ new = cc in
     subst (AreSet sets clauses (row ∷ rows)) whole (is_first, each later refl)
 
-all_set : (sets : List BoundSet) (clauses : List (List BoundCmp)) (rows new : List (List Value)) → updated_rows sets clauses rows ≡ Ok new → AreSet sets clauses rows new
+all_set : (sets : List BoundSet) (clauses : List (List BoundCmp)) (rows new : List (List Value)) → updated_rows [] sets clauses rows ≡ Ok new → AreSet sets clauses rows new
 all_set sets clauses [] [] e = tt
 all_set sets clauses [] (row ∷ new) e = absurd cc
-all_set sets clauses (row ∷ rows) new e = set_first sets clauses row rows new (updated_row sets clauses row) (updated_rows sets clauses rows) refl (λ later is. all_set sets clauses rows later is) e
+all_set sets clauses (row ∷ rows) new e = set_first sets clauses row rows new (updated_row [] sets clauses row) (updated_rows [] sets clauses rows) refl (λ later is. all_set sets clauses rows later is) e
 
 pub rows_are_taken_out : RowsAreTakenOut
-unfolding meaning
 rows_are_taken_out db execution written clauses given is e =
     let so = does db execution (stmts.Dml (dmls.Delete written clauses)) given is e in
     let name : Swn = name_of db execution written in
@@ -177,8 +172,8 @@ rows_are_taken_out db execution written clauses given is e =
     let old : Table = found.0 in
     let rows : rows_of (table_named name db) ≡ old.rows = ap rows_of found.1 in
     let new : Table = record old { rows = other_rows so.clauses old.rows } in
-    let put : table_named name (changed (effect_of db execution).change db) ≡ Some new
-    = ap (λ change. table_named name (changed change db)) (so.is ∙ ap (λ (all : List (List Value)). changes.SetRows name (other_rows so.clauses all)) rows)
+    let put : table_named name (after db execution) ≡ Some new
+    = ap (table_named name) (after_by db execution _ (so.is ∙ ap (λ (all : List (List Value)). changes.SetRows name (other_rows so.clauses all)) rows))
     ∙ set_table name (other_rows so.clauses old.rows) db old found.1 in
     let reports : given ≡ answers.Changed (matching_count so.clauses old.rows) ∷ [] = so.answers ∙ ap (λ (all : List (List Value)). answers.Changed (matching_count so.clauses all) ∷ []) rows in
     let others : other_rows so.clauses old.rows ≡ other_rows (predicate_on name old clauses) old.rows
@@ -186,7 +181,6 @@ rows_are_taken_out db execution written clauses given is e =
     (matching_count so.clauses old.rows, old, new, reports, found.1, put, record { made = refl; columns = refl; indexes = refl; rows = others_and_matching so.clauses old.rows }, others)
 
 pub rows_are_changed : RowsAreChanged
-unfolding meaning
 rows_are_changed db execution written sets clauses given is e =
     let so = does db execution (stmts.Dml (dmls.Update written sets clauses)) given is e in
     let name : Swn = name_of db execution written in
@@ -194,11 +188,11 @@ rows_are_changed db execution written sets clauses given is e =
     let old : Table = found.0 in
     let rows : rows_of (table_named name db) ≡ old.rows = ap rows_of found.1 in
     let new : Table = record old { rows = so.new } in
-    let put : table_named name (changed (effect_of db execution).change db) ≡ Some new
-    = ap (λ change. table_named name (changed change db)) so.is ∙ set_table name so.new db old found.1 in
+    let put : table_named name (after db execution) ≡ Some new
+    = ap (table_named name) (after_by db execution _ so.is) ∙ set_table name so.new db old found.1 in
     let reports : given ≡ answers.Changed (matching_count so.clauses old.rows) ∷ [] = so.answers ∙ ap (λ (all : List (List Value)). answers.Changed (matching_count so.clauses all) ∷ []) rows in
     let as_many : length so.new ≡ length old.rows = as_many_updated (sets_in db name sets) so.clauses (rows_of (table_named name db)) so.new so.made ∙ ap (λ (all : List (List Value)). length all) rows in
-    let made : updated_rows (sets_in db name sets) so.clauses old.rows ≡ Ok so.new = subst (λ (all : List (List Value)). updated_rows (sets_in db name sets) so.clauses all ≡ Ok so.new) rows so.made in
+    let made : updated_rows [] (sets_in db name sets) so.clauses old.rows ≡ Ok so.new = subst (λ (all : List (List Value)). updated_rows [] (sets_in db name sets) so.clauses all ≡ Ok so.new) rows so.made in
     let set : AreSet (assignments_on name old sets) so.clauses old.rows so.new
     = subst (λ (bound : List BoundSet). AreSet bound so.clauses old.rows so.new) (assignments_are db name old sets found.1) (all_set (sets_in db name sets) so.clauses old.rows so.new made) in
     let by_predicate = subst (λ (predicate : List (List BoundCmp)). AreSet (assignments_on name old sets) predicate old.rows so.new) (predicate_is db name old clauses so.clauses found.1 so.bound) set in
@@ -211,7 +205,6 @@ set_indexes name indexes db old found =
     named_changing name (λ table. record table { indexes = indexes }) db ∙ ap (λ option. option_map (λ (table : Table). record table { indexes = indexes }) option) found
 
 pub index_is_made : IndexIsMade
-unfolding meaning
 index_is_made db execution name written column given is e =
     let so = does db execution (stmts.CreateIndex name written column) given is e in
     let own : Swn = name_of db execution written in
@@ -220,8 +213,8 @@ index_is_made db execution name written column given is e =
     let index : IndexOf = new_index execution.txn name (column_index old.columns column) in
     let new : Table = record old { indexes = old.indexes ++ index ∷ [] } in
     let made : Option Table → Change = λ table. changes.SetIndexes own (indexes_of table ++ new_index execution.txn name (column_index (columns_of table) column) ∷ []) in
-    let put : table_named own (changed (effect_of db execution).change db) ≡ Some new
-    = ap (λ change. table_named own (changed change db)) (so.is ∙ ap made found.1) ∙ set_indexes own (old.indexes ++ index ∷ []) db old found.1 in
+    let put : table_named own (after db execution) ≡ Some new
+    = ap (table_named own) (after_by db execution _ (so.is ∙ ap made found.1)) ∙ set_indexes own (old.indexes ++ index ∷ []) db old found.1 in
     let named : has_name old.columns column ≡ true = subst (λ table. has_name (columns_of table) column ≡ true) found.1 so.named in
     let new_name : has_index old.indexes name ≡ false = subst (λ table. has_index (indexes_of table) name ≡ false) found.1 so.new_name in
     let new_column : is_indexed old.indexes index.column ≡ false
@@ -239,35 +232,32 @@ index_is_made db execution name written column given is e =
     )
 
 pub index_is_dropped : IndexIsDropped
-unfolding meaning
 index_is_dropped db execution name written given is e =
     let so = does db execution (stmts.DropIndex name written) given is e in
     let own : Swn = name_of db execution written in
     let found = found_if (table_named own db) so.there in
     let old : Table = found.0 in
     let new : Table = record old { indexes = without_index name old.indexes } in
-    let put : table_named own (changed (effect_of db execution).change db) ≡ Some new
-    = ap (λ change. table_named own (changed change db)) (so.is ∙ ap (λ table. changes.SetIndexes own (without_index name (indexes_of table))) found.1)
+    let put : table_named own (after db execution) ≡ Some new
+    = ap (table_named own) (after_by db execution _ (so.is ∙ ap (λ table. changes.SetIndexes own (without_index name (indexes_of table))) found.1))
     ∙ set_indexes own (without_index name old.indexes) db old found.1 in
     let there : has_index old.indexes name ≡ true = subst (λ table. has_index (indexes_of table) name ≡ true) found.1 so.indexed in
     (old, new, so.answers, found.1, put, record { there = there; gone = none_of_name name old.indexes; is = refl })
 
 pub synonym_is_made : SynonymIsMade
-unfolding meaning
 synonym_is_made db execution synonym written given is e =
     let so = does db execution (stmts.CreateSynonym synonym written) given is e in
     let own : Synonym = own_synonym execution synonym in
-    let put : target_of own (changed (effect_of db execution).change db) ≡ Some (name_of db execution written)
-    = ap (λ change. target_of own (changed change db)) so.is ∙ lookup_put synonym_total own (name_of db execution written) db.synonyms in
+    let put : target_of own (after db execution) ≡ Some (name_of db execution written)
+    = ap (target_of own) (after_by db execution _ so.is) ∙ lookup_put synonym_total own (name_of db execution written) db.synonyms in
     (so.answers, so.absent, put)
 
 pub synonym_is_dropped : SynonymIsDropped
-unfolding meaning
 synonym_is_dropped db execution synonym given up is e =
     let so = does db execution (stmts.DropSynonym synonym) given is e in
     let own : Synonym = own_synonym execution synonym in
-    let none : target_of own (changed (effect_of db execution).change db) ≡ None
-    = ap (λ change. target_of own (changed change db)) so.is ∙ lookup_gone synonym_total own db.synonyms up in
+    let none : target_of own (after db execution) ≡ None
+    = ap (target_of own) (after_by db execution _ so.is) ∙ lookup_gone synonym_total own db.synonyms up in
     (so.answers, so.there, none)
 
 -- ---- what every table keeps
@@ -275,12 +265,12 @@ synonym_is_dropped db execution synonym given up is e =
 -- each table stays so after an execution if each statement keeps it so
 each_after : (P : Table → Type 0) (db : Database) (execution : Execution) → EachTable P db
     → ((given : List Answer) → Does db execution execution.stmt (effect_of db execution).change given → Keeps P db (effect_of db execution).change)
-    → EachTable P (changed (effect_of db execution).change db)
+    → EachTable P (after db execution)
 each_after P db execution each keeps =
-    each_changed P db each (effect_of db execution).change (holds_of_change (Does db execution execution.stmt) (Keeps P db) (effect_of db execution) (effect_so db execution) tt keeps)
+    subst (EachTable P) (sym (changed_is db execution))
+    (each_changed P db each (effect_of db execution).change (holds_of_change (Does db execution execution.stmt) (Keeps P db) (effect_of db execution) (effect_so db execution) tt keeps))
 
 pub tables_stay_within : TablesStayWithin
-unfolding meaning
 tables_stay_within = (
   λ sites. All-nil IsWithin,
   λ db execution each.
@@ -288,16 +278,14 @@ tables_stay_within = (
 )
 
 pub tables_stay_at_sites : TablesStayAtSites
-unfolding meaning
 tables_stay_at_sites = (
   λ sites. All-nil (IsAtSite sites),
   λ db execution each.
-      subst (λ (n : ℕ). EachTable (IsAtSite n) (changed (effect_of db execution).change db)) (sym (sites_stay db execution))
+      subst (λ (n : ℕ). EachTable (IsAtSite n) (after db execution)) (sym (sites_stay db execution))
       (each_after (IsAtSite db.sites) db execution each (λ given so. places_stay db execution (effect_of db execution).change given each execution.stmt so)),
 )
 
 pub columns_stay_distinct : ColumnsStayDistinct
-unfolding meaning
 columns_stay_distinct = (
   λ sites. All-nil HasDistinctColumns,
   λ db execution each.
@@ -305,7 +293,6 @@ columns_stay_distinct = (
 )
 
 pub indexes_stay_distinct : IndexesStayDistinct
-unfolding meaning
 indexes_stay_distinct = (
   λ sites. All-nil HasDistinctIndexes,
   λ db execution each.
@@ -313,7 +300,6 @@ indexes_stay_distinct = (
 )
 
 pub rows_stay_typed : RowsStayTyped
-unfolding meaning
 rows_stay_typed = (
   λ sites. All-nil IsTyped,
   λ db execution limited each.
@@ -324,7 +310,6 @@ rows_stay_typed = (
 -- ---- what a query answers
 
 pub answers_are_typed : AnswersAreTyped
-unfolding meaning
 answers_are_typed db execution query given each limited is e =
     let few : length query.from ≤ 6 = subst IsFew is (is_few execution.stmt limited) in
     let so = does db execution (stmts.Dml (dmls.Select query)) given is e in

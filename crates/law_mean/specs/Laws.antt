@@ -1,5 +1,5 @@
 -- Laws of every execution, whatever the database.
-use Rattle.std.specs.Prelude.{◌≡◌, ◌≢◌, ◌≤◌, ℕ, ◌+◌, not, bytes_eq, IsTrue, All, AllPairs, List, [], ◌∷◌, ◌++◌, map, filter, length, slice_get, Option, Some, None, Ok, Err, IsSome, option_map, if◌then◌else◌}
+use Rattle.std.specs.Prelude.{◌≡◌, ◌≢◌, ◌≤◌, ℕ, ◌+◌, not, bytes_eq, IsTrue, All, AllPairs, List, [], ◌∷◌, ◌++◌, map, filter, length, slice_get, Option, Some, None, Ok, IsSome, option_map, if◌then◌else◌}
 use Rattle.std.specs.List.{list_any}
 use Rattle.std.specs.Map.{values_of}
 use Rattle.rs_base.specs.declared.name.NameText.{NameText}
@@ -24,7 +24,8 @@ use Rattle.rs_ast.specs.declared.select.Item.TheVariants as items
 use Rattle.rs_ast.specs.declared.select.Select.{Select}
 use Rattle.rs_ast.specs.declared.stmt.Dml.{Dml}
 use Rattle.rs_ast.specs.declared.stmt.Dml.TheVariants as dmls
-use Rattle.rs_ast.specs.declared.stmt.Stmt as limited
+use Rattle.rs_ast.specs.declared.stmt.Stmt.{Stmt}
+use Rattle.rs_ast.specs.declared.stmt.Stmt.TheVariants as stmts
 use Rattle.rs_scope.specs.declared.scope.ScopeColumn.{ScopeColumn}
 use Rattle.rs_scope.specs.Predicates.{bound_clauses}
 use Rattle.rs_scope.specs.Scope.{column_kind, query_scope, table_scope}
@@ -32,18 +33,16 @@ use Rattle.rs_bind_change.specs.Binding.{bound_set}
 use Rattle.rs_eval.specs.Clauses.{holds}
 use Rattle.rs_eval.specs.Setting.{row_set}
 use Rattle.rs_answer.specs.Kinds.{HasKinds, AreKindsOf}
-use Rattle.rs_mean.specs.declared.built.Stmt.{Stmt}
-use Rattle.rs_mean.specs.declared.built.Stmt.TheVariants as stmts
 use Rattle.rs_mean.specs.declared.execution.Execution.{Execution}
 use Rattle.rs_mean.specs.declared.synonym.Synonym.{Synonym}
 use Rattle.rs_mean.specs.declared.table.Table.{Table}
-use Rattle.rs_mean.specs.Built.{built_of}
 use Rattle.rs_mean.specs.Changes.{with_rows}
 use Rattle.rs_mean.specs.Database.{Database, empty, table_named, IsInOrder, target_of, AreSynonymsInOrder}
 use Rattle.rs_rows.specs.Sizes.{rows_size}
 use Rattle.rs_rows.specs.Limits.{max_row_bytes, max_rows, max_table_bytes}
 use Rattle.rs_mean.specs.Meaning.{meaning}
 use Rattle.rs_mean.specs.Names.{name_of, own_synonym}
+use Rattle.rs_mean.specs.Outcome.{Done, Denied}
 use Rattle.rs_mean.specs.RowStatements.{heading_in}
 
 -- the database after the execution
@@ -52,7 +51,7 @@ after db execution = (meaning db execution).0
 
 -- a denied execution changes nothing
 abbrev pub DeniedChangesNothing : Type 0
-DeniedChangesNothing = (db : Database) (execution : Execution) (cause : Denial) → (meaning db execution).1 ≡ Err cause → after db execution ≡ db
+DeniedChangesNothing = (db : Database) (execution : Execution) (cause : Denial) → (meaning db execution).1 ≡ Denied cause → after db execution ≡ db
 
 -- a SELECT changes nothing
 abbrev pub SelectChangesNothing : Type 0
@@ -86,6 +85,13 @@ written_of (stmts.CreateIndex index written column) = Some written
 written_of (stmts.DropIndex index written) = Some written
 written_of (stmts.CreateSynonym synonym written) = None
 written_of (stmts.DropSynonym synonym) = None
+written_of (stmts.Migrate written to) = None
+written_of (stmts.Compile program params body) = None
+written_of (stmts.DropProgram program) = None
+written_of (stmts.Execute program values) = None
+written_of (stmts.Explain query) = None
+written_of stmts.ShowSections = None
+written_of stmts.ShowCache = None
 written_of (stmts.Dml dml) = written_of_dml dml
 
 -- the name of the table that an execution may change
@@ -104,6 +110,13 @@ synonym_of (stmts.CreateIndex index written column) = None
 synonym_of (stmts.DropIndex index written) = None
 synonym_of (stmts.CreateSynonym synonym written) = Some synonym
 synonym_of (stmts.DropSynonym synonym) = Some synonym
+synonym_of (stmts.Migrate written to) = None
+synonym_of (stmts.Compile program params body) = None
+synonym_of (stmts.DropProgram program) = None
+synonym_of (stmts.Execute program values) = None
+synonym_of (stmts.Explain query) = None
+synonym_of stmts.ShowSections = None
+synonym_of stmts.ShowCache = None
 synonym_of (stmts.Dml dml) = None
 
 -- the user's own synonym of this name at the asked site
@@ -123,7 +136,7 @@ OtherSynonymsStay = (db : Database) (execution : Execution) (synonym : Synonym) 
 -- after a done CREATE TABLE its name has the new table, without a row
 abbrev pub TableIsMade : Type 0
 TableIsMade = (db : Database) (execution : Execution) (written : NameText) (columns : List ColDef) (given : List Answer)
-    → execution.stmt ≡ stmts.CreateTable written columns → (meaning db execution).1 ≡ Ok given
+    → execution.stmt ≡ stmts.CreateTable written columns → (meaning db execution).1 ≡ Done given
     → (given ≡ answers.Ok ∷ [])
     × (table_named (name_of db execution written) db ≡ None)
     × (table_named (name_of db execution written) (after db execution) ≡ Some (record { made = execution.txn; place = (name_of db execution written).birth; columns = columns; indexes = []; rows = [] }))
@@ -131,7 +144,7 @@ TableIsMade = (db : Database) (execution : Execution) (written : NameText) (colu
 -- after a done DROP TABLE in a database with sorted names no table has its name, which one had before
 abbrev pub TableIsDropped : Type 0
 TableIsDropped = (db : Database) (execution : Execution) (written : NameText) (given : List Answer)
-    → IsInOrder db → execution.stmt ≡ stmts.DropTable written → (meaning db execution).1 ≡ Ok given
+    → IsInOrder db → execution.stmt ≡ stmts.DropTable written → (meaning db execution).1 ≡ Done given
     → (given ≡ answers.Ok ∷ [])
     × IsSome (table_named (name_of db execution written) db)
     × (table_named (name_of db execution written) (after db execution) ≡ None)
@@ -139,7 +152,7 @@ TableIsDropped = (db : Database) (execution : Execution) (written : NameText) (g
 -- after a done INSERT of values its name has the table that it had, with the rows of these values appended
 abbrev pub RowsAreAppended : Type 0
 RowsAreAppended = (db : Database) (execution : Execution) (written : NameText) (rows : List (List Value)) (given : List Answer)
-    → execution.stmt ≡ stmts.Dml (dmls.Insert written (map (map terms.Lit) rows)) → (meaning db execution).1 ≡ Ok given
+    → execution.stmt ≡ stmts.Dml (dmls.Insert written (map (map terms.Lit) rows)) → (meaning db execution).1 ≡ Done given
     → (given ≡ answers.Changed (length rows) ∷ [])
     × IsSome (table_named (name_of db execution written) db)
     × (table_named (name_of db execution written) (after db execution) ≡ option_map (with_rows rows) (table_named (name_of db execution written) db))
@@ -162,7 +175,7 @@ assignments_on name table sets = map (bound_set (table_scope (record { name = na
 -- the others
 abbrev pub RowsAreTakenOut : Type 0
 RowsAreTakenOut = (db : Database) (execution : Execution) (written : NameText) (clauses : List Clause) (given : List Answer)
-    → execution.stmt ≡ stmts.Dml (dmls.Delete written clauses) → (meaning db execution).1 ≡ Ok given
+    → execution.stmt ≡ stmts.Dml (dmls.Delete written clauses) → (meaning db execution).1 ≡ Done given
     → (count : ℕ) × (old : Table) × (new : Table) × (given ≡ answers.Changed count ∷ [])
     × (table_named (name_of db execution written) db ≡ Some old) × (table_named (name_of db execution written) (after db execution) ≡ Some new) × HasLost count old new
     × (new.rows ≡ filter (λ row. not (holds (predicate_on (name_of db execution written) old clauses) row)) old.rows)
@@ -178,7 +191,7 @@ AreSet sets clauses (row ∷ rows) (new ∷ news) = ((if holds clauses row then 
 -- another is as it was; it reports at most their number
 abbrev pub RowsAreChanged : Type 0
 RowsAreChanged = (db : Database) (execution : Execution) (written : NameText) (sets : List Set) (clauses : List Clause) (given : List Answer)
-    → execution.stmt ≡ stmts.Dml (dmls.Update written sets clauses) → (meaning db execution).1 ≡ Ok given
+    → execution.stmt ≡ stmts.Dml (dmls.Update written sets clauses) → (meaning db execution).1 ≡ Done given
     → (count : ℕ) × (old : Table) × (new : Table) × (given ≡ answers.Changed count ∷ []) × (count ≤ length old.rows)
     × (table_named (name_of db execution written) db ≡ Some old) × (table_named (name_of db execution written) (after db execution) ≡ Some new) × HasLost 0 old new
     × AreSet (assignments_on (name_of db execution written) old sets) (predicate_on (name_of db execution written) old clauses) old.rows new.rows
@@ -196,7 +209,7 @@ pub record HasGained (index : IndexOf) (old new : Table) : Type 0 where
 -- table has at most 16 columns
 abbrev pub IndexIsMade : Type 0
 IndexIsMade = (db : Database) (execution : Execution) (name : List ℕ) (written : NameText) (column : List ℕ) (given : List Answer)
-    → execution.stmt ≡ stmts.CreateIndex name written column → (meaning db execution).1 ≡ Ok given
+    → execution.stmt ≡ stmts.CreateIndex name written column → (meaning db execution).1 ≡ Done given
     → (old : Table) × (new : Table) × (index : IndexOf) × (given ≡ answers.Ok ∷ []) × (index.name ≡ name) × (index.made ≡ execution.txn)
     × (length old.columns ≤ 16 → IsNameAt column old.columns index.column)
     × (table_named (name_of db execution written) db ≡ Some old) × (table_named (name_of db execution written) (after db execution) ≡ Some new) × HasGained index old new
@@ -210,14 +223,14 @@ pub record HasNoMore (name : List ℕ) (old new : Table) : Type 0 where
 -- after a done DROP INDEX its table has no index of this name
 abbrev pub IndexIsDropped : Type 0
 IndexIsDropped = (db : Database) (execution : Execution) (name : List ℕ) (written : NameText) (given : List Answer)
-    → execution.stmt ≡ stmts.DropIndex name written → (meaning db execution).1 ≡ Ok given
+    → execution.stmt ≡ stmts.DropIndex name written → (meaning db execution).1 ≡ Done given
     → (old : Table) × (new : Table) × (given ≡ answers.Ok ∷ [])
     × (table_named (name_of db execution written) db ≡ Some old) × (table_named (name_of db execution written) (after db execution) ≡ Some new) × HasNoMore name old new
 
 -- after a done CREATE SYNONYM the user's synonym at the asked site, which wasn't there, refers to the name
 abbrev pub SynonymIsMade : Type 0
 SynonymIsMade = (db : Database) (execution : Execution) (synonym : List ℕ) (written : NameText) (given : List Answer)
-    → execution.stmt ≡ stmts.CreateSynonym synonym written → (meaning db execution).1 ≡ Ok given
+    → execution.stmt ≡ stmts.CreateSynonym synonym written → (meaning db execution).1 ≡ Done given
     → (given ≡ answers.Ok ∷ [])
     × (target_of (own_synonym execution synonym) db ≡ None)
     × (target_of (own_synonym execution synonym) (after db execution) ≡ Some (name_of db execution written))
@@ -225,7 +238,7 @@ SynonymIsMade = (db : Database) (execution : Execution) (synonym : List ℕ) (wr
 -- after a done DROP SYNONYM in a database with sorted synonyms the user's synonym at the asked site, which was there, is gone
 abbrev pub SynonymIsDropped : Type 0
 SynonymIsDropped = (db : Database) (execution : Execution) (synonym : List ℕ) (given : List Answer)
-    → AreSynonymsInOrder db → execution.stmt ≡ stmts.DropSynonym synonym → (meaning db execution).1 ≡ Ok given
+    → AreSynonymsInOrder db → execution.stmt ≡ stmts.DropSynonym synonym → (meaning db execution).1 ≡ Done given
     → (given ≡ answers.Ok ∷ [])
     × IsSome (target_of (own_synonym execution synonym) db)
     × (target_of (own_synonym execution synonym) (after db execution) ≡ None)
@@ -283,16 +296,12 @@ pub record IsTyped (table : Table) : Type 0 where
   pub few : length table.columns ≤ 16
   pub kinds : All (HasKinds (map (λ column. column.kind) table.columns)) table.rows
 
--- the statement is one that keeps the limits of statements, as each that a text spells does
-abbrev pub IsLimited : Stmt → Type 0
-IsLimited stmt = (parsed : limited.Stmt) × (built_of parsed ≡ Some stmt) × KeepsLimits parsed
-
 -- each row of each table has a value for each column, of its kind, at first and after each execution of a statement that keeps
--- the limits
+-- the limits, as each that a text spells does
 abbrev pub RowsStayTyped : Type 0
 RowsStayTyped =
     ((sites : ℕ) → EachTable IsTyped (empty sites))
-    × ((db : Database) (execution : Execution) → IsLimited execution.stmt → EachTable IsTyped db → EachTable IsTyped (after db execution))
+    × ((db : Database) (execution : Execution) → KeepsLimits execution.stmt → EachTable IsTyped db → EachTable IsTyped (after db execution))
 
 ---- a query's answer
 
@@ -316,6 +325,6 @@ kinds_shown columns (Some shown) = map (kind_shown columns) shown
 -- over typed tables, a query that keeps the limits and is answered has a kind for each item, and each row that it answers a value for each, of its kind
 abbrev pub AnswersAreTyped : Type 0
 AnswersAreTyped = (db : Database) (execution : Execution) (query : Select) (given : List Answer)
-    → EachTable IsTyped db → IsLimited execution.stmt → execution.stmt ≡ stmts.Dml (dmls.Select query) → (meaning db execution).1 ≡ Ok given
+    → EachTable IsTyped db → KeepsLimits execution.stmt → execution.stmt ≡ stmts.Dml (dmls.Select query) → (meaning db execution).1 ≡ Done given
     → (rows : List (List Value)) × (known : List Kind) × (given ≡ answers.Rows rows ∷ [])
     × AreKindsOf (kinds_shown (columns_named db execution query) query.items) known × All (HasKinds known) rows

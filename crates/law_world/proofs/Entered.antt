@@ -7,10 +7,11 @@ use Rattle.std.proofs.lemmas.List.Sums.{fold_push}
 use Rattle.rs_base.specs.declared.txn.Txn.{Txn}
 use Rattle.rs_base.specs.declared.txn.Origin.{Origin}
 use Rattle.rs_base.specs.declared.reply.Reply.{Reply}
-use Rattle.rs_mean.specs.declared.built.Stmt.{Stmt}
+use Rattle.rs_ast.specs.declared.stmt.Stmt.{Stmt}
 use Rattle.rs_site.specs.Statement.{statement_of}
 use Rattle.rs_mean.specs.Database.{Database, empty, IsInOrder}
-use Rattle.rs_mean.specs.Meaning.{Outcome, meaning}
+use Rattle.rs_mean.specs.Meaning.{meaning}
+use Rattle.rs_mean.specs.Outcome.{Outcome}
 use Rattle.rs_sched.specs.declared.event.Event.{Event}
 use Rattle.rs_session.specs.declared.session.Session.{Session}
 use Rattle.rs_site.specs.declared.outs.Decided.{Decided}

@@ -1,5 +1,5 @@
 -- The report of the course explains each valid and accepted list of events.
-use Rattle.std.proofs.Common.{◌≡◌, ℕ, ◌+◌, false, List, length, take, Some, Err, IsTrue, refl, sym, ap, subst, ◌∙◌}
+use Rattle.std.proofs.Common.{◌≡◌, ℕ, ◌+◌, false, List, length, take, Some, IsTrue, refl, sym, ap, subst, ◌∙◌}
 use Rattle.std.specs.List.{slice_get}
 use Rattle.rs_base.specs.declared.reply.Denial.{Denial}
 use Rattle.rs_sched.specs.declared.event.Event.{Event}
@@ -13,6 +13,7 @@ use Rattle.rs_course.specs.Report.{report_of, tables_at}
 use Rattle.rs_course.specs.World.{World}
 use Rattle.rs_mean.specs.Database.{Database, IsInOrder}
 use Rattle.rs_mean.specs.Expected.{expected}
+use Rattle.rs_mean.specs.Outcome.{Denied}
 use Rattle.rs_site.specs.State.{SiteState}
 use Rattle.rs_site.specs.declared.outs.Decided.{Decided}
 use Rattle.law_world.specs.Explains.{Explains, IsMeaningAt}
@@ -53,7 +54,7 @@ explains given valid are =
     }
   where
     DeniedChangesNothing : ℕ → List Decided → Type 0
-    DeniedChangesNothing n history = (i : ℕ) (entry : Decided) (cause : Denial) → slice_get history i ≡ Some entry → outcome_after n (take i history) entry ≡ Some (Err cause)
+    DeniedChangesNothing n history = (i : ℕ) (entry : Decided) (cause : Denial) → slice_get history i ≡ Some entry → outcome_after n (take i history) entry ≡ Some (Denied cause)
         → database_of n (take (i + 1) history) ≡ database_of n (take i history)
 
     IsShown : ℕ → World → ℕ → SiteState → Type 0

@@ -1,14 +1,15 @@
 -- What the report's history, its committed replies and its site explain.
-use Rattle.std.proofs.Common.{◌≡◌, ◌≢◌, ℕ, zero, suc, ◌+◌, ◌-◌, ◌<◌, List, [], ◌∷◌, ◌++◌, map, length, take, Option, Some, None, Err, sym, ap, subst, ◌∙◌, arith}
+use Rattle.std.proofs.Common.{◌≡◌, ◌≢◌, ℕ, zero, suc, ◌+◌, ◌-◌, ◌<◌, List, [], ◌∷◌, ◌++◌, map, length, take, Option, Some, None, sym, ap, subst, ◌∙◌, arith}
 use Rattle.std.specs.List.{slice_get, enumerate_from}
 use Rattle.rs_base.specs.Reading.{◌>>=◌}
 use Rattle.std.proofs.lemmas.List.{append-nil}
 use Rattle.rs_base.specs.declared.txn.Txn.{Txn}
 use Rattle.rs_base.specs.declared.reply.Denial.{Denial}
-use Rattle.rs_mean.specs.declared.built.Stmt.{Stmt}
+use Rattle.rs_ast.specs.declared.stmt.Stmt.{Stmt}
 use Rattle.rs_site.specs.Statement.{statement_of}
 use Rattle.rs_mean.specs.Database.{Database, IsInOrder}
 use Rattle.rs_mean.specs.Meaning.{meaning}
+use Rattle.rs_mean.specs.Outcome.{Denied}
 use Rattle.law_mean.proofs.Lawful.{denied_changes_nothing as after_denied}
 use Rattle.rs_sched.specs.declared.event.Event.{Event}
 use Rattle.rs_site.specs.declared.outs.Decided.{Decided}
@@ -42,14 +43,14 @@ in_the_end given can =
     subst (λ (hs : List Action). StateAt (λ before state givens history. Entered given state givens history) hs (course given)) (sym can.separated)
     (subst (λ (w : World). StateAt (λ before state givens history. Entered given state givens history) (Open 1 ∷ can.others) w) (sym (last_is given can)) whole)
 
-denied_at : (db : Database) (entry : Decided) (read : Option Stmt) (cause : Denial) → (effect_of db entry read).1 ≡ Some (Err cause) → (effect_of db entry read).0 ≡ db
+denied_at : (db : Database) (entry : Decided) (read : Option Stmt) (cause : Denial) → (effect_of db entry read).1 ≡ Some (Denied cause) → (effect_of db entry read).0 ≡ db
 denied_at db entry None cause e = absurd cc
 denied_at db entry (Some stmt) cause e =
-    let is : (meaning db (execution_of entry.txn entry.origin stmt)).1 ≡ Err cause = cc in
+    let is : (meaning db (execution_of entry.txn entry.origin stmt)).1 ≡ Denied cause = cc in
     after_denied db (execution_of entry.txn entry.origin stmt) cause is
 
 -- an entry that was denied changed nothing
-pub denied_changes_nothing : (history : List Decided) (i : ℕ) (entry : Decided) (cause : Denial) → slice_get history i ≡ Some entry → outcome_after 1 (take i history) entry ≡ Some (Err cause)
+pub denied_changes_nothing : (history : List Decided) (i : ℕ) (entry : Decided) (cause : Denial) → slice_get history i ≡ Some entry → outcome_after 1 (take i history) entry ≡ Some (Denied cause)
     → database_of 1 (take (i + 1) history) ≡ database_of 1 (take i history)
 denied_changes_nothing history i entry cause at denied =
     ap (λ (h : List Decided). database_of 1 h) (take-get history i entry at) ∙ database_of-push (take i history) entry ∙ denied_at (database_of 1 (take i history)) entry (statement_of entry.text) cause denied

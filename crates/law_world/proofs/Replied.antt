@@ -1,11 +1,14 @@
 -- In each state each entry of the history has its reply.
-use Rattle.std.proofs.Common.{◌≡◌, ℕ, inl, inr, List, [], ◌∷◌, ◌++◌, map, length, Some, Ok, Err, refl, sym, subst}
+use Rattle.std.proofs.Common.{◌≡◌, ℕ, inl, inr, List, [], ◌∷◌, ◌++◌, map, length, Some, refl, sym, subst}
 use Rattle.std.specs.List.{slice_get}
 use Rattle.std.proofs.lemmas.List.{append-nil}
 use Rattle.rs_base.specs.declared.peer.Peer.TheVariants as peers
 use Rattle.rs_base.specs.declared.txn.Origin.{Origin}
-use Rattle.rs_mean.specs.declared.built.Stmt.{Stmt}
-use Rattle.rs_mean.specs.Meaning.{Outcome, meaning}
+use Rattle.rs_ast.specs.declared.stmt.Stmt.{Stmt}
+use Rattle.rs_mean.specs.declared.execution.Execution.{Execution}
+use Rattle.rs_mean.specs.Database.{Database}
+use Rattle.rs_mean.specs.Meaning.{meaning}
+use Rattle.rs_mean.specs.Outcome.{Outcome}
 use Rattle.rs_sched.specs.declared.event.Event.{Event}
 use Rattle.rs_site.specs.declared.outs.Decided.{Decided}
 use Rattle.rs_site.specs.Asking.{execution_of, reply_of, executed}
@@ -15,6 +18,7 @@ use Rattle.rs_site.proofs.Asked.{Asked, Refused, RepliedAgain, Silent, NoRequest
 use Rattle.rs_course.specs.declared.report.Given.{Given}
 use Rattle.rs_course.specs.World.{World}
 use Rattle.rs_course.specs.Course.{given_of, course}
+use Rattle.rs_mean.proofs.Meanings.{done_or_denied}
 use Rattle.law_world.specs.Answered.{IsReplied}
 use Rattle.law_world.specs.Explains.{IsCommitted}
 use Rattle.rs_course.specs.Moments.{world_after}
@@ -34,9 +38,8 @@ nothing_at i x e = cc
 reported_more : (givens more : List Given) (entry : Decided) → IsReplied givens entry → IsReplied (givens ++ more) entry
 reported_more givens more entry is = record { position = is.position; given = is.given; there = get_prefix givens more is.given is.position is.there; origin = is.origin; committed = is.committed }
 
-is_committed : (outcome : Outcome) → IsCommitted (reply_of outcome)
-is_committed (Ok answered) = tt
-is_committed (Err cause) = tt
+is_committed : (db : Database) (execution : Execution) → IsCommitted (reply_of (meaning db execution).1)
+is_committed db execution = done_or_denied db execution (λ outcome. IsCommitted (reply_of outcome)) (λ given. tt) (λ cause. tt)
 
 module _ (site : SiteState) (origin : Origin) (text : List ℕ) (givens : List Given) (history : List Decided) (holds : AreReported givens history) where
   abbrev After : Planned → Type 0
@@ -62,7 +65,7 @@ module _ (site : SiteState) (origin : Origin) (text : List ℕ) (givens : List G
       reported = record { origin = origin; reply = reply_of outcome }
 
       new_replied : IsReplied (givens ++ reported ∷ []) new
-      new_replied = record { position = length givens; given = reported; there = get_last givens reported; origin = refl; committed = is_committed outcome }
+      new_replied = record { position = length givens; given = reported; there = get_last givens reported; origin = refl; committed = is_committed site.held.database (execution_of (next_txn site.who site.desk) origin stmt) }
 
   reported_received : (came : Planned) → Asked site (peers.Client 0) origin text came → After came
   reported_received came (Refused reply refusal is e) = subst After (sym e) (no_entry ((record { origin = origin; reply = reply }) ∷ []))

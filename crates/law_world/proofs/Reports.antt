@@ -1,15 +1,18 @@
 -- The output of a received ask, case by case, keeps the facts of the replies, the entries and the sessions.
-use Rattle.std.proofs.Common.{◌≡◌, ◌≤◌, ℕ, List, [], ◌∷◌, ◌++◌, length, map, Some, None, Ok, Err, refl, sym, ap, subst, ◌∙◌, arith}
+use Rattle.std.proofs.Common.{◌≡◌, ◌≤◌, ℕ, List, [], ◌∷◌, ◌++◌, length, map, Some, None, refl, sym, ap, subst, ◌∙◌, arith}
 use Rattle.std.specs.Prelude.{slice_get}
 use Rattle.std.proofs.lemmas.List.{append-nil}
 use Rattle.rs_base.specs.declared.peer.Peer.{Peer}
 use Rattle.rs_base.specs.declared.txn.Origin.{Origin}
 use Rattle.rs_base.specs.declared.reply.Reply.{Reply}
 use Rattle.rs_base.specs.declared.reply.Reply.TheVariants as replies
-use Rattle.rs_mean.specs.declared.built.Stmt.{Stmt}
+use Rattle.rs_ast.specs.declared.stmt.Stmt.{Stmt}
 use Rattle.rs_site.specs.Statement.{statement_of, offset_replied}
 use Rattle.rs_site.proofs.Said.{reported_nothing}
-use Rattle.rs_mean.specs.Meaning.{Outcome, meaning}
+use Rattle.rs_mean.specs.declared.execution.Execution.{Execution}
+use Rattle.rs_mean.specs.Database.{Database}
+use Rattle.rs_mean.specs.Meaning.{meaning}
+use Rattle.rs_mean.specs.Outcome.{Outcome, Done, Denied, Shown}
 use Rattle.rs_sched.specs.declared.event.Event.{Event}
 use Rattle.rs_site.specs.declared.outs.Decided.{Decided}
 use Rattle.rs_session.specs.Sessions.{session_of}
@@ -22,6 +25,7 @@ use Rattle.rs_course.specs.declared.report.Given.{Given}
 use Rattle.rs_course.specs.Course.{Action, given_of}
 use Rattle.rs_course.specs.Moments.{world_after, ask_input, Receives}
 use Rattle.law_world.specs.Explains.{IsFinal, IsCommitted, IsGivenTruly, IsNoRequest}
+use Rattle.rs_mean.proofs.Meanings.{done_or_denied}
 use Rattle.law_world.proofs.Kept.{Kept, IsKeepable, IsEntered, last_origin, same_origin, said, remembered, kept_then}
 
 -- ---- replies by their kinds
@@ -60,13 +64,13 @@ committed_is_final (replies.Gap last) is = absurd is
 refusal_is_no_syntax : (reply : Reply) (position : ℕ) → IsRefusal reply → reply ≡ replies.Syntax position → ⊥
 refusal_is_no_syntax reply position is e = subst IsRefusal e is
 
-keepable_outcome : (outcome : Outcome) → IsKeepable (reply_of outcome)
-keepable_outcome (Ok answered) = tt
-keepable_outcome (Err cause) = tt
+keepable_outcome : (db : Database) (execution : Execution) → IsKeepable (reply_of (meaning db execution).1)
+keepable_outcome db execution = done_or_denied db execution (λ outcome. IsKeepable (reply_of outcome)) (λ given. tt) (λ cause. tt)
 
 outcome_is_no_syntax : (outcome : Outcome) (position : ℕ) → reply_of outcome ≡ replies.Syntax position → ⊥
-outcome_is_no_syntax (Ok answered) position e = cc
-outcome_is_no_syntax (Err cause) position e = cc
+outcome_is_no_syntax (Done given) position e = cc
+outcome_is_no_syntax (Denied cause) position e = cc
+outcome_is_no_syntax Shown position e = cc
 
 pub get_last : {X : Type 0} (xs : List X) (x : X) → slice_get (xs ++ x ∷ []) (length xs) ≡ Some x
 get_last [] x = refl
@@ -139,7 +143,7 @@ module _ (all : List Event) (before : List Action) (action : Action) (site : Sit
   on_executed next stmt gives =
       let outcome : Outcome = (meaning site.held.database (execution_of (next_txn site.who site.desk) origin stmt)).1 in
       let entry : Decided = record { txn = next_txn site.who site.desk; origin = origin; text = text } in
-      on_accepted next (reply_of outcome) (executed site from origin text stmt).after refl refl (entry ∷ []) (keepable_outcome outcome)
+      on_accepted next (reply_of outcome) (executed site from origin text stmt).after refl refl (entry ∷ []) (keepable_outcome site.held.database (execution_of (next_txn site.who site.desk) origin stmt))
       (λ position e. absurd (outcome_is_no_syntax outcome position e))
       (λ committed. record { position = length history; entry = entry; there = get_last history entry; origin = refl }) gives
 

@@ -2,14 +2,16 @@
 use Rattle.std.proofs.Common.{◌≡◌, ℕ, List, [], ◌∷◌, fold, Option, Some, None, refl, sym, subst, ◌∙◌}
 use Rattle.rs_parse.specs.Parsing.{Parsed, Statement, FaultAt, parsed_of}
 use Rattle.rs_parse.proofs.ParseLaws.{parsed_spelled, spelled_keeps_limits}
-use Rattle.rs_mean.specs.declared.built.Stmt.{Stmt}
+use Rattle.rs_ast.specs.Limits.{KeepsLimits}
+use Rattle.rs_ast.specs.declared.stmt.Stmt.{Stmt}
 use Rattle.rs_mean.specs.Database.{Database}
 use Rattle.rs_mean.specs.Meaning.{meaning}
 use Rattle.rs_site.specs.Asking.{execution_of}
 use Rattle.rs_site.specs.Statement.{statement_of, statement_said}
 use Rattle.rs_site.specs.declared.outs.Decided.{Decided}
+use Rattle.rs_site.proofs.Said.{executed_is}
 use Rattle.rs_course.specs.History.{effect, effect_of, database_of}
-use Rattle.law_mean.specs.Laws.{EachTable, IsAtSite, IsLimited, IsTyped}
+use Rattle.law_mean.specs.Laws.{EachTable, IsAtSite, IsTyped}
 use Rattle.law_mean.proofs.Lawful.{rows_stay_typed, sites_stay, tables_stay_at_sites}
 
 -- ---- histories
@@ -22,13 +24,13 @@ module _ (P : Database → Type 0) (keeps : (db : Database) (entry : Decided) �
 -- ---- each row has a value for each column, of its kind
 
 -- a text's statement keeps the limits of statements
-limited : (text : List ℕ) (stmt : Stmt) → statement_of text ≡ Some stmt → IsLimited stmt
+limited : (text : List ℕ) (stmt : Stmt) → statement_of text ≡ Some stmt → KeepsLimits stmt
 unfolding statement_of
 limited text stmt said = by (parsed_of text) refl said
   where
-    by : (parsed : Parsed) → parsed_of text ≡ parsed → statement_said parsed ≡ Some stmt → IsLimited stmt
-    by (Statement spelled) is built = (spelled, built, spelled_keeps_limits text spelled (parsed_spelled text spelled is))
-    by (FaultAt offset) is built = absurd cc
+    by : (parsed : Parsed) → parsed_of text ≡ parsed → statement_said parsed ≡ Some stmt → KeepsLimits stmt
+    by (Statement spelled) is executed = subst KeepsLimits (executed_is spelled stmt executed) (spelled_keeps_limits text spelled (parsed_spelled text spelled is))
+    by (FaultAt offset) is executed = absurd cc
 
 stays_typed : (db : Database) (entry : Decided) (read : Option Stmt) → statement_of entry.text ≡ read → EachTable IsTyped db → EachTable IsTyped (effect_of db entry read).0
 stays_typed db entry None said typed = typed

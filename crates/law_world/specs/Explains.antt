@@ -1,7 +1,7 @@
 -- The report explains the events: all committed executions are in one serial history, exactly once and in real-time order;
 -- each reported answer is its meaning over the database of the executions before it; each site stores what the history
 -- makes of it; each refusal is true.
-use Rattle.std.specs.Prelude.{◌≡◌, ◌≢◌, ℕ, ◌+◌, ◌<◌, ◌≤◌, List, [], ◌∷◌, ◌++◌, length, take, Some, None, Err}
+use Rattle.std.specs.Prelude.{◌≡◌, ◌≢◌, ℕ, ◌+◌, ◌<◌, ◌≤◌, List, [], ◌∷◌, ◌++◌, length, take, Some, None}
 use Rattle.std.specs.List.{slice_get, Contains}
 use Rattle.rs_base.specs.declared.lock.Resource.{Resource}
 use Rattle.rs_base.specs.declared.txn.Origin.{Origin}
@@ -10,7 +10,7 @@ use Rattle.rs_base.specs.declared.reply.Reply.{Reply}
 use Rattle.rs_base.specs.declared.reply.Reply.TheVariants as replies
 use Rattle.rs_mean.specs.Database.{IsInOrder}
 use Rattle.rs_mean.specs.Expected.{expected}
-use Rattle.rs_mean.specs.Meaning.{Outcome}
+use Rattle.rs_mean.specs.Outcome.{Outcome, Denied}
 use Rattle.rs_sched.specs.declared.event.Event.{Event}
 use Rattle.rs_site.specs.Asking.{reply_of}
 use Rattle.rs_site.specs.State.{SiteState}
@@ -96,7 +96,7 @@ pub record Explains (events : List Event) (report : Report) : Type 0 where
   -- each reply that reports a committed request is the meaning of its entry over the database of the entries before it
   pub answers_are_meaning : (k : ℕ) (given : Given) → slice_get report.replies k ≡ Some given → IsCommitted given.reply → (i : ℕ) × IsMeaningAt (sites_of events) report.history i given
   -- an entry that was denied changed nothing
-  pub denied_changes_nothing : (i : ℕ) (entry : Decided) (cause : Denial) → slice_get report.history i ≡ Some entry → outcome_after (sites_of events) (take i report.history) entry ≡ Some (Err cause)
+  pub denied_changes_nothing : (i : ℕ) (entry : Decided) (cause : Denial) → slice_get report.history i ≡ Some entry → outcome_after (sites_of events) (take i report.history) entry ≡ Some (Denied cause)
       → database_of (sites_of events) (take (i + 1) report.history) ≡ database_of (sites_of events) (take i report.history)
   -- real-time order: an entry whose reply was given before the request of another was asked comes before that
   pub after_what_was_reported : (before suffix : List Action) (k i j : ℕ) (given : Given) (a b : Decided)

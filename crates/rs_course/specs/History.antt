@@ -4,9 +4,10 @@ use Rattle.std.specs.List.{list_any}
 use Rattle.std.specs.BTreeMap.{is_at}
 use Rattle.rs_base.specs.declared.txn.Txn.{Txn}
 use Rattle.rs_base.specs.Txn.{txn_cmp}
-use Rattle.rs_mean.specs.declared.built.Stmt.{Stmt}
+use Rattle.rs_ast.specs.declared.stmt.Stmt.{Stmt}
 use Rattle.rs_mean.specs.Database.{Database, empty}
-use Rattle.rs_mean.specs.Meaning.{Outcome, meaning}
+use Rattle.rs_mean.specs.Meaning.{meaning}
+use Rattle.rs_mean.specs.Outcome.{Outcome}
 use Rattle.rs_site.specs.Asking.{execution_of}
 use Rattle.rs_site.specs.Statement.{statement_of}
 use Rattle.rs_site.specs.declared.outs.Decided.{Decided}

@@ -1,4 +1,5 @@
 pub mod IntegerLaws
 mod Matching
 pub mod Sets
+pub mod Unfilled
 mod UpdatedRows

@@ -13,23 +13,23 @@ use Rattle.rs_rows.specs.Limits.{fits_row, fits_rows}
 
 -- ---- INSERT
 
--- the inserted rows
-abbrev pub given_rows : List (List BoundTerm) → List (List Value)
-given_rows rows = map (λ row. map (term_value [] []) row) rows
+-- the inserted rows, with these values for their parameters
+abbrev pub given_rows : List Value → List (List BoundTerm) → List (List Value)
+given_rows values rows = map (λ row. map (term_value values []) row) rows
 
 -- each of the rows may be stored, and there is room for them after those of the table
 abbrev pub has_room : List (List Value) → List (List Value) → Bool
 has_room rows more = list_all fits_row more && fits_rows (rows ++ more)
 
 -- the rows appended to those of the table, or TableFull
-abbrev pub inserted : List (List BoundTerm) → List (List Value) → Result (List (List Value)) Denial
-inserted given rows = if has_room rows (given_rows given) then Ok (given_rows given) else Err denials.TableFull
+abbrev pub inserted : List Value → List (List BoundTerm) → List (List Value) → Result (List (List Value)) Denial
+inserted values given rows = if has_room rows (given_rows values given) then Ok (given_rows values given) else Err denials.TableFull
 
 -- ---- UPDATE
 
--- a matching row is updated, and another stays
-abbrev pub updated_row : List BoundSet → List (List BoundCmp) → List Value → Result (List Value) Denial
-updated_row sets clauses row = if holds clauses row then row_set sets [] row else Ok row
+-- a matching row is updated, with these values for the parameters of the assignments, and another stays
+abbrev pub updated_row : List Value → List BoundSet → List (List BoundCmp) → List Value → Result (List Value) Denial
+updated_row values sets clauses row = if holds clauses row then row_set sets values row else Ok row
 
 abbrev pub with_first : {A : Type 0} → A → Result (List A) Denial → Result (List A) Denial
 with_first item (Ok items) = Ok (item ∷ items)
@@ -40,9 +40,9 @@ and_others (Ok item) others = with_first item others
 and_others (Err cause) others = Err cause
 
 -- each row updated, or the first denial
-abbrev pub updated_rows : List BoundSet → List (List BoundCmp) → List (List Value) → Result (List (List Value)) Denial
-updated_rows sets clauses [] = Ok []
-updated_rows sets clauses (row ∷ rows) = and_others (updated_row sets clauses row) (updated_rows sets clauses rows)
+abbrev pub updated_rows : List Value → List BoundSet → List (List BoundCmp) → List (List Value) → Result (List (List Value)) Denial
+updated_rows values sets clauses [] = Ok []
+updated_rows values sets clauses (row ∷ rows) = and_others (updated_row values sets clauses row) (updated_rows values sets clauses rows)
 
 -- Each row that was set may be stored. Rows that don't match aren't judged.
 abbrev pub set_rows_fit : List (List BoundCmp) → List (List Value) → List (List Value) → Bool
@@ -58,8 +58,8 @@ within_limits clauses rows (Err cause) = Err cause
 
 -- The rows after an UPDATE; or Overflow, if an expression over a matching row isn't an integer of 64 bits; or else
 -- TableFull, if a row that was set is too large, or the table would be beyond its limits.
-abbrev pub updated : List BoundSet → List (List BoundCmp) → List (List Value) → Result (List (List Value)) Denial
-updated sets clauses rows = within_limits clauses rows (updated_rows sets clauses rows)
+abbrev pub updated : List Value → List BoundSet → List (List BoundCmp) → List (List Value) → Result (List (List Value)) Denial
+updated values sets clauses rows = within_limits clauses rows (updated_rows values sets clauses rows)
 
 -- ---- DELETE
 

@@ -14,25 +14,25 @@ use std::alloc::Global;
 
 // ---- INSERT
 
-/// Returns the values of an inserted row.
-fn given_row(alloc: Global, row: &[BoundTerm]) -> Result<Row, NoMemory>
-    ensures { IfOk result (λ values. values ≡ map (term_value [] []) row.now) }
+/// Returns an inserted row.
+fn given_row(alloc: Global, values: &[Value], row: &[BoundTerm]) -> Result<Row, NoMemory>
+    ensures { IfOk result (λ given. given ≡ map (term_value values.now []) row.now) }
 {
-    let mut values = with_room(alloc, row.len())?;
+    let mut given = with_room(alloc, row.len())?;
     for term in row {
-        values.push(term_value(alloc, &[], &[], term)?)?;
+        given.push(term_value(alloc, values, &[], term)?)?;
     }
-    Ok(values)
+    Ok(given)
 }
 
 /// Returns the inserted rows.
-fn given_rows(alloc: Global, rows: &[BoundRow]) -> Result<StoredRows, NoMemory>
-    ensures { IfOk result (λ given. given ≡ spec.given_rows rows.now) }
+fn given_rows(alloc: Global, values: &[Value], rows: &[BoundRow]) -> Result<StoredRows, NoMemory>
+    ensures { IfOk result (λ given. given ≡ spec.given_rows values.now rows.now) }
 {
     let mut given = StoredRows::new(alloc);
     for row in rows {
-        let values = given_row(alloc, row.as_slice())?;
-        given.push(alloc, values.as_slice())?;
+        let new_row = given_row(alloc, values, row.as_slice())?;
+        given.push(alloc, new_row.as_slice())?;
     }
     Ok(given)
 }
@@ -44,15 +44,16 @@ fn may_be_added(rows: &StoredRows, more: &StoredRows) -> bool
     all_fit_row(&more.as_run()) && has_room(rows, more)
 }
 
-/// Returns the rows to append to those of a table, or `TableFull`.
+/// Returns the rows to append to those of a table, with the values for their parameters, or `TableFull`.
 pub fn inserted(
     alloc: Global,
+    values: &[Value],
     given: &[BoundRow],
     rows: &StoredRows,
 ) -> Result<Result<StoredRows, Denial>, NoMemory>
-    ensures { IfOk result (λ more. more ≡ spec.inserted given.now rows.now) }
+    ensures { IfOk result (λ more. more ≡ spec.inserted values.now given.now rows.now) }
 {
-    let more = given_rows(alloc, given)?;
+    let more = given_rows(alloc, values, given)?;
     if may_be_added(rows, &more) {
         Ok(Ok(more))
     } else {
@@ -65,13 +66,14 @@ pub fn inserted(
 /// Appends the row as it is after the assignments, or returns the denial.
 fn push_set(
     alloc: Global,
+    values: &[Value],
     sets: &[BoundSet],
     row: &[Value],
     new: &mut StoredRows,
 ) -> Result<Result<(), Denial>, NoMemory>
-    ensures { IfOk result (λ done. Puts done new.old new.new (row_set sets.now [] row.now)) }
+    ensures { IfOk result (λ done. Puts done new.old new.new (row_set sets.now values.now row.now)) }
 {
-    match set_row(alloc, sets, &[], row)? {
+    match set_row(alloc, sets, values, row)? {
         Ok(row) => {
             new.push(alloc, row.as_slice())?;
             Ok(Ok(()))
@@ -83,15 +85,16 @@ fn push_set(
 /// Appends the row, updated if it matches, or returns the denial.
 fn push_updated(
     alloc: Global,
+    values: &[Value],
     sets: &[BoundSet],
     clauses: &[BoundClause],
     row: &[Value],
     new: &mut StoredRows,
 ) -> Result<Result<(), Denial>, NoMemory>
-    ensures { IfOk result (λ done. Puts done new.old new.new (spec.updated_row sets.now clauses.now row.now)) }
+    ensures { IfOk result (λ done. Puts done new.old new.new (spec.updated_row values.now sets.now clauses.now row.now)) }
 {
     if holds(clauses, row) {
-        push_set(alloc, sets, row, new)
+        push_set(alloc, values, sets, row, new)
     } else {
         new.push(alloc, row)?;
         Ok(Ok(()))
@@ -101,16 +104,17 @@ fn push_updated(
 /// Returns each row updated, or the first denial.
 fn updated_rows(
     alloc: Global,
+    values: &[Value],
     sets: &[BoundSet],
     clauses: &[BoundClause],
     rows: &RowRun<'_>,
 ) -> Result<Result<StoredRows, Denial>, NoMemory>
-    ensures { IfOk result (λ new. new ≡ spec.updated_rows sets.now clauses.now rows.now) }
+    ensures { IfOk result (λ new. new ≡ spec.updated_rows values.now sets.now clauses.now rows.now) }
 {
     let mut new = StoredRows::new(alloc);
     let mut rest = rows.view();
     while let Some((row, others)) = rest.split_first() {
-        if let Err(cause) = push_updated(alloc, sets, clauses, row, &mut new)? {
+        if let Err(cause) = push_updated(alloc, values, sets, clauses, row, &mut new)? {
             return Ok(Err(cause));
         }
         rest = others;
@@ -118,16 +122,17 @@ fn updated_rows(
     Ok(Ok(new))
 }
 
-/// Returns the rows after an UPDATE, or `Overflow`, or `TableFull`.
+/// Returns the rows after an UPDATE with the values for the parameters of its assignments, or `Overflow`, or `TableFull`.
 pub fn updated(
     alloc: Global,
+    values: &[Value],
     sets: &[BoundSet],
     clauses: &[BoundClause],
     rows: &RowRun<'_>,
 ) -> Result<Result<StoredRows, Denial>, NoMemory>
-    ensures { IfOk result (λ new. new ≡ spec.updated sets.now clauses.now rows.now) }
+    ensures { IfOk result (λ new. new ≡ spec.updated values.now sets.now clauses.now rows.now) }
 {
-    match updated_rows(alloc, sets, clauses, rows)? {
+    match updated_rows(alloc, values, sets, clauses, rows)? {
         Ok(new) if may_become(clauses, rows, &new) => Ok(Ok(new)),
         Ok(_) => Ok(Err(Denial::TableFull)),
         Err(cause) => Ok(Err(cause)),

@@ -8,19 +8,32 @@ use Rattle.std.specs.Cmp.Lexicographic.{slice_cmp}
 use Rattle.std.specs.declared.cmp.Ordering.{Ordering}
 use Rattle.rs_base.specs.declared.name.Swn.{Swn}
 use Rattle.rs_base.specs.Name.{name_cmp}
+use Rattle.rs_ast.specs.declared.stmt.Dml.{Dml}
 use Rattle.rs_mean.specs.declared.synonym.Synonym.{Synonym}
 use Rattle.rs_mean.specs.declared.table.Table.{Table}
 
--- the number of sites; the tables by their system-wide names, sorted by name; and the names that users' synonyms refer to,
--- sorted by synonym
+-- a user's program at a site
+pub record ProgramName : Type 0 where
+  pub site : ℕ
+  pub user : List ℕ
+  pub name : List ℕ
+
+-- its parameters, and its statements, with resolved names
+pub record Program : Type 0 where
+  pub params : List (List ℕ)
+  pub body : List Dml
+
+-- the number of sites; the tables by their system-wide names, sorted by name; the names that users' synonyms refer to,
+-- sorted by synonym; and users' programs, sorted by name: no statement makes one so far
 pub record Database : Type 0 where
   pub sites : ℕ
   pub tables : List (Swn × Table)
   pub synonyms : List (Synonym × Swn)
+  pub programs : List (ProgramName × Program)
 
 -- the empty database of this number of sites
 abbrev pub empty : ℕ → Database
-empty sites = record { sites = sites; tables = []; synonyms = [] }
+empty sites = record { sites = sites; tables = []; synonyms = []; programs = [] }
 
 -- ---- tables
 
@@ -71,3 +84,14 @@ without_synonym synonym db = record db { synonyms = remove_entry (is_at (synonym
 -- the synonyms are distinct and rise
 abbrev pub AreSynonymsInOrder : Database → Type 0
 AreSynonymsInOrder db = IsStrictlySortedBy synonym_cmp (keys_of db.synonyms)
+
+-- ---- programs
+
+-- programs by site, user and name
+abbrev pub program_cmp : ProgramName → ProgramName → Ordering
+program_cmp one other = ordering_then (nat_cmp one.site other.site)
+    (ordering_then (slice_cmp nat_cmp one.user other.user) (slice_cmp nat_cmp one.name other.name))
+
+-- the program of this name, if there is one
+abbrev pub program_of : ProgramName → Database → Option Program
+program_of name db = lookup (is_at (program_cmp name)) db.programs

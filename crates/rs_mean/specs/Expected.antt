@@ -7,7 +7,7 @@ use Rattle.rs_base.specs.declared.txn.Txn.{Txn}
 use Rattle.rs_base.specs.declared.value.Value.{Value}
 use Rattle.rs_ast.specs.declared.column.ColDef.{ColDef}
 use Rattle.rs_ast.specs.declared.entry.IndexOf.{IndexOf}
-use Rattle.rs_mean.specs.Database.{Database, table_named}
+use Rattle.rs_mean.specs.Database.{Database, Program, table_named, program_of}
 use Rattle.rs_mean.specs.declared.synonym.Synonym.{Synonym}
 use Rattle.rs_mean.specs.declared.table.Table.{Table}
 
@@ -18,11 +18,11 @@ pub record StoredTable : Type 0 where
   pub indexes : List IndexOf
   pub rows : List (List Value)
 
--- What is stored of a resource. A birth entry is the site that stores the table. No program is stored yet.
+-- What is stored of a resource. A birth entry is the site that stores the table.
 pub data Content : Type 0 where
   TableIs : Option StoredTable → Content
   BirthIs : Option ℕ → Content
-  NoProgram : Content
+  ProgramIs : Option Program → Content
   SynonymsAre : List (Synonym × Swn) → Content
 
 abbrev pub stored_at : ℕ → Option Table → Option StoredTable
@@ -38,9 +38,9 @@ abbrev pub is_of_user : ℕ → List ℕ → Synonym × Swn → Bool
 is_of_user site user entry = entry.0.site == site && bytes_eq entry.0.user user
 
 -- what a site should store of a resource: a table where its place is; the place of a table at the table's birth site; the
--- synonyms of a user at the site
+-- program of a user at the site, and the user's synonyms there
 abbrev pub expected : Database → ℕ → Resource → Content
 expected db site (resources.Table name) = TableIs (stored_at site (table_named name db))
 expected db site (resources.Birth name) = BirthIs (if name.birth == site then place_of (table_named name db) else None)
-expected db site (resources.Program user name) = NoProgram
+expected db site (resources.Program user name) = ProgramIs (program_of (record { site = site; user = user; name = name }) db)
 expected db site (resources.Synonyms user) = SynonymsAre (filter (is_of_user site user) db.synonyms)

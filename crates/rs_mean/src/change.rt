@@ -1,15 +1,13 @@
 //! Changes of the database.
 
-ghost use Rattle.std.specs.Prelude.{◌≡◌, IfOk};
+ghost use Rattle.std.specs.Prelude.{◌≡◌};
 ghost use Rattle.rs_mean.specs.Effects as spec;
 
-use crate::execution::Outcome;
 use crate::synonym::Synonym;
 use crate::table::Table;
 use rs_ast::IndexOfs;
-use rs_base::{Answer, Denial, NoMemory, Swn, one_item};
+use rs_base::{Answer, Denial, Swn};
 use rs_rows::StoredRows;
-use std::alloc::Global;
 
 /// A change of the database. That of a missing table changes nothing.
 #[derive(Drop)]
@@ -24,32 +22,31 @@ pub enum Change {
     DropSynonym { synonym: Synonym },
 }
 
-/// What an execution changes, and what it answers.
+/// What a statement changes, and its answer, or the cause of its denial.
 #[derive(Drop)]
 pub struct Effect {
     pub change: Change,
-    pub outcome: Outcome,
+    pub answer: Result<Answer, Denial>,
 }
 
 impl Effect {
-    /// Makes the effect of one statement that is done.
-    pub(crate) fn done(alloc: Global, change: Change, answer: Answer) -> Result<Effect, NoMemory>
-        ensures { IfOk result (λ effect. effect ≡ spec.done change answer) }
+    /// Makes the effect of a statement that is done.
+    pub(crate) fn done(change: Change, answer: Answer) -> Effect
+        ensures { result ≡ spec.done change answer }
     {
-        let answers = one_item(alloc, answer)?;
-        Ok(Effect {
+        Effect {
             change,
-            outcome: Ok(answers),
-        })
+            answer: Ok(answer),
+        }
     }
 
-    /// Makes the effect of a denied execution, without a change.
+    /// Makes the effect of a denied statement, without a change.
     pub(crate) fn denied(cause: Denial) -> Effect
         ensures { result ≡ spec.denied cause }
     {
         Effect {
             change: Change::Nothing,
-            outcome: Err(cause),
+            answer: Err(cause),
         }
     }
 }

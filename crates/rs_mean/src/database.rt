@@ -25,11 +25,12 @@ pub struct Database {
 }
 
 impl Model for Database {
+    ghost use Rattle.std.specs.Prelude.{[]};
     ghost use Rattle.rs_mean.specs.Database.{Database};
 
     ghost Value = { Database };
 
-    ghost view = { λ it. record { sites = it.sites; tables = it.tables.entries; synonyms = it.synonyms.entries } };
+    ghost view = { λ it. record { sites = it.sites; tables = it.tables.entries; synonyms = it.synonyms.entries; programs = [] } };
 }
 
 impl Database {

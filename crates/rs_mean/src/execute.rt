@@ -3,12 +3,13 @@
 ghost use Rattle.std.specs.Prelude.{◌≡◌, IfOk};
 ghost use Rattle.rs_mean.specs.Changes.{changed};
 ghost use Rattle.rs_mean.specs.Meaning as spec;
+ghost use Rattle.rs_mean.specs.Outcome.{outcome_of};
 
-use crate::built::Stmt;
-use crate::change::Effect;
+use crate::change::{Change, Effect};
 use crate::database::Database;
 use crate::execution::Execution;
-use rs_base::NoMemory;
+use rs_ast::Stmt;
+use rs_base::{Answer, NoMemory};
 use std::alloc::Global;
 
 impl Database {
@@ -23,7 +24,7 @@ impl Database {
                 self.name_of(execution, name),
                 columns.as_slice(),
             ),
-            Stmt::DropTable { name } => self.drop_table(alloc, self.name_of(execution, name)),
+            Stmt::DropTable { name } => Ok(self.drop_table(self.name_of(execution, name))),
             Stmt::CreateIndex {
                 index,
                 name,
@@ -38,23 +39,22 @@ impl Database {
             Stmt::DropIndex { index, name } => {
                 self.drop_index(alloc, self.name_of(execution, name), *index)
             }
-            Stmt::CreateSynonym { synonym, name } => self.create_synonym(
-                alloc,
-                execution,
-                *synonym,
-                self.name_of(execution, name),
-            ),
-            Stmt::DropSynonym { synonym } => self.drop_synonym(alloc, execution, *synonym),
+            Stmt::CreateSynonym { synonym, name } => {
+                let name = self.name_of(execution, name);
+                Ok(self.create_synonym(execution, *synonym, name))
+            }
+            Stmt::DropSynonym { synonym } => Ok(self.drop_synonym(execution, *synonym)),
             Stmt::Dml(dml) => self.effect_of_dml(alloc, execution, dml),
+            _ => Ok(Effect::done(Change::Nothing, Answer::Ok)),
         }
     }
 
-    /// Returns what an execution changes and answers. Nothing changes before the change is applied; applied to this database
-    /// it makes the one that the execution means. A denied execution has no change.
-    #[tactic(auto, unfolding(crate::specs::Meaning::meaning))]
+    /// Returns what an execution changes, and its answer. Nothing changes before the change is applied; applied to this
+    /// database it makes the one that the execution means. A denied execution has no change, and neither has one of a
+    /// statement that isn't executed so far.
     pub fn effect_of(&self, alloc: Global, execution: &Execution) -> Result<Effect, NoMemory>
         ensures effect { IfOk result (λ effect. effect ≡ spec.effect_of self.now execution.now) }
-        ensures meaning { IfOk result (λ effect. spec.meaning self.now execution.now ≡ (changed effect.change self.now, effect.outcome)) }
+        ensures meaning { IfOk result (λ effect. spec.meaning self.now execution.now ≡ (changed effect.change self.now, outcome_of effect.answer)) }
     {
         self.effect(alloc, execution)
     }

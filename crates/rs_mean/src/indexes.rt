@@ -123,7 +123,7 @@ impl Database {
             made: txn,
         };
         let indexes = with_index(alloc, self.indexes_of(&name), made)?;
-        Effect::done(alloc, Change::SetIndexes { name, indexes }, Answer::Ok)
+        Ok(Effect::done(Change::SetIndexes { name, indexes }, Answer::Ok))
     }
 
     fn drop_index_denial(&self, name: &Swn, index: Ident) -> Option<Denial>
@@ -151,6 +151,6 @@ impl Database {
             return Ok(Effect::denied(cause));
         }
         let indexes = without_index(alloc, self.indexes_of(&name), index)?;
-        Effect::done(alloc, Change::SetIndexes { name, indexes }, Answer::Ok)
+        Ok(Effect::done(Change::SetIndexes { name, indexes }, Answer::Ok))
     }
 }

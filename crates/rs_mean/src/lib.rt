@@ -2,11 +2,11 @@
 #![tactic(auto)]
 
 mod bound_effect;
-mod built;
 mod change;
 mod columns;
 mod database;
 mod execute;
+mod executed;
 mod execution;
 mod indexes;
 mod naming;
@@ -16,10 +16,10 @@ mod synonyms;
 mod table;
 mod tables;
 
-pub use built::Stmt;
 pub use change::{Change, Effect};
 pub use database::Database;
-pub use execution::{Execution, Outcome};
+pub use executed::is_executed;
+pub use execution::Execution;
 pub use rs_answer::answer_rows;
 pub use rs_eval::{fill, holds, set_row};
 pub use synonym::Synonym;

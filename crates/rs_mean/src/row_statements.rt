@@ -85,7 +85,7 @@ impl Database {
     }
 
     fn select(&self, alloc: Global, names: &[Swn], query: &Select) -> Result<Effect, NoMemory>
-        ensures { IfOk result (λ effect. effect ≡ spec.select (spec.tables_in self.now) names.now query.now) }
+        ensures { IfOk result (λ effect. effect ≡ spec.select spec.no_arguments (spec.tables_in self.now) names.now query.now) }
     {
         if let Some(cause) = self.tables_denial(names) {
             return Ok(Effect::denied(cause));
@@ -93,7 +93,7 @@ impl Database {
         let tables = self.all_rows_in(alloc, names)?;
         let headings = self.headings_in(alloc, names)?;
         match bind_select(alloc, query, headings.as_slice(), &[])? {
-            Ok(bound) => answering(alloc, rows_of_query(alloc, &bound, tables.as_slice())?),
+            Ok(bound) => Ok(answering(rows_of_query(alloc, &bound, tables.as_slice())?)),
             Err(cause) => Ok(Effect::denied(cause)),
         }
     }
@@ -104,7 +104,7 @@ impl Database {
         execution: &Execution,
         query: &Select,
     ) -> Result<Effect, NoMemory>
-        ensures { IfOk result (λ effect. effect ≡ spec.query (spec.tables_in self.now) (name_of self.now execution.now) query.now) }
+        ensures { IfOk result (λ effect. effect ≡ spec.query spec.no_arguments (spec.tables_in self.now) (name_of self.now execution.now) query.now) }
     {
         let names = self.names_of(alloc, execution, query.from.as_slice())?;
         self.select(alloc, names.as_slice(), query)
@@ -117,7 +117,7 @@ impl Database {
         name: &Swn,
         outcome: Result<Bound, Denial>,
     ) -> Result<Effect, NoMemory>
-        ensures { IfOk result (λ effect. effect ≡ spec.once_bound (spec.rows_in self.now name.now ∷ []) outcome) }
+        ensures { IfOk result (λ effect. effect ≡ spec.once_bound [] (spec.rows_in self.now name.now ∷ []) outcome) }
     {
         match outcome {
             Ok(bound) => self.effect_over(alloc, name, bound),
@@ -126,7 +126,7 @@ impl Database {
     }
 
     fn effect_over(&self, alloc: Global, name: &Swn, bound: Bound) -> Result<Effect, NoMemory>
-        ensures { IfOk result (λ effect. effect ≡ spec.effect_of_bound (spec.rows_in self.now name.now ∷ []) bound) }
+        ensures { IfOk result (λ effect. effect ≡ spec.effect_of_bound [] (spec.rows_in self.now name.now ∷ []) bound) }
     {
         match self.table(name) {
             Some(table) => effect_over(alloc, bound, &table.rows),
@@ -135,7 +135,7 @@ impl Database {
     }
 
     fn insert(&self, alloc: Global, name: &Swn, rows: &[TermRow]) -> Result<Effect, NoMemory>
-        ensures { IfOk result (λ effect. effect ≡ spec.insert (spec.tables_in self.now) name.now rows.now) }
+        ensures { IfOk result (λ effect. effect ≡ spec.insert spec.no_arguments (spec.tables_in self.now) name.now rows.now) }
     {
         if let Some(cause) = self.table_denial(name) {
             return Ok(Effect::denied(cause));
@@ -152,7 +152,7 @@ impl Database {
         sets: &[Set],
         clauses: &[Clause],
     ) -> Result<Effect, NoMemory>
-        ensures { IfOk result (λ effect. effect ≡ spec.update (spec.tables_in self.now) name.now sets.now clauses.now) }
+        ensures { IfOk result (λ effect. effect ≡ spec.update spec.no_arguments (spec.tables_in self.now) name.now sets.now clauses.now) }
     {
         if let Some(cause) = self.table_denial(name) {
             return Ok(Effect::denied(cause));
@@ -163,7 +163,7 @@ impl Database {
     }
 
     fn delete(&self, alloc: Global, name: &Swn, clauses: &[Clause]) -> Result<Effect, NoMemory>
-        ensures { IfOk result (λ effect. effect ≡ spec.delete (spec.tables_in self.now) name.now clauses.now) }
+        ensures { IfOk result (λ effect. effect ≡ spec.delete spec.no_arguments (spec.tables_in self.now) name.now clauses.now) }
     {
         if let Some(cause) = self.table_denial(name) {
             return Ok(Effect::denied(cause));
@@ -181,7 +181,7 @@ impl Database {
         execution: &Execution,
         dml: &Dml,
     ) -> Result<Effect, NoMemory>
-        ensures { IfOk result (λ effect. effect ≡ spec.effect_of_dml self.now execution.now dml.now) }
+        ensures { IfOk result (λ effect. effect ≡ spec.effect_of_dml spec.no_arguments self.now execution.now dml.now) }
     {
         match dml {
             Dml::Select(query) => self.query(alloc, execution, query),

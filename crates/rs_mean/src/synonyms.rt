@@ -1,14 +1,13 @@
 //! CREATE SYNONYM and DROP SYNONYM.
 
-ghost use Rattle.std.specs.Prelude.{◌≡◌, IfOk};
+ghost use Rattle.std.specs.Prelude.{◌≡◌};
 ghost use Rattle.rs_scope.specs.Denials.{first_denial};
 ghost use Rattle.rs_mean.specs.TableStatements as spec;
 
 use crate::change::{Change, Effect};
 use crate::database::Database;
 use crate::execution::Execution;
-use rs_base::{Answer, Denial, Ident, NoMemory, Swn};
-use std::alloc::Global;
+use rs_base::{Answer, Denial, Ident, Swn};
 
 impl Database {
     fn create_synonym_denial(
@@ -29,35 +28,24 @@ impl Database {
     }
 
     /// Creates the user's synonym for the name, which need not be that of a table.
-    pub(crate) fn create_synonym(
-        &self,
-        alloc: Global,
-        execution: &Execution,
-        synonym: Ident,
-        name: Swn,
-    ) -> Result<Effect, NoMemory>
-        ensures { IfOk result (λ effect. effect ≡ spec.create_synonym self.now execution.now synonym name) }
+    pub(crate) fn create_synonym(&self, execution: &Execution, synonym: Ident, name: Swn) -> Effect
+        ensures { result ≡ spec.create_synonym self.now execution.now synonym name }
     {
         if let Some(cause) = self.create_synonym_denial(execution, synonym, &name) {
-            return Ok(Effect::denied(cause));
+            return Effect::denied(cause);
         }
         let synonym = execution.own_synonym(synonym);
-        Effect::done(alloc, Change::PutSynonym { synonym, name }, Answer::Ok)
+        Effect::done(Change::PutSynonym { synonym, name }, Answer::Ok)
     }
 
     /// Drops the user's synonym.
-    pub(crate) fn drop_synonym(
-        &self,
-        alloc: Global,
-        execution: &Execution,
-        synonym: Ident,
-    ) -> Result<Effect, NoMemory>
-        ensures { IfOk result (λ effect. effect ≡ spec.drop_synonym self.now execution.now synonym) }
+    pub(crate) fn drop_synonym(&self, execution: &Execution, synonym: Ident) -> Effect
+        ensures { result ≡ spec.drop_synonym self.now execution.now synonym }
     {
         let synonym = execution.own_synonym(synonym);
         if self.target(&synonym).is_none() {
-            return Ok(Effect::denied(Denial::NoSynonym));
+            return Effect::denied(Denial::NoSynonym);
         }
-        Effect::done(alloc, Change::DropSynonym { synonym }, Answer::Ok)
+        Effect::done(Change::DropSynonym { synonym }, Answer::Ok)
     }
 }

@@ -53,15 +53,15 @@ impl Database {
             return Ok(Effect::denied(cause));
         }
         let table = new_table(alloc, txn, &name, copy_columns(alloc, columns)?);
-        Effect::done(alloc, Change::PutTable { name, table }, Answer::Ok)
+        Ok(Effect::done(Change::PutTable { name, table }, Answer::Ok))
     }
 
-    pub(crate) fn drop_table(&self, alloc: Global, name: Swn) -> Result<Effect, NoMemory>
-        ensures { IfOk result (λ effect. effect ≡ spec.drop_table self.now name) }
+    pub(crate) fn drop_table(&self, name: Swn) -> Effect
+        ensures { result ≡ spec.drop_table self.now name }
     {
         match self.table_denial(&name) {
-            Some(cause) => Ok(Effect::denied(cause)),
-            None => Effect::done(alloc, Change::DropTable { name }, Answer::Ok),
+            Some(cause) => Effect::denied(cause),
+            None => Effect::done(Change::DropTable { name }, Answer::Ok),
         }
     }
 }

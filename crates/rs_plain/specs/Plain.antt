@@ -1,9 +1,7 @@
 -- The answer of a statement on rows over given tables, without synonyms and whatever the number of sites.
-use Rattle.std.specs.Prelude.{ℕ, is_none, List, [], ◌∷◌, map, find, Option, Some, None, Result, Ok, Err}
+use Rattle.std.specs.Prelude.{ℕ, is_none, List, [], ◌∷◌, map, find, Option, Some, None}
 use Rattle.std.specs.Ordering.{is_eq}
 use Rattle.rs_base.specs.declared.name.Swn.{Swn}
-use Rattle.rs_base.specs.declared.reply.Answer.{Answer}
-use Rattle.rs_base.specs.declared.reply.Denial.{Denial}
 use Rattle.rs_base.specs.declared.reply.Denial.TheVariants as denials
 use Rattle.rs_base.specs.declared.value.Value.{Value}
 use Rattle.rs_base.specs.Name.{resolve, name_cmp}
@@ -14,8 +12,7 @@ use Rattle.rs_bind.specs.Entries.{defined}
 use Rattle.rs_scope.specs.declared.heading.Heading.{Heading}
 use Rattle.rs_mean.specs.declared.change.Effect.{Effect}
 use Rattle.rs_plain.specs.declared.plain.PlainTable.{PlainTable}
-use Rattle.rs_mean.specs.Effects.{Outcome}
-use Rattle.rs_mean.specs.RowStatements.{Tables, effect_over}
+use Rattle.rs_mean.specs.RowStatements.{Tables, no_arguments, effect_over}
 
 -- ---- the tables
 
@@ -49,9 +46,4 @@ plain_tables tables = record { tests = plain_tests tables; heading = plain_headi
 
 -- the effect of a statement for this user, who asks at this site
 abbrev pub plain_effect : List PlainTable → List ℕ → ℕ → Dml → Effect
-plain_effect tables user site dml = effect_over (plain_tables tables) (λ written. resolve written user site) dml
-
--- the outcome of an execution of one statement that has this answer, or is denied so
-abbrev pub outcome_of : Result Answer Denial → Outcome
-outcome_of (Ok answer) = Ok (answer ∷ [])
-outcome_of (Err cause) = Err cause
+plain_effect tables user site dml = effect_over no_arguments (plain_tables tables) (λ written. resolve written user site) dml

@@ -141,7 +141,7 @@ fn names_of(alloc: Global, tables: &[TableRef], user: Ident, site: SiteNo) -> Re
 }
 
 fn answered_rows(rows: Result<Rows, Denial>) -> Answered
-    ensures { spec.outcome_of result ≡ (statements.answering rows).outcome }
+    ensures { result ≡ (statements.answering rows).answer }
 {
     match rows {
         Ok(rows) => Ok(Answer::Rows(rows)),
@@ -150,7 +150,7 @@ fn answered_rows(rows: Result<Rows, Denial>) -> Answered
 }
 
 fn changed_count(rows: Result<StoredRows, Denial>, count: usize) -> Answered
-    ensures { (name : Swn) → spec.outcome_of result ≡ (statements.updating name count rows).outcome }
+    ensures { (name : Swn) → result ≡ (statements.updating name count rows).answer }
 {
     match rows {
         Ok(_) => Ok(Answer::Changed(count as u64)),
@@ -159,7 +159,7 @@ fn changed_count(rows: Result<StoredRows, Denial>, count: usize) -> Answered
 }
 
 fn inserted_count(rows: Result<StoredRows, Denial>) -> Answered
-    ensures { (name : Swn) → spec.outcome_of result ≡ (statements.inserting name rows).outcome }
+    ensures { (name : Swn) → result ≡ (statements.inserting name rows).answer }
 {
     match rows {
         Ok(rows) => Ok(Answer::Changed(rows.len() as u64)),
@@ -167,9 +167,9 @@ fn inserted_count(rows: Result<StoredRows, Denial>) -> Answered
     }
 }
 
-/// Returns the answer of a bound statement over the rows of one table.
+/// Returns the answer of a bound statement without parameters over the rows of one table.
 fn answer_over(alloc: Global, bound: &Bound, rows: &StoredRows) -> Result<Answered, NoMemory>
-    ensures { IfOk result (λ answered. spec.outcome_of answered ≡ (statements.effect_of_bound (rows.now ∷ []) bound.now).outcome) }
+    ensures { IfOk result (λ answered. answered ≡ (statements.effect_of_bound [] (rows.now ∷ []) bound.now).answer) }
 {
     match bound {
         Bound::Select { clauses, shape, .. } => Ok(answered_rows(selected(
@@ -179,11 +179,17 @@ fn answer_over(alloc: Global, bound: &Bound, rows: &StoredRows) -> Result<Answer
             &[rows.as_run()],
         )?)),
         Bound::Insert { rows: given, .. } => {
-            Ok(inserted_count(inserted(alloc, given.as_slice(), rows)?))
+            Ok(inserted_count(inserted(alloc, &[], given.as_slice(), rows)?))
         }
         Bound::Update { sets, clauses, .. } => {
             let count = matching_count(clauses.as_slice(), &rows.as_run());
-            let new = updated(alloc, sets.as_slice(), clauses.as_slice(), &rows.as_run())?;
+            let new = updated(
+                alloc,
+                &[],
+                sets.as_slice(),
+                clauses.as_slice(),
+                &rows.as_run(),
+            )?;
             Ok(changed_count(new, count))
         }
         Bound::Delete { clauses, .. } => {
@@ -200,7 +206,7 @@ fn answer_once_bound(
     tables: &[PlainTable],
     name: &Swn,
 ) -> Result<Answered, NoMemory>
-    ensures { IfOk result (λ answered. spec.outcome_of answered ≡ (statements.once_bound (spec.plain_rows tables.now name.now ∷ []) outcome).outcome) }
+    ensures { IfOk result (λ answered. answered ≡ (statements.once_bound [] (spec.plain_rows tables.now name.now ∷ []) outcome).answer) }
 {
     match outcome {
         Ok(bound) => answer_over(alloc, &bound, &rows(alloc, tables, name)?),
@@ -208,7 +214,7 @@ fn answer_once_bound(
     }
 }
 
-/// Returns the answer of a bound query over its tables in order.
+/// Returns the answer of a bound query without parameters over its tables in order.
 fn answer_query(
     alloc: Global,
     bound: &Bound,
@@ -216,7 +222,7 @@ fn answer_query(
     names: &[Swn],
 ) -> Result<Answered, NoMemory>
     requires { IsSelect bound.now }
-    ensures { IfOk result (λ answered. spec.outcome_of answered ≡ (statements.effect_of_bound (map (spec.plain_rows tables.now) names.now) bound.now).outcome) }
+    ensures { IfOk result (λ answered. answered ≡ (statements.effect_of_bound [] (map (spec.plain_rows tables.now) names.now) bound.now).answer) }
 {
     let Bound::Select { clauses, shape, .. } = bound else {
         unreachable!()
@@ -233,7 +239,7 @@ fn select(
     names: &[Swn],
     query: &Select,
 ) -> Result<Answered, NoMemory>
-    ensures { IfOk result (λ answered. spec.outcome_of answered ≡ (statements.select (spec.plain_tables tables.now) names.now query.now).outcome) }
+    ensures { IfOk result (λ answered. answered ≡ (statements.select statements.no_arguments (spec.plain_tables tables.now) names.now query.now).answer) }
 {
     if let Some(cause) = first_missing(tables, names) {
         return Ok(Err(cause));
@@ -252,7 +258,7 @@ fn query(
     site: SiteNo,
     query: &Select,
 ) -> Result<Answered, NoMemory>
-    ensures { IfOk result (λ answered. spec.outcome_of answered ≡ (statements.query (spec.plain_tables tables.now) (λ written. resolve written user site) query.now).outcome) }
+    ensures { IfOk result (λ answered. answered ≡ (statements.query statements.no_arguments (spec.plain_tables tables.now) (λ written. resolve written user site) query.now).answer) }
 {
     let names = names_of(alloc, query.from.as_slice(), user, site)?;
     select(alloc, tables, names.as_slice(), query)
@@ -264,7 +270,7 @@ fn insert(
     name: &Swn,
     given: &[TermRow],
 ) -> Result<Answered, NoMemory>
-    ensures { IfOk result (λ answered. spec.outcome_of answered ≡ (statements.insert (spec.plain_tables tables.now) name.now given.now).outcome) }
+    ensures { IfOk result (λ answered. answered ≡ (statements.insert statements.no_arguments (spec.plain_tables tables.now) name.now given.now).answer) }
 {
     if let Some(cause) = denial(tables, name) {
         return Ok(Err(cause));
@@ -281,7 +287,7 @@ fn update(
     sets: &[Set],
     clauses: &[Clause],
 ) -> Result<Answered, NoMemory>
-    ensures { IfOk result (λ answered. spec.outcome_of answered ≡ (statements.update (spec.plain_tables tables.now) name.now sets.now clauses.now).outcome) }
+    ensures { IfOk result (λ answered. answered ≡ (statements.update statements.no_arguments (spec.plain_tables tables.now) name.now sets.now clauses.now).answer) }
 {
     if let Some(cause) = denial(tables, name) {
         return Ok(Err(cause));
@@ -297,7 +303,7 @@ fn delete(
     name: &Swn,
     clauses: &[Clause],
 ) -> Result<Answered, NoMemory>
-    ensures { IfOk result (λ answered. spec.outcome_of answered ≡ (statements.delete (spec.plain_tables tables.now) name.now clauses.now).outcome) }
+    ensures { IfOk result (λ answered. answered ≡ (statements.delete statements.no_arguments (spec.plain_tables tables.now) name.now clauses.now).answer) }
 {
     if let Some(cause) = denial(tables, name) {
         return Ok(Err(cause));
@@ -316,7 +322,7 @@ pub fn answer_plain(
     user: Ident,
     site: SiteNo,
 ) -> Result<Result<Answer, Denial>, NoMemory>
-    ensures { IfOk result (λ answered. spec.outcome_of answered ≡ (spec.plain_effect tables.now user site dml.now).outcome) }
+    ensures { IfOk result (λ answered. answered ≡ (spec.plain_effect tables.now user site dml.now).answer) }
 {
     match dml {
         Dml::Select(given) => query(alloc, tables, user, site, given),

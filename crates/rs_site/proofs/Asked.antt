@@ -8,7 +8,7 @@ use Rattle.rs_base.specs.declared.txn.Origin.{Origin}
 use Rattle.rs_base.specs.declared.reply.Reply.{Reply}
 use Rattle.rs_base.specs.declared.reply.Reply.TheVariants as replies
 use Rattle.rs_print.specs.Replies.{printed_origin, printed_class}
-use Rattle.rs_mean.specs.declared.built.Stmt.{Stmt}
+use Rattle.rs_ast.specs.declared.stmt.Stmt.{Stmt}
 use Rattle.rs_site.specs.Statement.{statement_of}
 use Rattle.rs_session.specs.declared.session.Session.{Session}
 use Rattle.rs_session.specs.Sessions.{session_of, last_is_answered}

@@ -1,15 +1,16 @@
 -- A site's handling of an ask: the plan of its step.
-use Rattle.std.specs.Prelude.{ℕ, ◌+◌, Bool, ◌&&◌, ◌==◌, nat_lt, true, List, [], ◌∷◌, Option, Some, None, Ok, Err}
+use Rattle.std.specs.Prelude.{ℕ, ◌+◌, Bool, ◌&&◌, ◌==◌, nat_lt, true, List, [], ◌∷◌, Option, Some, None}
 use Rattle.rs_base.specs.declared.peer.Peer.{Peer}
 use Rattle.rs_base.specs.declared.txn.Txn.{Txn}
 use Rattle.rs_base.specs.declared.txn.Origin.{Origin}
 use Rattle.rs_base.specs.declared.reply.Reply.{Reply}
 use Rattle.rs_base.specs.declared.reply.Reply.TheVariants as replies
-use Rattle.rs_mean.specs.declared.built.Stmt.{Stmt}
+use Rattle.rs_ast.specs.declared.stmt.Stmt.{Stmt}
 use Rattle.rs_site.specs.Statement.{statement_of, offset_replied}
 use Rattle.rs_mean.specs.declared.execution.Execution.{Execution}
 use Rattle.rs_mean.specs.Database.{Database}
-use Rattle.rs_mean.specs.Meaning.{Outcome, meaning}
+use Rattle.rs_mean.specs.Meaning.{meaning}
+use Rattle.rs_mean.specs.Outcome.{Outcome, Done, Denied, Shown}
 use Rattle.rs_msg.specs.declared.message.Ask.{Ask}
 use Rattle.rs_session.specs.declared.session.Session.{Session}
 use Rattle.rs_site.specs.declared.outs.Decided.{Decided}
@@ -54,10 +55,11 @@ answering from origin reply site = replying from origin 0 reply (with_reply orig
 abbrev pub execution_of : Txn → Origin → Stmt → Execution
 execution_of txn origin stmt = record { txn = txn; user = origin.user; site = origin.site; stmt = stmt }
 
--- the reply that reports an outcome
+-- The reply that reports an outcome. No execution shows lines so far.
 abbrev pub reply_of : Outcome → Reply
-reply_of (Ok answered) = replies.Done answered
-reply_of (Err cause) = replies.Denied cause
+reply_of (Done given) = replies.Done given
+reply_of (Denied cause) = replies.Denied cause
+reply_of Shown = replies.Shown []
 
 -- a transaction of the site was begun, and the database is this then
 abbrev pub with_change : Database → SiteState → SiteState

@@ -2,6 +2,7 @@
 
 ghost use Rattle.std.specs.Prelude.{◌≡◌, ◌<◌, ◌≤◌, length, IfOk, IfErr, OnOk, OnErr, Some, None};
 ghost use Rattle.rs_mean.specs.Changes.{changed};
+ghost use Rattle.rs_mean.specs.Outcome.{outcome_of};
 ghost use Rattle.rs_parse.specs.Parsing.{text_limit};
 ghost use Rattle.rs_site.specs.Asking as spec;
 ghost use Rattle.rs_site.specs.Planned.{IsDone};
@@ -9,18 +10,19 @@ ghost use Rattle.rs_site.specs.Statement.{statement_of, offset_replied};
 
 use crate::outs::{Decided, Outs, commits, no_outs, reply_with};
 use crate::site::Site;
-use rs_base::{Bytes, NoMemory, Origin, Peer, Reply};
-use rs_mean::{Change, Effect, Execution, Outcome, Stmt};
+use rs_ast::Stmt;
+use rs_base::{Answer, Bytes, Denial, NoMemory, Origin, Peer, Reply, one_item};
+use rs_mean::{Change, Effect, Execution, is_executed};
 use rs_parse::{ParseFault, parse};
 use std::alloc::Global;
 
-/// Returns the reply that reports an outcome.
-fn reply_of(outcome: Outcome) -> Reply
-    ensures { result ≡ spec.reply_of outcome }
+/// Returns the reply that reports the outcome of one statement.
+fn reply_of(alloc: Global, answer: Result<Answer, Denial>) -> Result<Reply, NoMemory>
+    ensures { IfOk result (λ reply. reply ≡ spec.reply_of (outcome_of answer)) }
 {
-    match outcome {
-        Ok(answers) => Reply::Done(answers),
-        Err(cause) => Reply::Denied(cause),
+    match answer {
+        Ok(answer) => Ok(Reply::Done(one_item(alloc, answer)?)),
+        Err(cause) => Ok(Reply::Denied(cause)),
     }
 }
 
@@ -33,10 +35,8 @@ fn statement(alloc: Global, text: &[u8]) -> Result<Result<Stmt, u32>, NoMemory>
     ensures offset { IfOk result (λ said. IfErr said (λ offset. offset ≡ offset_replied text.now)) }
 {
     match parse(alloc, text) {
-        Ok(stmt) => match Stmt::built(stmt) {
-            Some(stmt) => Ok(Ok(stmt)),
-            None => Ok(Err(0)),
-        },
+        Ok(stmt) if is_executed(&stmt) => Ok(Ok(stmt)),
+        Ok(_) => Ok(Err(0)),
         Err(ParseFault::Syntax { place }) => Ok(Err(place)),
         Err(ParseFault::NoMemory) => Err(NoMemory),
     }
@@ -77,8 +77,8 @@ impl Site {
             site: origin.site,
             stmt,
         };
-        let Effect { change, outcome } = self.held.database.effect_of(alloc, &execution)?;
-        let reply = reply_of(outcome);
+        let Effect { change, answer } = self.held.database.effect_of(alloc, &execution)?;
+        let reply = reply_of(alloc, answer)?;
         let kept = reply.copy(alloc)?;
         let decided = Decided {
             txn: self.who.next_txn(&self.desk),

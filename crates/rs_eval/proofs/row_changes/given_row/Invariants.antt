@@ -3,4 +3,4 @@ use Rattle.rs_eval.specs.Setting.{term_value}
 use Rattle.rs_eval.proofs.row_changes.given_row.Given as goal
 
 abbrev pub invariant-loop-term : goal.invariant-loop-term
-invariant-loop-term l = l.values ≡ map (term_value [] []) (take l.term-index l.row)
+invariant-loop-term l = l.given ≡ map (term_value l.values []) (take l.term-index l.row)
