@@ -7,19 +7,9 @@ use Rattle.std.proofs.lemmas.Bool.Decides.{nat_tests}
 use Rattle.rs_course.specs.declared.datagram.Datagram.{Datagram}
 use Rattle.rs_course.specs.Course.{GiveNext, act, lowest_pending}
 use Rattle.rs_course.specs.World.{World}
-use Rattle.rs_course.proofs.Pending.{next_given, none_pending, one_pending, none_delivered, none_next, one_next}
+use Rattle.rs_course.proofs.Pending.{get_below, get_past, next_given, none_pending, one_pending, none_delivered, none_next, one_next}
 use Rattle.rs_world.specs.Inside.{world_of}
 use Rattle.rs_world.specs.declared.world.World.TheInside.{Inside}
-
-get_below : {X : Type 0} (xs : List X) (i : ℕ) (x : X) → slice_get xs i ≡ Some x → i < length xs
-get_below [] i x e = absurd cc
-get_below (y ∷ ys) zero x e = omega arith
-get_below (y ∷ ys) (suc i) x e = omega (arith, get_below ys i x e)
-
-get_past : {X : Type 0} (xs : List X) (i : ℕ) → slice_get xs i ≡ None → length xs ≤ i
-get_past [] i e = omega arith
-get_past (y ∷ ys) zero e = absurd cc
-get_past (y ∷ ys) (suc i) e = omega (arith, get_past ys i e)
 
 pub get_of : {X : Type 0} (xs : List X) (i : ℕ) (x : X) → i < length xs → x ≡ slice_index_or xs i x → slice_get xs i ≡ Some x
 get_of [] i x lt is = absurd (omega (arith, lt))
