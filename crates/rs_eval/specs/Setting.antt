@@ -1,5 +1,5 @@
 -- The row after the assignments of an UPDATE. Each expression uses the old row.
-use Rattle.std.specs.Prelude.{Bool, true, List, Option, Some, None, option_map, Result, Ok, Err, ℤ, pos, fold, slice_get, slice_set, unwrap_or, if◌then◌else◌}
+use Rattle.std.specs.Prelude.{Bool, true, List, Option, Some, None, option_map, Result, Ok, Err, pos, fold, slice_get, slice_set, unwrap_or, if◌then◌else◌}
 use Rattle.std.specs.List.{list_all}
 use Rattle.rs_base.specs.declared.reply.Denial.{Denial}
 use Rattle.rs_base.specs.declared.reply.Denial.TheVariants as denials
