@@ -14,7 +14,7 @@ use Rattle.rs_world.specs.ReportText.{printed_report}
 use Rattle.rs_run.specs.declared.run.Finding.{Finding}
 use Rattle.rs_run.specs.declared.run.Finding.TheVariants as findings
 use Rattle.rs_run.specs.Refusal.{IsSource}
-use Rattle.rs_run.specs.Run.{IsReplay, most_read, IsNoSource, Reports, Refuses, OwesReplay, Owes, WritesPrefix, ReadsRefused, WritesRefusal, HoldsSource, HoldsNoSource, status_of, FoundIn, Finds}
+use Rattle.rs_run.specs.Run.{IsReplay, most_read, IsNoSource, Reports, Refuses, OwesReplay, Owes, WritesPrefix, ReadsRefused, WritesRefusal, IsReadOut, HoldsSource, HoldsNoSource, status_of, FoundIn, Finds}
 use Rattle.rs_run.proofs.FewEvents.{few_events}
 use Rattle.rs_run.proofs.ReadingOf.{source_is_played}
 
@@ -41,16 +41,24 @@ refuses_none bytes text refuses = λ given source. source_is_played bytes given 
 read_whole : (bytes : List ℕ) (given : List Event) → IsSource bytes given → take most_read bytes ≡ bytes
 read_whole bytes given source = take_all most_read bytes (omega (arith, source.schedule.short))
 
+below_or_at : (n m : ℕ) → n ≤ m → (n < m) ⊎ (n ≡ m)
+below_or_at n m le = grind arith
+
 -- what was read is as much as is read of what was left
 read_prefix : (bytes rest : List ℕ) → length bytes ≤ most_read → (length bytes < most_read → rest ≡ []) → take most_read (bytes ++ rest) ≡ bytes
 read_prefix bytes rest within at_end = by_length (below_or_at (length bytes) most_read within)
   where
-    below_or_at : (n m : ℕ) → n ≤ m → (n < m) ⊎ (n ≡ m)
-    below_or_at n m le = grind arith
-
     by_length : (length bytes < most_read) ⊎ (length bytes ≡ most_read) → take most_read (bytes ++ rest) ≡ bytes
     by_length (inl lt) = ap (λ (r : List ℕ). take most_read (bytes ++ r)) (at_end lt) ∙ ap (take most_read) (append-nil bytes) ∙ take_all most_read bytes within
     by_length (inr is) = take_at bytes rest most_read is
+
+-- what was read is all that was left, or as much as is read
+read_out : (left after : Option (List ℕ)) (bytes : List ℕ) → Consumes left after bytes → length bytes ≤ most_read → (length bytes < most_read → IsAtEnd after) → IsReadOut left after
+read_out left after bytes consumed within at_end =
+    elim (below_or_at (length bytes) most_read within) [
+      | inl lt ↦ record { bytes = bytes; consumed = consumed; whole = inr (at_end lt) }
+      | inr is ↦ record { bytes = bytes; consumed = consumed; whole = inl is }
+    ]
 
 pub finds_read : (words : List (String Global)) (left after : Option (List ℕ)) (bytes : List ℕ) (finding : Finding) (text : List ℕ)
     → IsReplay words → Consumes left after bytes → length bytes ≤ most_read → (length bytes < most_read → IsAtEnd after) → FoundIn bytes finding text → Finds words left after finding text
@@ -61,11 +69,11 @@ finds_read words (Some all) (Some rest) bytes findings.Reported text replay cons
     let whole : bytes ≡ all = sym (append-nil bytes) ∙ sym (ap (λ (r : List ℕ). bytes ++ r) ended) ∙ sym consumed in
     (replay, ended, subst (λ (bs : List ℕ). Reports bs text) whole found)
 finds_read words left after bytes findings.Usage text replay consumed within at_end found = absurd found
-finds_read words None after bytes findings.Refused text replay consumed within at_end found = (replay, tt)
+finds_read words None after bytes findings.Refused text replay consumed within at_end found = (replay, read_out None after bytes consumed within at_end, tt)
 finds_read words (Some all) None bytes findings.Refused text replay consumed within at_end found = absurd consumed
 finds_read words (Some all) (Some rest) bytes findings.Refused text replay consumed within at_end found =
     let prefix : take most_read all ≡ bytes = ap (take most_read) consumed ∙ read_prefix bytes rest within at_end in
-    (replay, subst (λ (bs : List ℕ). Refuses bs text) (sym prefix) found)
+    (replay, read_out (Some all) (Some rest) bytes consumed within at_end, subst (λ (bs : List ℕ). Refuses bs text) (sym prefix) found)
 
 ---- what has to be written
 
@@ -80,7 +88,7 @@ none_owed (Some bytes) text h = inr h
 owes : (words : List (String Global)) (left after : Option (List ℕ)) (finding : Finding) (text : List ℕ) → Finds words left after finding text → Owes words left text
 owes words left after findings.Reported text found = inl (found.0, whole_reported left text found.2)
 owes words left after findings.Usage text found = inr found
-owes words left after findings.Refused text found = inl (found.0, none_owed left text found.1)
+owes words left after findings.Refused text found = inl (found.0, none_owed left text found.2)
 
 -- a prefix of what has to be written was written
 pub writes_prefix : (words : List (String Global)) (left after old new : Option (List ℕ)) (finding : Finding) (text : List ℕ) → Finds words left after finding text → AppendsPrefix old new text → WritesPrefix words left old new
@@ -99,7 +107,7 @@ not_held (Some bytes) text holds found = holds found.given (subst (λ (bs : List
 pub complete_status : (words : List (String Global)) (left after : Option (List ℕ)) (finding : Finding) (text : List ℕ) → Finds words left after finding text → IsReplay words → HoldsSource left → (status_of finding ≡ 0) ⊎ (status_of finding ≡ 5)
 complete_status words left after findings.Reported text found replay holds = inl refl
 complete_status words left after findings.Usage text found replay holds = absurd (found.0 replay)
-complete_status words left after findings.Refused text found replay holds = absurd (held left text holds found.1)
+complete_status words left after findings.Refused text found replay holds = absurd (held left text holds found.2)
 
 pub refused_status : (words : List (String Global)) (left after : Option (List ℕ)) (finding : Finding) (text : List ℕ) → Finds words left after finding text → IsReplay words → HoldsNoSource left → (status_of finding ≡ 2) ⊎ (status_of finding ≡ 5)
 refused_status words left after findings.Reported text found replay holds = absurd (not_held left text holds found.2)
@@ -108,8 +116,8 @@ refused_status words left after findings.Refused text found replay holds = inl r
 
 ---- what status 2 means
 
-pub writes_refusal : (words : List (String Global)) (left after old new : Option (List ℕ)) (finding : Finding) (text : List ℕ) → Finds words left after finding text → status_of finding ≡ 2 → Appends old new text → IsReplay words × WritesRefusal left old new
+pub writes_refusal : (words : List (String Global)) (left after old new : Option (List ℕ)) (finding : Finding) (text : List ℕ) → Finds words left after finding text → status_of finding ≡ 2 → Appends old new text → IsReplay words × IsReadOut left after × WritesRefusal left old new
 writes_refusal words left after old new findings.Reported text found is appends = absurd cc
 writes_refusal words left after old new findings.Usage text found is appends = absurd cc
-writes_refusal words None after old new findings.Refused text found is appends = (found.0, tt)
-writes_refusal words (Some bytes) after old new findings.Refused text found is appends = (found.0, (text, found.1, appends))
+writes_refusal words None after old new findings.Refused text found is appends = (found.0, found.1, tt)
+writes_refusal words (Some bytes) after old new findings.Refused text found is appends = (found.0, found.1, (text, found.2, appends))

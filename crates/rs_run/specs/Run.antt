@@ -1,6 +1,6 @@
 -- What a run of the program does with its words, its source and its sink.
-use Rattle.std.specs.Prelude.{◌≡◌, ℕ, List, [], ◌∷◌, map, take, codes, string_bytes, Option, Some, None, IfSome, false, IsTrue, ◌⊎◌}
-use Rattle.std.specs.Io.KnownBytes.{Appends, IsAtEnd, Keeps}
+use Rattle.std.specs.Prelude.{◌≡◌, ℕ, List, [], ◌∷◌, length, map, take, codes, string_bytes, Option, Some, None, IfSome, false, IsTrue, ◌⊎◌}
+use Rattle.std.specs.Io.KnownBytes.{Appends, Consumes, IsAtEnd, Keeps}
 use Rattle.std.specs.Prelude.{String}
 use Rattle.std.specs.declared.alloc.Global.{Global}
 use Rattle.rs_stream.specs.Streams.{AppendsPrefix}
@@ -68,6 +68,12 @@ ReadsRefused left text = IfSome left (λ bytes. Refuses (take most_read bytes) t
 abbrev pub WritesRefusal : Option (List ℕ) → Option (List ℕ) → Option (List ℕ) → Type 0
 WritesRefusal left old new = IfSome left (λ bytes. (text : List ℕ) × Refuses (take most_read bytes) text × Appends old new text)
 
+-- The source was read to its end, or as far as a run reads.
+pub record IsReadOut (left after : Option (List ℕ)) : Type 0 where
+  pub bytes : List ℕ
+  pub consumed : Consumes left after bytes
+  pub whole : (length bytes ≡ most_read) ⊎ IsAtEnd after
+
 -- The source reports its bytes, and they are a source with some events.
 abbrev pub HoldsSource : Option (List ℕ) → Type 0
 HoldsSource None = ⊥
@@ -95,4 +101,4 @@ FoundIn bytes findings.Refused text = Refuses bytes text
 abbrev pub Finds : List (String Global) → Option (List ℕ) → Option (List ℕ) → Finding → List ℕ → Type 0
 Finds words left after findings.Reported text = IsReplay words × IsAtEnd after × IfSome left (λ bytes. Reports bytes text)
 Finds words left after findings.Usage text = (IsReplay words → ⊥) × (text ≡ codes "usage\n")
-Finds words left after findings.Refused text = IsReplay words × ReadsRefused left text
+Finds words left after findings.Refused text = IsReplay words × IsReadOut left after × ReadsRefused left text

@@ -118,6 +118,7 @@ pub fn run<S: Source, K: Sink>(alloc: Global, words: &[String], source: &mut S, 
     ensures usage { result ≡ 1 → (spec.IsReplay words.now → ⊥)
         × Appends (K.written sink.old) (K.written sink.new) (codes "usage\n") }
     ensures no_source { result ≡ 2 → spec.IsReplay words.now
+        × spec.IsReadOut (S.left source.old) (S.left source.new)
         × spec.WritesRefusal (S.left source.old) (K.written sink.old) (K.written sink.new) }
     ensures source { result ≡ 3 → Rises (S.faults source.old) (S.faults source.new)
         × Keeps (K.written sink.old) (K.written sink.new) }
