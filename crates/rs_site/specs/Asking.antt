@@ -74,12 +74,21 @@ committing entry database site = record {
   outs = record no_outs { decided = entry ∷ [] };
 }
 
--- The statement is executed by the next transaction, which is committed, and then its outcome is the reply.
+-- the output of a committed execution: its entry, and the reply
+abbrev pub reported : Peer → Origin → List ℕ → Txn → Reply → Outs
+reported from origin text txn reply =
+    record (reply_with from origin 0 reply) { decided = (record { txn = txn; origin = origin; text = text }) ∷ [] }
+
+-- The execution is committed, and then its outcome is the reply.
+abbrev pub executed_by : SiteState → Peer → Origin → List ℕ → Execution → Planned
+executed_by site from origin text execution =
+    let m = meaning site.held.database execution in
+    and_then (committing (record { txn = execution.txn; origin = origin; text = text }) m.0 site) (answering from origin (reply_of m.1))
+
+-- the statement is executed by the next transaction
 abbrev pub executed : SiteState → Peer → Origin → List ℕ → Stmt → Planned
 executed site from origin text stmt =
-    let txn = next_txn site.who site.desk in
-    let m = meaning site.held.database (execution_of txn origin stmt) in
-    and_then (committing (record { txn = txn; origin = origin; text = text }) m.0 site) (answering from origin (reply_of m.1))
+    executed_by site from origin text (execution_of (next_txn site.who site.desk) origin stmt)
 
 -- the number of the last transaction of an epoch
 abbrev pub last_number : ℕ

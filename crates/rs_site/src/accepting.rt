@@ -11,7 +11,7 @@ ghost use Rattle.rs_site.specs.Statement.{statement_of, offset_replied};
 use crate::outs::{Decided, Outs, commits, no_outs, reply_with};
 use crate::site::Site;
 use rs_ast::Stmt;
-use rs_base::{Answer, Bytes, Denial, NoMemory, Origin, Peer, Reply, one_item};
+use rs_base::{Answer, Bytes, Denial, NoMemory, Origin, Peer, Reply, Txn, one_item};
 use rs_mean::{Change, Effect, Execution, is_executed};
 use rs_parse::{ParseFault, parse};
 use std::alloc::Global;
@@ -24,6 +24,28 @@ fn reply_of(alloc: Global, answer: Result<Answer, Denial>) -> Result<Reply, NoMe
         Ok(answer) => Ok(Reply::Done(one_item(alloc, answer)?)),
         Err(cause) => Ok(Reply::Denied(cause)),
     }
+}
+
+/// Returns the output of a committed execution of one statement, and the reply in it.
+fn report_of(
+    alloc: Global,
+    from: &Peer,
+    origin: &Origin,
+    text: Bytes,
+    txn: Txn,
+    answer: Result<Answer, Denial>,
+) -> Result<(Outs, Reply), NoMemory>
+    ensures outs { IfOk result (λ made. made.0 ≡ spec.reported from.now origin.now text txn (spec.reply_of (outcome_of answer))) }
+    ensures reply { IfOk result (λ made. made.1 ≡ spec.reply_of (outcome_of answer)) }
+{
+    let reply = reply_of(alloc, answer)?;
+    let kept = reply.copy(alloc)?;
+    let decided = Decided {
+        txn,
+        origin: *origin,
+        text,
+    };
+    Ok((commits(alloc, from, origin, reply, decided)?, kept))
 }
 
 /// Returns the supported statement of a text, or else the byte offset to reply.
@@ -58,8 +80,27 @@ impl Site {
         Ok(())
     }
 
-    /// Executes the statement as the next transaction, and replies its outcome.
+    /// Commits the execution, and replies its outcome.
     fn execute(
+        &mut self,
+        alloc: Global,
+        from: &Peer,
+        origin: &Origin,
+        text: Bytes,
+        execution: &Execution,
+    ) -> Result<Outs, NoMemory>
+        requires { self.old.desk.begun < spec.last_number }
+        ensures ok { IfOk result (IsDone (spec.executed_by self.old from.now origin.now text execution.now) self.new) }
+        ensures err { OnErr result (self.new ≡ self.old) }
+    {
+        let Effect { change, answer } = self.held.database.effect_of(alloc, execution)?;
+        let (outs, reply) = report_of(alloc, from, origin, text, execution.txn, answer)?;
+        self.commit(change, origin, reply)?;
+        Ok(outs)
+    }
+
+    /// Executes the statement as the next transaction, and replies its outcome.
+    fn execute_next(
         &mut self,
         alloc: Global,
         from: &Peer,
@@ -77,17 +118,7 @@ impl Site {
             site: origin.site,
             stmt,
         };
-        let Effect { change, answer } = self.held.database.effect_of(alloc, &execution)?;
-        let reply = reply_of(alloc, answer)?;
-        let kept = reply.copy(alloc)?;
-        let decided = Decided {
-            txn: self.who.next_txn(&self.desk),
-            origin: *origin,
-            text,
-        };
-        let outs = commits(alloc, from, origin, reply, decided)?;
-        self.commit(change, origin, kept)?;
-        Ok(outs)
+        self.execute(alloc, from, origin, text, &execution)
     }
 
     /// Accepts a statement. It is dropped if the epoch has no transaction left.
@@ -106,7 +137,7 @@ impl Site {
         if self.desk.begun == u64::MAX {
             return Ok(no_outs(alloc));
         }
-        self.execute(alloc, from, origin, text, stmt)
+        self.execute_next(alloc, from, origin, text, stmt)
     }
 
     /// Accepts a text without a supported statement, and replies this byte offset.
