@@ -9,8 +9,9 @@ def median_of(values):
 
 
 def spread_of(values):
-    """Half the distance from the least to the greatest."""
-    return (max(values) - min(values)) / 2
+    """Half the distance between the quartiles, so that one run beside other work doesn't count."""
+    first, _, third = statistics.quantiles(values, n=4, method="inclusive")
+    return (third - first) / 2
 
 
 class Bounds:

@@ -19,7 +19,7 @@ import tempfile
 from bounds import Bounds, median_of, spread_of
 
 TOP = os.path.dirname(os.path.dirname(os.path.abspath(__file__)))
-RUNS = 7
+RUNS = 5
 CALLS = 10_000_000
 SIZES = (1_000, 8_000, 64_000)
 NAMES = ("add", "turn", "range")

@@ -68,7 +68,7 @@ class Runs:
 
     @property
     def spread(self):
-        """Half the distance from the fastest run to the slowest."""
+        """Half the distance between the quartiles."""
         return spread_of(self.seconds)
 
     def __str__(self):

@@ -5,9 +5,10 @@ A call's time is the processor time by which two runs of `bench_rows` differ, on
 so that start-up and filling the table don't count. `insert` fills new tables of that size, so it has each row's share of dropping
 a table; `turn` is a remove and an insert. Rows are removed, replaced and got in no order. Beside each is the time of the same
 over a `BTreeMap` in Rust, written by hand (rows.rs). The instructions of a call, which valgrind counts in shorter runs, have no
-noise, and no share of the waits for memory that a large table has; they have no bound, since an instruction takes no set time.
+noise, and no share of the waits for memory that a large table has.
 
-Bounds: eight times the rows take less than 1.6 times the time a call; a table of 65,536 rows takes at most 6 MB. The status says whether they held (see bounds.py). ROWS_PROGRAM in the environment names another program than the
+Bounds: eight times the rows take less than 1.6 times the time a call, and the instructions too; a table of 65,536 rows takes
+at most 6 MB. The status says whether they held (see bounds.py). ROWS_PROGRAM in the environment names another program than the
 built one.
 """
 
@@ -20,7 +21,7 @@ import tempfile
 from bounds import Bounds, median_of, spread_of
 
 TOP = os.path.dirname(os.path.dirname(os.path.abspath(__file__)))
-RUNS = 7
+RUNS = 5
 CALLS = 10_000_000
 SIZES = (1_000, 8_000, 64_000)
 NAMES = ("insert", "turn", "replace", "get")
@@ -118,7 +119,7 @@ with tempfile.TemporaryDirectory() as folder:
             )
             if before is not None:
                 bounds.ratio("times the time of an eighth of the rows", seconds, before[0], max(noise, before[1]), 1.6)
-                print(f"  times the instructions: {count / before[2]:.2f}")
+                bounds.at_most("times the instructions", count / before[2], 1.6)
             before = (seconds, noise, count)
     taken = memory(proved, 65_536)
     print(f"65,536 rows of one integer: {taken / 65_536:.0f} bytes a row; by hand {memory(hand, 65_536) / 65_536:.0f}")
