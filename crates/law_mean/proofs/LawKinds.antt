@@ -21,7 +21,7 @@ use Rattle.rs_ast.specs.declared.change.Term.{Term}
 use Rattle.rs_ast.specs.declared.change.Term.TheVariants as terms
 use Rattle.rs_ast.specs.declared.column.ColDef.{ColDef}
 use Rattle.rs_ast.specs.declared.column.ColRef.{ColRef}
-use Rattle.rs_plan.specs.Kinds.{same_kind, kinds_fit}
+use Rattle.rs_ast.specs.Kinds.{same_kind, kinds_fit}
 use Rattle.rs_bind_change.specs.Binding.{bound_term, bound_rows, bound_set}
 use Rattle.rs_bind_change.specs.Denials.{term_fits, row_fits, given_tests, row_tests, insert_tests, term_tests, term_kind, more_tests, expr_fits, set_tests, sets_tests}
 use Rattle.rs_scope.specs.Denials.{Test, test, first_denial}

@@ -23,7 +23,7 @@ use Rattle.rs_plan.specs.declared.bound.Bound.TheVariants as bounds
 use Rattle.rs_bind_query.specs.Binding.{select_bound, bound_select, shape_of}
 use Rattle.rs_bind_change.specs.Binding.{bound_rows, bound_set, insert_bound, update_bound, delete_bound}
 use Rattle.rs_scope.specs.Predicates.{bound_clauses}
-use Rattle.rs_scope.specs.Outcome as binding
+use Rattle.rs_plan.specs.Outcome as binding
 use Rattle.rs_bind_query.specs.Denials.{select_tests}
 use Rattle.rs_bind_change.specs.Denials.{insert_tests, update_tests, delete_tests, sets_tests}
 use Rattle.rs_scope.specs.Denials.{Test, test, first_denial, clauses_tests}

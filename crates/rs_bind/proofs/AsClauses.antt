@@ -13,7 +13,7 @@ use Rattle.rs_ast.specs.declared.clause.Cmp.{Cmp}
 use Rattle.rs_ast.specs.declared.clause.Operand.{Operand}
 use Rattle.rs_ast.specs.declared.clause.Operand.TheVariants as operands
 use Rattle.rs_ast.specs.declared.column.ColRef.{ColRef}
-use Rattle.rs_plan.specs.Kinds.{kinds_fit}
+use Rattle.rs_ast.specs.Kinds.{kinds_fit}
 use Rattle.rs_scope.specs.declared.scope.Param.{Param}
 use Rattle.rs_scope.specs.declared.scope.ScopeColumn.{ScopeColumn}
 use Rattle.rs_scope.specs.Denials.{Test, test, first_denial, param_test, column_tests, operand_tests, operand_kind, cmp_tests, clauses_tests}

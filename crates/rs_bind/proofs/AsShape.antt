@@ -13,7 +13,7 @@ use Rattle.rs_ast.specs.declared.select.KeyBy.TheVariants as keys
 use Rattle.rs_ast.specs.declared.select.Select.{Select}
 use Rattle.rs_ast.specs.declared.shape.ShapeItem.{ShapeItem}
 use Rattle.rs_ast.specs.declared.shape.ShapeItem.TheVariants as shape_items
-use Rattle.rs_plan.specs.Kinds.{kinds_fit}
+use Rattle.rs_ast.specs.Kinds.{kinds_fit}
 use Rattle.rs_scope.specs.declared.scope.Param.{Param}
 use Rattle.rs_scope.specs.declared.scope.ScopeColumn.{ScopeColumn}
 use Rattle.rs_scope.specs.Denials.{test, first_denial, column_tests, clauses_tests}

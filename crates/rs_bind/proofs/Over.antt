@@ -28,7 +28,7 @@ use Rattle.rs_scope.specs.declared.scope.Param.{Param}
 use Rattle.rs_scope.specs.declared.scope.ScopeColumn.{ScopeColumn}
 use Rattle.rs_bind_query.specs.Binding.{bound_select, shape_of, select_bound}
 use Rattle.rs_bind_change.specs.Binding.{bound_rows, bound_set, insert_bound, update_bound, delete_bound}
-use Rattle.rs_scope.specs.Outcome.{unless_denied}
+use Rattle.rs_plan.specs.Outcome.{unless_denied}
 use Rattle.rs_scope.specs.Predicates.{bound_clauses}
 use Rattle.rs_bind_query.specs.Denials.{all_differ, items_tests, key_tests, names_tests, grouping_test, keys_tests, select_tests}
 use Rattle.rs_bind_change.specs.Denials.{insert_tests, sets_tests, update_tests, delete_tests}

@@ -13,7 +13,7 @@ use Rattle.rs_ast.specs.declared.change.Set.{Set}
 use Rattle.rs_ast.specs.declared.change.Term.{Term}
 use Rattle.rs_ast.specs.declared.change.Term.TheVariants as terms
 use Rattle.rs_ast.specs.declared.bound.BoundTerm.{BoundTerm}
-use Rattle.rs_plan.specs.Kinds.{kinds_fit, same_kind}
+use Rattle.rs_ast.specs.Kinds.{kinds_fit, same_kind}
 use Rattle.rs_plan.specs.Over as over
 use Rattle.rs_plan.specs.Over.{more_fits, set_kind, set_fits, set_fits_kind, term_is_there}
 use Rattle.rs_plan.specs.Params.{term_is_below, row_is_below, more_is_below, set_is_below}

@@ -11,7 +11,7 @@ use Rattle.rs_ast.specs.declared.clause.Cmp.{Cmp}
 use Rattle.rs_ast.specs.declared.clause.Operand.{Operand}
 use Rattle.rs_ast.specs.declared.clause.Operand.TheVariants as operands
 use Rattle.rs_ast.specs.declared.column.ColRef.{ColRef}
-use Rattle.rs_plan.specs.Kinds.{kinds_fit}
+use Rattle.rs_ast.specs.Kinds.{kinds_fit}
 use Rattle.rs_plan.specs.Over.{side_kind, side_is_there, cmp_fits, clauses_fit}
 use Rattle.rs_plan.specs.Params.{side_is_below, cmp_is_below, clauses_are_below}
 use Rattle.rs_scope.specs.declared.scope.Param.{Param}

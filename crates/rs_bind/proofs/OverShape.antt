@@ -18,7 +18,7 @@ use Rattle.rs_ast.specs.declared.select.Select.{Select}
 use Rattle.rs_ast.specs.declared.shape.ShapeItem.{ShapeItem}
 use Rattle.rs_ast.specs.declared.shape.ShapeItem.TheVariants as shape_items
 use Rattle.rs_ast.specs.declared.shape.ShapeKey.{ShapeKey}
-use Rattle.rs_plan.specs.Kinds.{kinds_fit}
+use Rattle.rs_ast.specs.Kinds.{kinds_fit}
 use Rattle.rs_plan.specs.Over.{is_column_index, item_fits, is_filled, IsShapeOver}
 use Rattle.rs_plan.specs.Over as over
 use Rattle.rs_scope.specs.declared.scope.Param.{Param}

@@ -16,7 +16,7 @@ use Rattle.rs_scope.specs.declared.scope.ScopeColumn.{ScopeColumn}
 use Rattle.rs_scope.specs.Denials.{first_denial}
 use Rattle.rs_scope.specs.Scope.{as_position, column_index_of, unqualified, param_index, table_scope}
 use Rattle.rs_scope.specs.Predicates.{bound_clauses}
-use Rattle.rs_scope.specs.Outcome.{unless_denied}
+use Rattle.rs_plan.specs.Outcome.{unless_denied}
 use Rattle.rs_bind_change.specs.Denials.{insert_tests, update_tests, delete_tests}
 
 abbrev pub bound_term : List ScopeColumn → List Param → Term → BoundTerm

@@ -20,7 +20,7 @@ use Rattle.rs_scope.specs.declared.scope.ScopeColumn.{ScopeColumn}
 use Rattle.rs_scope.specs.Denials.{first_denial}
 use Rattle.rs_scope.specs.Scope.{as_u16, column_index_of, aliases_of, query_scope}
 use Rattle.rs_scope.specs.Predicates.{bound_clauses}
-use Rattle.rs_scope.specs.Outcome.{unless_denied}
+use Rattle.rs_plan.specs.Outcome.{unless_denied}
 use Rattle.rs_bind_query.specs.Denials.{is_grouped, select_tests}
 
 abbrev pub shape_item : List ScopeColumn → Item → ShapeItem

@@ -10,7 +10,7 @@ use Rattle.rs_ast.specs.declared.select.Item.TheVariants as items
 use Rattle.rs_ast.specs.declared.select.KeyBy.{KeyBy}
 use Rattle.rs_ast.specs.declared.select.KeyBy.TheVariants as keys
 use Rattle.rs_ast.specs.declared.select.Select.{Select}
-use Rattle.rs_plan.specs.Kinds.{kinds_fit}
+use Rattle.rs_ast.specs.Kinds.{kinds_fit}
 use Rattle.rs_plan.specs.Over.{is_filled}
 use Rattle.rs_scope.specs.declared.heading.Heading.{Heading}
 use Rattle.rs_scope.specs.declared.scope.Param.{Param}

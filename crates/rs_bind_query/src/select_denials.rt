@@ -5,7 +5,7 @@ ghost use Rattle.std.specs.List.{list_any};
 ghost use Rattle.rs_bind_query.specs.Denials as spec;
 ghost use Rattle.rs_scope.specs.Denials as denials;
 ghost use Rattle.rs_scope.specs.Scope as named;
-ghost use Rattle.rs_plan.specs.Kinds as kinds;
+ghost use Rattle.rs_ast.specs.Kinds as kinds;
 
 use crate::grouping::{is_grouped, shows_group};
 use crate::item_keys::names_items;

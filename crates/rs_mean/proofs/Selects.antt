@@ -4,7 +4,7 @@ use Rattle.rs_base.specs.declared.reply.Denial.{Denial}
 use Rattle.rs_ast.specs.declared.select.Select.{Select}
 use Rattle.rs_plan.specs.declared.bound.Bound.{Bound}
 use Rattle.rs_bind_query.specs.Binding.{select_bound, bound_select}
-use Rattle.rs_scope.specs.Outcome.{unless_denied}
+use Rattle.rs_plan.specs.Outcome.{unless_denied}
 use Rattle.rs_bind_query.specs.Denials.{select_tests}
 use Rattle.rs_scope.specs.Denials.{first_denial}
 use Rattle.rs_scope.specs.declared.heading.Heading.{Heading}

@@ -1,4 +1,4 @@
-pub mod Kinds
+pub mod Outcome
 pub mod Over
 pub mod Params
 pub mod Section

@@ -20,7 +20,7 @@ use Rattle.rs_ast.specs.declared.shape.ShapeItem.{ShapeItem}
 use Rattle.rs_ast.specs.declared.shape.ShapeItem.TheVariants as items
 use Rattle.rs_plan.specs.declared.bound.Bound.{Bound}
 use Rattle.rs_plan.specs.declared.bound.Bound.TheVariants as bounds
-use Rattle.rs_plan.specs.Kinds.{kinds_fit}
+use Rattle.rs_ast.specs.Kinds.{kinds_fit}
 
 -- ---- columns
 

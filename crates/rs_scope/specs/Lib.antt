@@ -1,5 +1,4 @@
 pub mod DenialOf
 pub mod Denials
-pub mod Outcome
 pub mod Predicates
 pub mod Scope

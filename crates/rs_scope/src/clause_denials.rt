@@ -3,7 +3,7 @@
 ghost use Rattle.std.specs.Prelude.{◌≡◌, flat_map};
 ghost use Rattle.rs_scope.specs.Denials as spec;
 ghost use Rattle.rs_scope.specs.Scope as named;
-ghost use Rattle.rs_plan.specs.Kinds as kinds;
+ghost use Rattle.rs_ast.specs.Kinds as kinds;
 
 use crate::columns::column_kind;
 use crate::denials::first_denial;

@@ -1,7 +1,7 @@
 //! Kinds of values, as far as they are known.
 
 ghost use Rattle.std.specs.Prelude.{◌≡◌};
-ghost use Rattle.rs_plan.specs.Kinds as spec;
+ghost use Rattle.rs_ast.specs.Kinds as spec;
 
 use rs_base::Kind;
 
