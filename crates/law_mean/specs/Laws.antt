@@ -51,11 +51,13 @@ after db execution = (meaning db execution).0
 
 -- a denied execution changes nothing
 abbrev pub DeniedChangesNothing : Type 0
-DeniedChangesNothing = (db : Database) (execution : Execution) (cause : Denial) → (meaning db execution).1 ≡ Denied cause → after db execution ≡ db
+DeniedChangesNothing = (db : Database) (execution : Execution) (cause : Denial)
+    → (meaning db execution).1 ≡ Denied cause → after db execution ≡ db
 
 -- a SELECT changes nothing
 abbrev pub SelectChangesNothing : Type 0
-SelectChangesNothing = (db : Database) (execution : Execution) (query : Select) → execution.stmt ≡ stmts.Dml (dmls.Select query) → after db execution ≡ db
+SelectChangesNothing = (db : Database) (execution : Execution) (query : Select)
+    → execution.stmt ≡ stmts.Dml (dmls.Select query) → after db execution ≡ db
 
 -- no execution changes the number of sites
 abbrev pub SitesStay : Type 0
@@ -63,11 +65,13 @@ SitesStay = (db : Database) (execution : Execution) → (after db execution).sit
 
 -- the synonyms are distinct and rise, at first and after each execution
 abbrev pub SynonymsStayInOrder : Type 0
-SynonymsStayInOrder = ((sites : ℕ) → AreSynonymsInOrder (empty sites)) × ((db : Database) (execution : Execution) → AreSynonymsInOrder db → AreSynonymsInOrder (after db execution))
+SynonymsStayInOrder = ((sites : ℕ) → AreSynonymsInOrder (empty sites))
+    × ((db : Database) (execution : Execution) → AreSynonymsInOrder db → AreSynonymsInOrder (after db execution))
 
 -- the names are distinct and rise, at first and after each execution
 abbrev pub NamesStayInOrder : Type 0
-NamesStayInOrder = ((sites : ℕ) → IsInOrder (empty sites)) × ((db : Database) (execution : Execution) → IsInOrder db → IsInOrder (after db execution))
+NamesStayInOrder = ((sites : ℕ) → IsInOrder (empty sites))
+    × ((db : Database) (execution : Execution) → IsInOrder db → IsInOrder (after db execution))
 
 -- ---- what a statement may change
 
@@ -100,7 +104,8 @@ target_table db execution = option_map (name_of db execution) (written_of execut
 
 -- an execution touches no table but its own
 abbrev pub OthersStay : Type 0
-OthersStay = (db : Database) (execution : Execution) (name : Swn) → target_table db execution ≢ Some name → table_named name (after db execution) ≡ table_named name db
+OthersStay = (db : Database) (execution : Execution) (name : Swn) → target_table db execution ≢ Some name
+    → table_named name (after db execution) ≡ table_named name db
 
 -- the name of the synonym that a statement may change
 abbrev pub synonym_of : Stmt → Option (List ℕ)
@@ -125,11 +130,13 @@ target_synonym execution = option_map (own_synonym execution) (synonym_of execut
 
 -- only statements on synonyms change what synonyms refer to
 abbrev pub SynonymsStay : Type 0
-SynonymsStay = (db : Database) (execution : Execution) → synonym_of execution.stmt ≡ None → (after db execution).synonyms ≡ db.synonyms
+SynonymsStay = (db : Database) (execution : Execution) → synonym_of execution.stmt ≡ None
+    → (after db execution).synonyms ≡ db.synonyms
 
 -- an execution touches no synonym but its own: none of another user, and none at another site
 abbrev pub OtherSynonymsStay : Type 0
-OtherSynonymsStay = (db : Database) (execution : Execution) (synonym : Synonym) → target_synonym execution ≢ Some synonym → target_of synonym (after db execution) ≡ target_of synonym db
+OtherSynonymsStay = (db : Database) (execution : Execution) (synonym : Synonym) → target_synonym execution ≢ Some synonym
+    → target_of synonym (after db execution) ≡ target_of synonym db
 
 ---- what is there after a done statement
 
@@ -139,7 +146,8 @@ TableIsMade = (db : Database) (execution : Execution) (written : NameText) (colu
     → execution.stmt ≡ stmts.CreateTable written columns → (meaning db execution).1 ≡ Done given
     → (given ≡ answers.Ok ∷ [])
     × (table_named (name_of db execution written) db ≡ None)
-    × (table_named (name_of db execution written) (after db execution) ≡ Some (record { made = execution.txn; place = (name_of db execution written).birth; columns = columns; indexes = []; rows = [] }))
+    × (table_named (name_of db execution written) (after db execution)
+        ≡ Some (record { made = execution.txn; place = (name_of db execution written).birth; columns = columns; indexes = []; rows = [] }))
 
 -- after a done DROP TABLE in a database with sorted names no table has its name, which one had before
 abbrev pub TableIsDropped : Type 0
@@ -155,7 +163,8 @@ RowsAreAppended = (db : Database) (execution : Execution) (written : NameText) (
     → execution.stmt ≡ stmts.Dml (dmls.Insert written (map (map terms.Lit) rows)) → (meaning db execution).1 ≡ Done given
     → (given ≡ answers.Changed (length rows) ∷ [])
     × IsSome (table_named (name_of db execution written) db)
-    × (table_named (name_of db execution written) (after db execution) ≡ option_map (with_rows rows) (table_named (name_of db execution written) db))
+    × (table_named (name_of db execution written) (after db execution)
+        ≡ option_map (with_rows rows) (table_named (name_of db execution written) db))
 
 -- A table has this number of rows less.
 pub record HasLost (count : ℕ) (old new : Table) : Type 0 where
@@ -177,7 +186,8 @@ abbrev pub RowsAreTakenOut : Type 0
 RowsAreTakenOut = (db : Database) (execution : Execution) (written : NameText) (clauses : List Clause) (given : List Answer)
     → execution.stmt ≡ stmts.Dml (dmls.Delete written clauses) → (meaning db execution).1 ≡ Done given
     → (count : ℕ) × (old : Table) × (new : Table) × (given ≡ answers.Changed count ∷ [])
-    × (table_named (name_of db execution written) db ≡ Some old) × (table_named (name_of db execution written) (after db execution) ≡ Some new) × HasLost count old new
+    × (table_named (name_of db execution written) db ≡ Some old)
+        × (table_named (name_of db execution written) (after db execution) ≡ Some new) × HasLost count old new
     × (new.rows ≡ filter (λ row. not (holds (predicate_on (name_of db execution written) old clauses) row)) old.rows)
 
 -- Each row is the one of before, set by the assignments if that satisfies the predicate.
@@ -185,16 +195,20 @@ abbrev pub AreSet : List BoundSet → List (List BoundCmp) → List (List Value)
 AreSet sets clauses [] [] = Unit {0}
 AreSet sets clauses [] (new ∷ news) = ⊥
 AreSet sets clauses (row ∷ rows) [] = ⊥
-AreSet sets clauses (row ∷ rows) (new ∷ news) = ((if holds clauses row then row_set sets [] row else Ok row) ≡ Ok new) × AreSet sets clauses rows news
+AreSet sets clauses (row ∷ rows) (new ∷ news) = ((if holds clauses row then row_set sets [] row else Ok row) ≡ Ok new)
+    × AreSet sets clauses rows news
 
 -- after a done UPDATE its table has as many rows as before, in their order: a row that satisfies the predicate is set, and
 -- another is as it was; it reports at most their number
 abbrev pub RowsAreChanged : Type 0
-RowsAreChanged = (db : Database) (execution : Execution) (written : NameText) (sets : List Set) (clauses : List Clause) (given : List Answer)
+RowsAreChanged =
+    (db : Database) (execution : Execution) (written : NameText) (sets : List Set) (clauses : List Clause) (given : List Answer)
     → execution.stmt ≡ stmts.Dml (dmls.Update written sets clauses) → (meaning db execution).1 ≡ Done given
     → (count : ℕ) × (old : Table) × (new : Table) × (given ≡ answers.Changed count ∷ []) × (count ≤ length old.rows)
-    × (table_named (name_of db execution written) db ≡ Some old) × (table_named (name_of db execution written) (after db execution) ≡ Some new) × HasLost 0 old new
-    × AreSet (assignments_on (name_of db execution written) old sets) (predicate_on (name_of db execution written) old clauses) old.rows new.rows
+    × (table_named (name_of db execution written) db ≡ Some old)
+        × (table_named (name_of db execution written) (after db execution) ≡ Some new) × HasLost 0 old new
+    × AreSet (assignments_on (name_of db execution written) old sets)
+        (predicate_on (name_of db execution written) old clauses) old.rows new.rows
 
 -- the column at this index has this name
 abbrev pub IsNameAt : List ℕ → List ColDef → ℕ → Type 0
@@ -208,11 +222,14 @@ pub record HasGained (index : IndexOf) (old new : Table) : Type 0 where
 -- after a done CREATE INDEX its table has the index, of this name, made by the execution, and on the column of that name if the
 -- table has at most 16 columns
 abbrev pub IndexIsMade : Type 0
-IndexIsMade = (db : Database) (execution : Execution) (name : List ℕ) (written : NameText) (column : List ℕ) (given : List Answer)
+IndexIsMade =
+    (db : Database) (execution : Execution) (name : List ℕ) (written : NameText) (column : List ℕ) (given : List Answer)
     → execution.stmt ≡ stmts.CreateIndex name written column → (meaning db execution).1 ≡ Done given
-    → (old : Table) × (new : Table) × (index : IndexOf) × (given ≡ answers.Ok ∷ []) × (index.name ≡ name) × (index.made ≡ execution.txn)
+    → (old : Table) × (new : Table) × (index : IndexOf) × (given ≡ answers.Ok ∷ []) × (index.name ≡ name)
+        × (index.made ≡ execution.txn)
     × (length old.columns ≤ 16 → IsNameAt column old.columns index.column)
-    × (table_named (name_of db execution written) db ≡ Some old) × (table_named (name_of db execution written) (after db execution) ≡ Some new) × HasGained index old new
+    × (table_named (name_of db execution written) db ≡ Some old)
+        × (table_named (name_of db execution written) (after db execution) ≡ Some new) × HasGained index old new
 
 -- A table that had an index of this name has none of it any more, and all its others.
 pub record HasNoMore (name : List ℕ) (old new : Table) : Type 0 where
@@ -225,7 +242,8 @@ abbrev pub IndexIsDropped : Type 0
 IndexIsDropped = (db : Database) (execution : Execution) (name : List ℕ) (written : NameText) (given : List Answer)
     → execution.stmt ≡ stmts.DropIndex name written → (meaning db execution).1 ≡ Done given
     → (old : Table) × (new : Table) × (given ≡ answers.Ok ∷ [])
-    × (table_named (name_of db execution written) db ≡ Some old) × (table_named (name_of db execution written) (after db execution) ≡ Some new) × HasNoMore name old new
+    × (table_named (name_of db execution written) db ≡ Some old)
+        × (table_named (name_of db execution written) (after db execution) ≡ Some new) × HasNoMore name old new
 
 -- after a done CREATE SYNONYM the user's synonym at the asked site, which wasn't there, refers to the name
 abbrev pub SynonymIsMade : Type 0
@@ -251,7 +269,8 @@ EachTable P db = All P (values_of db.tables)
 
 -- each table is so at first, and stays so after each execution
 abbrev pub StaysInEachTable : (Table → Type 0) → Type 0
-StaysInEachTable P = ((sites : ℕ) → EachTable P (empty sites)) × ((db : Database) (execution : Execution) → EachTable P db → EachTable P (after db execution))
+StaysInEachTable P = ((sites : ℕ) → EachTable P (empty sites))
+    × ((db : Database) (execution : Execution) → EachTable P db → EachTable P (after db execution))
 
 -- The table has at most 65,536 rows and at most 8,388,608 bytes, and each row has at most 1,024 bytes.
 pub record IsWithin (table : Table) : Type 0 where
@@ -287,7 +306,8 @@ IsAtSite sites table = table.place ≤ sites
 abbrev pub TablesStayAtSites : Type 0
 TablesStayAtSites =
     ((sites : ℕ) → EachTable (IsAtSite sites) (empty sites))
-    × ((db : Database) (execution : Execution) → EachTable (IsAtSite db.sites) db → EachTable (IsAtSite (after db execution).sites) (after db execution))
+    × ((db : Database) (execution : Execution) → EachTable (IsAtSite db.sites) db
+        → EachTable (IsAtSite (after db execution).sites) (after db execution))
 
 -- ---- kinds
 
@@ -301,13 +321,15 @@ pub record IsTyped (table : Table) : Type 0 where
 abbrev pub RowsStayTyped : Type 0
 RowsStayTyped =
     ((sites : ℕ) → EachTable IsTyped (empty sites))
-    × ((db : Database) (execution : Execution) → KeepsLimits execution.stmt → EachTable IsTyped db → EachTable IsTyped (after db execution))
+    × ((db : Database) (execution : Execution) → KeepsLimits execution.stmt → EachTable IsTyped db
+        → EachTable IsTyped (after db execution))
 
 ---- a query's answer
 
 -- the columns that a query may name
 abbrev pub columns_named : Database → Execution → Select → List ScopeColumn
-columns_named db execution query = query_scope query.from (map (heading_in db) (map (λ table. name_of db execution table.name) query.from))
+columns_named db execution query =
+    query_scope query.from (map (heading_in db) (map (λ table. name_of db execution table.name) query.from))
 
 -- the kind of an item, if its column is there
 abbrev pub kind_shown : List ScopeColumn → Item → Option Kind
@@ -325,6 +347,7 @@ kinds_shown columns (Some shown) = map (kind_shown columns) shown
 -- over typed tables, a query that keeps the limits and is answered has a kind for each item, and each row that it answers a value for each, of its kind
 abbrev pub AnswersAreTyped : Type 0
 AnswersAreTyped = (db : Database) (execution : Execution) (query : Select) (given : List Answer)
-    → EachTable IsTyped db → KeepsLimits execution.stmt → execution.stmt ≡ stmts.Dml (dmls.Select query) → (meaning db execution).1 ≡ Done given
+    → EachTable IsTyped db → KeepsLimits execution.stmt → execution.stmt ≡ stmts.Dml (dmls.Select query)
+        → (meaning db execution).1 ≡ Done given
     → (rows : List (List Value)) × (known : List Kind) × (given ≡ answers.Rows rows ∷ [])
     × AreKindsOf (kinds_shown (columns_named db execution query) query.items) known × All (HasKinds known) rows

@@ -28,4 +28,5 @@ overflows shape joined = list_any (λ members. list_any (item_overflows members)
 
 -- the rows of a query, sorted by its keys and then by all columns; or Overflow
 unfoldable pub answer_of : Shape → List (List Value) → Result (List (List Value)) Denial
-answer_of shape joined = if overflows shape joined then Err denials.Overflow else Ok (sorted_by (answer_cmp shape.keys) (query_rows shape joined))
+answer_of shape joined = if overflows shape joined then Err denials.Overflow
+    else Ok (sorted_by (answer_cmp shape.keys) (query_rows shape joined))

@@ -12,7 +12,8 @@ use Rattle.rs_ast.specs.declared.shape.ShapeKey.{ShapeKey}
 -- inserts the item before the first one that isn't below it
 abbrev pub put_in_order : {A : Type 0} → (A → A → Ordering) → A → List A → List A
 put_in_order order item [] = item ∷ []
-put_in_order order item (other ∷ items) = match_ordering (order item other) (item ∷ other ∷ items) (item ∷ other ∷ items) (other ∷ put_in_order order item items)
+put_in_order order item (other ∷ items) =
+    match_ordering (order item other) (item ∷ other ∷ items) (item ∷ other ∷ items) (other ∷ put_in_order order item items)
 
 -- the same items, each as often, rising; those that tie keep their order
 abbrev pub sorted_by : {A : Type 0} → (A → A → Ordering) → List A → List A

@@ -13,7 +13,8 @@ use rs_base::{Denial, NoMemory, Rows};
 use std::alloc::Global;
 
 fn sorted_rows(alloc: Global, shape: &Shape, joined: Rows) -> Result<Rows, AnswerFault>
-    ensures { Gives (spec.overflows shape.now joined) (λ rows. rows ≡ sorted_by (answer_cmp shape.now.keys) (spec.query_rows shape.now joined)) result }
+    ensures { Gives (spec.overflows shape.now joined) (λ rows. rows
+        ≡ sorted_by (answer_cmp shape.now.keys) (spec.query_rows shape.now joined)) result }
 {
     let rows = shown_rows(alloc, shape, joined)?;
     Ok(rows_in_order(shape.keys.as_slice(), shape.distinct, rows)?)

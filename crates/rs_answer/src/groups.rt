@@ -31,7 +31,8 @@ fn compare_groups(column_indexes: &[u16], one: &[Value], other: &[Value]) -> Ord
 
 /// Returns the number of first rows in the group of a row.
 fn run_length(column_indexes: &[u16], first: &[Value], rows: &[Row]) -> usize
-    ensures { result ≡ prefix_len (λ row. same_group (group_values column_indexes.now first.now) (group_values column_indexes.now row)) rows.now }
+    ensures { result
+        ≡ prefix_len (λ row. same_group (group_values column_indexes.now first.now) (group_values column_indexes.now row)) rows.now }
 {
     let mut length = 0;
     for row in rows {
@@ -72,7 +73,8 @@ fn rows_by_group(alloc: Global, column_indexes: &[u16], joined: Rows) -> Result<
 
 /// Returns the row of each row as a group of its own.
 fn each_alone(alloc: Global, items: &[ShapeItem], rows: &[Row]) -> Result<Vec<Row>, AnswerFault>
-    ensures { Gives (any_overflows items.now (map (λ row. row ∷ []) rows.now)) (λ given. given.items ≡ rows_of items.now (map (λ row. row ∷ []) rows.now)) result }
+    ensures { Gives (any_overflows items.now (map (λ row. row ∷ []) rows.now)) (λ given. given.items
+        ≡ rows_of items.now (map (λ row. row ∷ []) rows.now)) result }
 {
     let mut given = Vec::with_capacity(alloc, rows.len())?;
     for row in rows {
@@ -83,7 +85,8 @@ fn each_alone(alloc: Global, items: &[ShapeItem], rows: &[Row]) -> Result<Vec<Ro
 
 /// Returns the row of all rows as one group.
 fn all_together(alloc: Global, items: &[ShapeItem], rows: &[Row]) -> Result<Vec<Row>, AnswerFault>
-    ensures { Gives (any_overflows items.now (rows.now ∷ [])) (λ given. given.items ≡ rows_of items.now (rows.now ∷ [])) result }
+    ensures { Gives (any_overflows items.now (rows.now ∷ [])) (λ given. given.items
+        ≡ rows_of items.now (rows.now ∷ [])) result }
 {
     let mut given = Vec::new(alloc);
     push_group(alloc, items, rows, &mut given)?;
@@ -98,7 +101,8 @@ fn each_run(
     rows: &[Row],
 ) -> Result<Vec<Row>, AnswerFault>
     requires { IsSortedByKey (group_values column_indexes.now) group_cmp rows.now }
-    ensures { Gives (any_overflows items.now (grouped_by column_indexes.now rows.now)) (λ given. given.items ≡ rows_of items.now (grouped_by column_indexes.now rows.now)) result }
+    ensures { Gives (any_overflows items.now (grouped_by column_indexes.now rows.now)) (λ given. given.items
+        ≡ rows_of items.now (grouped_by column_indexes.now rows.now)) result }
 {
     let mut given = Vec::new(alloc);
     let mut rest = rows;

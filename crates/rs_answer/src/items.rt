@@ -100,7 +100,8 @@ fn copied(alloc: Global, found: Option<&Value>) -> Result<Option<Value>, NoMemor
 }
 
 fn sum_value(column_index: u16, members: &[Row]) -> Result<Value, AnswerFault>
-    ensures { Gives (spec.item_overflows members.now (ShapeItem.Sum column_index)) (λ value. Some value ≡ spec.item_value members.now (ShapeItem.Sum column_index)) result }
+    ensures { Gives (spec.item_overflows members.now (ShapeItem.Sum column_index)) (λ value. Some value
+        ≡ spec.item_value members.now (ShapeItem.Sum column_index)) result }
 {
     match i64::try_from(sum_at(column_index, members)) {
         Ok(sum) => Ok(Value::Int(sum)),
@@ -147,7 +148,8 @@ pub(crate) fn push_group(
     members: &[Row],
     rows: &mut Vec<Row>,
 ) -> Result<(), AnswerFault>
-    ensures { Gives (group_overflows items.now members.now) (λ _. rows.new.items ≡ rows.old.items ++ option_to_list (spec.row_of items.now members.now)) result }
+    ensures { Gives (group_overflows items.now members.now) (λ _. rows.new.items ≡ rows.old.items
+        ++ option_to_list (spec.row_of items.now members.now)) result }
 {
     if let Some(row) = group_row(alloc, items, members)? {
         rows.push(row)?;

@@ -62,7 +62,8 @@ pub(crate) fn rows_in_order(
     distinct: bool,
     rows: Vec<Row>,
 ) -> Result<Rows, NoMemory>
-    ensures { IfOk result (λ ordered. ordered ≡ sorted_by (answer_cmp keys.now) (if distinct then once same_row rows.items else rows.items)) }
+    ensures { IfOk result (λ ordered. ordered
+        ≡ sorted_by (answer_cmp keys.now) (if distinct then once same_row rows.items else rows.items)) }
 {
     let rows = sorted(keys, rows)?;
     Ok(Items::from_vec(if distinct {

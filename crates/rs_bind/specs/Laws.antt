@@ -17,7 +17,8 @@ use Rattle.rs_bind.specs.Entries.{headings_of, params_of, kinds_given, table_cou
 -- is over them, and fits the values, if there are values; each of its parameters is below the number of their names
 abbrev pub BoundIsOver : Type 0
 BoundIsOver = (stmt : Dml) (entries : List Entry) (names : List (List ℕ)) (given : Option (List Value)) (bound : Bound)
-    → DmlKeepsLimits stmt → All IsNarrow entries → length entries ≡ table_count stmt → length names ≤ 16 → AreValuesOf names given
+    → DmlKeepsLimits stmt → All IsNarrow entries → length entries ≡ table_count stmt
+        → length names ≤ 16 → AreValuesOf names given
     → bound_of stmt (headings_of entries) (params_of names given) ≡ Some (Ok bound)
     → IsOver bound entries (kinds_given given) × HasParamsBelow (length names) bound
 
@@ -25,13 +26,15 @@ BoundIsOver = (stmt : Dml) (entries : List Entry) (names : List (List ℕ)) (giv
 -- such a column
 abbrev pub PlacesAreNamed : Type 0
 PlacesAreNamed = (stmt : Dml) (entries : List Entry) (written : ColRef)
-    → DmlKeepsLimits stmt → All IsNarrow entries → length entries ≡ table_count stmt → (named_count (scope_of stmt (headings_of entries)) written == 0) ≡ false
+    → DmlKeepsLimits stmt → All IsNarrow entries → length entries ≡ table_count stmt
+        → (named_count (scope_of stmt (headings_of entries)) written == 0) ≡ false
     → IsNamedAt (scope_of stmt (headings_of entries)) written (column_index_of (scope_of stmt (headings_of entries)) written)
 
 -- a statement that keeps the limits and is bound over the entries of its tables, with at most 16 parameters, and not denied,
 -- is bound as it is written
 abbrev pub BoundIsAsWritten : Type 0
 BoundIsAsWritten = (stmt : Dml) (entries : List Entry) (names : List (List ℕ)) (given : Option (List Value)) (bound : Bound)
-    → DmlKeepsLimits stmt → All IsNarrow entries → length entries ≡ table_count stmt → length names ≤ 16 → AreValuesOf names given
+    → DmlKeepsLimits stmt → All IsNarrow entries → length entries ≡ table_count stmt
+        → length names ≤ 16 → AreValuesOf names given
     → bound_of stmt (headings_of entries) (params_of names given) ≡ Some (Ok bound)
     → IsBoundAs stmt (headings_of entries) names bound

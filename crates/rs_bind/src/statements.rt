@@ -98,7 +98,8 @@ fn outcome_over(
     values: Option<&[Value]>,
 ) -> Result<Result<Bound, Denial>, NoMemory>
     requires { length entries.now ≡ spec.table_count stmt.now }
-    ensures { IfOk result (λ outcome. bound_of stmt.now (spec.headings_of entries.now) (spec.params_of params.now (option_copied values.entry)) ≡ Some outcome) }
+    ensures { IfOk result (λ outcome. bound_of stmt.now (spec.headings_of entries.now)
+        (spec.params_of params.now (option_copied values.entry)) ≡ Some outcome) }
 {
     let headings = headings_of(alloc, entries)?;
     let headings = headings.as_slice();
@@ -137,8 +138,10 @@ pub fn bind(
     requires narrow { All IsNarrow entries.now }
     requires params { length params.now ≤ 16 }
     requires values { spec.AreValuesOf params.now (option_copied values) }
-    ensures outcome { IfOk result (λ outcome. bound_of stmt.now (spec.headings_of entries.now) (spec.params_of params.now (option_copied values.entry)) ≡ Some outcome) }
-    ensures over { IfOk result (λ outcome. IfOk outcome (λ bound. IsOver bound entries.now (spec.kinds_given (option_copied values.entry)))) }
+    ensures outcome { IfOk result (λ outcome. bound_of stmt.now (spec.headings_of entries.now)
+        (spec.params_of params.now (option_copied values.entry)) ≡ Some outcome) }
+    ensures over { IfOk result (λ outcome. IfOk outcome
+        (λ bound. IsOver bound entries.now (spec.kinds_given (option_copied values.entry)))) }
     ensures params { IfOk result (λ outcome. IfOk outcome (λ bound. HasParamsBelow (length params.now) bound)) }
 {
     outcome_over(alloc, stmt, entries, params, values)

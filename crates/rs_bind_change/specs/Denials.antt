@@ -71,7 +71,8 @@ more_tests scope params (Some more) = term_tests scope params more.1
 abbrev pub expr_fits : List ScopeColumn → List Param → Option Kind → Term → Option (Arith × Term) → Bool
 expr_fits scope params kind first None = kinds_fit kind (term_kind scope params first)
 expr_fits scope params kind first (Some more) =
-    kinds_fit kind (Some kinds.Int) && kinds_fit (Some kinds.Int) (term_kind scope params first) && kinds_fit (Some kinds.Int) (term_kind scope params more.1)
+    kinds_fit kind (Some kinds.Int) && kinds_fit (Some kinds.Int) (term_kind scope params first)
+        && kinds_fit (Some kinds.Int) (term_kind scope params more.1)
 
 -- its column isn't there, or is assigned by one of those before
 abbrev pub set_column_tests : List ScopeColumn → List Set → Set → List Test
@@ -95,7 +96,8 @@ set_tests scope params before set =
 -- each assignment, after those before it
 abbrev pub sets_tests : List ScopeColumn → List Param → List Set → List Set → List Test
 sets_tests scope params before [] = []
-sets_tests scope params before (set ∷ sets) = set_tests scope params before set ++ sets_tests scope params (before ++ set ∷ []) sets
+sets_tests scope params before (set ∷ sets) = set_tests scope params before set
+    ++ sets_tests scope params (before ++ set ∷ []) sets
 
 -- ---- statements
 

@@ -79,7 +79,8 @@ fn bound_more(
     params: &[Param],
     expr: &Expr,
 ) -> Result<Option<(Arith, BoundTerm)>, NoMemory>
-    ensures { IfOk result (λ bound. bound ≡ option_map (λ more. (more.0, spec.bound_term scope.now params.now more.1)) expr.now.more) }
+    ensures { IfOk result (λ bound. bound
+        ≡ option_map (λ more. (more.0, spec.bound_term scope.now params.now more.1)) expr.now.more) }
 {
     match &expr.more {
         None => Ok(None),

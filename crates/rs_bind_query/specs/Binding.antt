@@ -72,4 +72,5 @@ bound_select select headings params =
 -- ---- what is bound, or the cause of the denial
 
 unfoldable pub select_bound : Select → List Heading → List Param → Result Bound Denial
-select_bound select headings params = unless_denied (first_denial (select_tests select headings params)) (bound_select select headings params)
+select_bound select headings params =
+    unless_denied (first_denial (select_tests select headings params)) (bound_select select headings params)

@@ -16,13 +16,13 @@ side_value row (sides.Lit value) = Some value
 side_value row (sides.Param param) = None
 
 -- both values are there, and satisfy the comparison
-abbrev pub stands : Op → Option Value → Option Value → Bool
-stands op (Some left) (Some right) = allows op (value_cmp left right)
-stands op (Some left) None = false
-stands op None right = false
+abbrev pub comparison_holds : Op → Option Value → Option Value → Bool
+comparison_holds op (Some left) (Some right) = allows op (value_cmp left right)
+comparison_holds op (Some left) None = false
+comparison_holds op None right = false
 
 abbrev pub cmp_holds : List Value → BoundCmp → Bool
-cmp_holds row cmp = stands cmp.op (slice_get row cmp.left) (side_value row cmp.right)
+cmp_holds row cmp = comparison_holds cmp.op (slice_get row cmp.left) (side_value row cmp.right)
 
 -- one of its comparisons holds
 abbrev pub clause_holds : List Value → List BoundCmp → Bool

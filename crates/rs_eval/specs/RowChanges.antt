@@ -23,7 +23,8 @@ has_room rows more = list_all fits_row more && fits_rows (rows ++ more)
 
 -- the rows appended to those of the table, or TableFull
 abbrev pub inserted : List Value → List (List BoundTerm) → List (List Value) → Result (List (List Value)) Denial
-inserted values given rows = if has_room rows (given_rows values given) then Ok (given_rows values given) else Err denials.TableFull
+inserted values given rows = if has_room rows (given_rows values given) then Ok (given_rows values given)
+    else Err denials.TableFull
 
 -- ---- UPDATE
 
@@ -42,7 +43,8 @@ and_others (Err cause) others = Err cause
 -- each row updated, or the first denial
 abbrev pub updated_rows : List Value → List BoundSet → List (List BoundCmp) → List (List Value) → Result (List (List Value)) Denial
 updated_rows values sets clauses [] = Ok []
-updated_rows values sets clauses (row ∷ rows) = and_others (updated_row values sets clauses row) (updated_rows values sets clauses rows)
+updated_rows values sets clauses (row ∷ rows) =
+    and_others (updated_row values sets clauses row) (updated_rows values sets clauses rows)
 
 -- Each row that was set may be stored. Rows that don't match aren't judged.
 abbrev pub set_rows_fit : List (List BoundCmp) → List (List Value) → List (List Value) → Bool

@@ -25,7 +25,8 @@ combined first (Some (op, second)) = values.Int (computed op (integer_of first) 
 
 -- the new value of the column
 abbrev pub set_value : List Value → List Value → BoundSet → Value
-set_value given row set = combined (term_value given row set.first) (option_map (λ more. (more.0, term_value given row more.1)) set.more)
+set_value given row set =
+    combined (term_value given row set.first) (option_map (λ more. (more.0, term_value given row more.1)) set.more)
 
 -- a text, or an integer of 64 bits
 abbrev pub is_stored : Value → Bool

@@ -83,7 +83,8 @@ fn set_value(
     row: &[Value],
     set: &BoundSet,
 ) -> Result<Option<Value>, NoMemory>
-    ensures { IfOk result (λ found. SomeIff found (IsTrue (spec.is_stored (spec.set_value values.now row.now set.now))) (spec.set_value values.now row.now set.now)) }
+    ensures { IfOk result (λ found. SomeIff found (IsTrue (spec.is_stored (spec.set_value values.now row.now set.now)))
+        (spec.set_value values.now row.now set.now)) }
 {
     match &set.more {
         None => Ok(Some(stored(term_value(alloc, values, row, &set.first)?))),

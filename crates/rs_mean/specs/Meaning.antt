@@ -42,11 +42,14 @@ settled db (Err cause) = (db, Denied cause)
 
 -- The effect of a statement of its own. One that isn't executed so far changes nothing, and no entry of a history has one.
 abbrev pub effect_of_stmt : Database → Execution → Stmt → Effect
-effect_of_stmt db execution (stmts.CreateTable written columns) = create_table db execution.txn (name_of db execution written) columns
+effect_of_stmt db execution (stmts.CreateTable written columns) =
+    create_table db execution.txn (name_of db execution written) columns
 effect_of_stmt db execution (stmts.DropTable written) = drop_table db (name_of db execution written)
-effect_of_stmt db execution (stmts.CreateIndex index written column) = create_index db execution.txn (name_of db execution written) index column
+effect_of_stmt db execution (stmts.CreateIndex index written column) =
+    create_index db execution.txn (name_of db execution written) index column
 effect_of_stmt db execution (stmts.DropIndex index written) = drop_index db (name_of db execution written) index
-effect_of_stmt db execution (stmts.CreateSynonym synonym written) = create_synonym db execution synonym (name_of db execution written)
+effect_of_stmt db execution (stmts.CreateSynonym synonym written) =
+    create_synonym db execution synonym (name_of db execution written)
 effect_of_stmt db execution (stmts.DropSynonym synonym) = drop_synonym db execution synonym
 effect_of_stmt db execution (stmts.Migrate written to) = done changes.Nothing answers.Ok
 effect_of_stmt db execution (stmts.Compile program params body) = done changes.Nothing answers.Ok

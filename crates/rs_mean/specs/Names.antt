@@ -16,7 +16,8 @@ own_synonym execution name = record { site = execution.site; user = execution.us
 -- A name of one identifier refers to the user's synonym at the asked site, if there is one; any other name is resolved
 -- from its parts, the missing ones of the user and the asked site.
 abbrev pub name_of : Database → Execution → NameText → Swn
-name_of db execution written = resolved written execution.user execution.site (target_of (own_synonym execution written.object) db)
+name_of db execution written =
+    resolved written execution.user execution.site (target_of (own_synonym execution written.object) db)
 
 -- the creator's site, or the birth site, doesn't exist
 abbrev pub names_no_site : Database → Swn → Bool

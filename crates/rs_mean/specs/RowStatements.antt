@@ -67,7 +67,8 @@ updating name count (Ok rows) = done (changes.SetRows name rows) (answers.Change
 updating name count (Err cause) = denied cause
 
 abbrev pub deleting : Swn → List (List BoundCmp) → List (List Value) → Effect
-deleting name clauses rows = done (changes.SetRows name (other_rows clauses rows)) (answers.Changed (matching_count clauses rows))
+deleting name clauses rows =
+    done (changes.SetRows name (other_rows clauses rows)) (answers.Changed (matching_count clauses rows))
 
 -- the rows of the one table of a change
 abbrev pub only : List (List (List Value)) → List (List Value)
@@ -76,10 +77,12 @@ only (rows ∷ tables) = rows
 
 -- the effect of a bound statement with the values of its parameters, over the rows of its tables in order
 abbrev pub effect_of_bound : List Value → List (List (List Value)) → Bound → Effect
-effect_of_bound values tables (bounds.Select names aliases widths clauses shape) = answering (selected (filled values clauses) shape tables)
+effect_of_bound values tables (bounds.Select names aliases widths clauses shape) =
+    answering (selected (filled values clauses) shape tables)
 effect_of_bound values tables (bounds.Insert name rows) = inserting name (inserted values rows (only tables))
 effect_of_bound values tables (bounds.Update name sets clauses) =
-    updating name (matching_count (filled values clauses) (only tables)) (updated values sets (filled values clauses) (only tables))
+    updating name (matching_count (filled values clauses) (only tables))
+        (updated values sets (filled values clauses) (only tables))
 effect_of_bound values tables (bounds.Delete name clauses) = deleting name (filled values clauses) (only tables)
 
 abbrev pub once_bound : List Value → List (List (List Value)) → Result Bound Denial → Effect

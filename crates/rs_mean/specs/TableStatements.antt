@@ -23,7 +23,8 @@ use Rattle.rs_mean.specs.Names.{own_synonym, site_test, table_tests}
 -- there is no such site; two columns have one name; a table has the name
 abbrev pub create_tests : Database → Swn → List ColDef → List Test
 create_tests db name columns =
-    site_test db name ∷ test (not (names_differ columns)) denials.TwoColumns ∷ test (is_some (table_named name db)) denials.TableExists ∷ []
+    site_test db name ∷ test (not (names_differ columns)) denials.TwoColumns
+        ∷ test (is_some (table_named name db)) denials.TableExists ∷ []
 
 -- a table without rows, at its birth site
 abbrev pub new_table : Txn → Swn → List ColDef → Table
@@ -32,7 +33,8 @@ new_table txn name columns = record { made = txn; place = name.birth; columns = 
 -- a table without rows is stored at its birth site
 abbrev pub create_table : Database → Txn → Swn → List ColDef → Effect
 create_table db txn name columns =
-    unless_denied (first_denial (create_tests db name columns)) (done (changes.PutTable name (new_table txn name columns)) answers.Ok)
+    unless_denied (first_denial (create_tests db name columns))
+        (done (changes.PutTable name (new_table txn name columns)) answers.Ok)
 
 abbrev pub drop_table : Database → Swn → Effect
 drop_table db name = unless_denied (first_denial (table_tests db name)) (done (changes.DropTable name) answers.Ok)
@@ -80,7 +82,8 @@ create_index db txn name index column =
 
 -- the table can't be used; it has no index of that name
 abbrev pub drop_index_tests : Database → Swn → List ℕ → List Test
-drop_index_tests db name index = table_tests db name ++ test (not (has_index (indexes_of (table_named name db)) index)) denials.NoIndex ∷ []
+drop_index_tests db name index = table_tests db name
+    ++ test (not (has_index (indexes_of (table_named name db)) index)) denials.NoIndex ∷ []
 
 abbrev pub is_other_index : List ℕ → IndexOf → Bool
 is_other_index name index = not (bytes_eq index.name name)
@@ -105,11 +108,14 @@ create_synonym_tests db execution synonym name =
 -- the name need not be that of a table
 abbrev pub create_synonym : Database → Execution → List ℕ → Swn → Effect
 create_synonym db execution synonym name =
-    unless_denied (first_denial (create_synonym_tests db execution synonym name)) (done (changes.PutSynonym (own_synonym execution synonym) name) answers.Ok)
+    unless_denied (first_denial (create_synonym_tests db execution synonym name))
+        (done (changes.PutSynonym (own_synonym execution synonym) name) answers.Ok)
 
 abbrev pub drop_synonym_tests : Database → Execution → List ℕ → List Test
-drop_synonym_tests db execution synonym = test (not (is_some (target_of (own_synonym execution synonym) db))) denials.NoSynonym ∷ []
+drop_synonym_tests db execution synonym =
+    test (not (is_some (target_of (own_synonym execution synonym) db))) denials.NoSynonym ∷ []
 
 abbrev pub drop_synonym : Database → Execution → List ℕ → Effect
 drop_synonym db execution synonym =
-    unless_denied (first_denial (drop_synonym_tests db execution synonym)) (done (changes.DropSynonym (own_synonym execution synonym)) answers.Ok)
+    unless_denied (first_denial (drop_synonym_tests db execution synonym))
+        (done (changes.DropSynonym (own_synonym execution synonym)) answers.Ok)

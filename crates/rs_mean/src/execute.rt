@@ -54,7 +54,8 @@ impl Database {
     /// statement that isn't executed so far.
     pub fn effect_of(&self, alloc: Global, execution: &Execution) -> Result<Effect, NoMemory>
         ensures effect { IfOk result (λ effect. effect ≡ spec.effect_of self.now execution.now) }
-        ensures meaning { IfOk result (λ effect. spec.meaning self.now execution.now ≡ (changed effect.change self.now, outcome_of effect.answer)) }
+        ensures meaning { IfOk result (λ effect. spec.meaning self.now execution.now
+            ≡ (changed effect.change self.now, outcome_of effect.answer)) }
     {
         self.effect(alloc, execution)
     }

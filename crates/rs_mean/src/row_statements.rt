@@ -104,7 +104,8 @@ impl Database {
         execution: &Execution,
         query: &Select,
     ) -> Result<Effect, NoMemory>
-        ensures { IfOk result (λ effect. effect ≡ spec.query spec.no_arguments (spec.tables_in self.now) (name_of self.now execution.now) query.now) }
+        ensures { IfOk result (λ effect. effect
+            ≡ spec.query spec.no_arguments (spec.tables_in self.now) (name_of self.now execution.now) query.now) }
     {
         let names = self.names_of(alloc, execution, query.from.as_slice())?;
         self.select(alloc, names.as_slice(), query)
@@ -152,7 +153,8 @@ impl Database {
         sets: &[Set],
         clauses: &[Clause],
     ) -> Result<Effect, NoMemory>
-        ensures { IfOk result (λ effect. effect ≡ spec.update spec.no_arguments (spec.tables_in self.now) name.now sets.now clauses.now) }
+        ensures { IfOk result (λ effect. effect
+            ≡ spec.update spec.no_arguments (spec.tables_in self.now) name.now sets.now clauses.now) }
     {
         if let Some(cause) = self.table_denial(name) {
             return Ok(Effect::denied(cause));
@@ -163,7 +165,8 @@ impl Database {
     }
 
     fn delete(&self, alloc: Global, name: &Swn, clauses: &[Clause]) -> Result<Effect, NoMemory>
-        ensures { IfOk result (λ effect. effect ≡ spec.delete spec.no_arguments (spec.tables_in self.now) name.now clauses.now) }
+        ensures { IfOk result (λ effect. effect
+            ≡ spec.delete spec.no_arguments (spec.tables_in self.now) name.now clauses.now) }
     {
         if let Some(cause) = self.table_denial(name) {
             return Ok(Effect::denied(cause));

@@ -107,7 +107,8 @@ IsAtSite site = Sequence (IsSymbol symbols.At ∷ IsSite site ∷ [])
 abbrev pub IsNameOf : Option (List ℕ) → NameText → List Token → Type 0
 IsNameOf None name ts = (name.creator_site ≡ None) × Sequence (IsIdent name.object ∷ Optional IsAtSite name.birth ∷ []) ts
 IsNameOf (Some creator) name ts =
-    Sequence (IsIdent creator ∷ Optional IsAtSite name.creator_site ∷ IsSymbol symbols.Dot ∷ IsIdent name.object ∷ Optional IsAtSite name.birth ∷ []) ts
+    Sequence (IsIdent creator ∷ Optional IsAtSite name.creator_site ∷ IsSymbol symbols.Dot ∷ IsIdent name.object
+        ∷ Optional IsAtSite name.birth ∷ []) ts
 
 abbrev pub IsName : Phrase NameText
 IsName name = IsNameOf name.creator name
@@ -130,7 +131,8 @@ IsColumn column = Sequence (IsIdent column.name ∷ IsKind column.kind ∷ [])
 
 abbrev pub IsLiteral : Phrase Value
 IsLiteral (values.Int z) ts = (n : ℕ) × (n < 2 ^ 63)
-    × (((z ≡ pos n) × Is (tokens.Number n) ts) ⊎ ((z ≡ neg_ℤ (pos n)) × Sequence (IsSymbol symbols.Minus ∷ Is (tokens.Number n) ∷ []) ts))
+    × (((z ≡ pos n) × Is (tokens.Number n) ts)
+        ⊎ ((z ≡ neg_ℤ (pos n)) × Sequence (IsSymbol symbols.Minus ∷ Is (tokens.Number n) ∷ []) ts))
 IsLiteral (values.Text text) ts = Is (tokens.Text text) ts
 
 abbrev pub IsParam : Phrase (List ℕ)
@@ -190,7 +192,8 @@ IsClause clause ts =
 
 abbrev pub IsWhere : Phrase (List Clause)
 IsWhere [] ts = ts ≡ []
-IsWhere (clause ∷ clauses) ts = Sequence (Keyword (codes "where") ∷ IsList (tokens.Word (codes "and")) IsClause (clause ∷ clauses) ∷ []) ts
+IsWhere (clause ∷ clauses) ts = Sequence (Keyword (codes "where")
+    ∷ IsList (tokens.Word (codes "and")) IsClause (clause ∷ clauses) ∷ []) ts
 
 -- ---- queries
 
@@ -199,7 +202,8 @@ IsOfColumn word c = Sequence (Keyword word ∷ IsSymbol symbols.Open ∷ IsColRe
 
 abbrev pub IsItem : Phrase Item
 IsItem (items.Col c) = IsColRef c
-IsItem items.Count = Sequence (Keyword (codes "count") ∷ IsSymbol symbols.Open ∷ IsSymbol symbols.Star ∷ IsSymbol symbols.Close ∷ [])
+IsItem items.Count = Sequence (Keyword (codes "count") ∷ IsSymbol symbols.Open ∷ IsSymbol symbols.Star
+    ∷ IsSymbol symbols.Close ∷ [])
 IsItem (items.Sum c) = IsOfColumn (codes "sum") c
 IsItem (items.Min c) = IsOfColumn (codes "min") c
 IsItem (items.Max c) = IsOfColumn (codes "max") c
@@ -217,7 +221,8 @@ IsTableRef table = Sequence (IsName table.name ∷ Optional IsIdent table.alias 
 
 abbrev pub IsGroup : Phrase (List ColRef)
 IsGroup [] ts = ts ≡ []
-IsGroup (c ∷ cs) ts = Sequence (Keyword (codes "group") ∷ Keyword (codes "by") ∷ AtMost 16 (IsCommaList IsColRef) (c ∷ cs) ∷ []) ts
+IsGroup (c ∷ cs) ts = Sequence (Keyword (codes "group") ∷ Keyword (codes "by")
+    ∷ AtMost 16 (IsCommaList IsColRef) (c ∷ cs) ∷ []) ts
 
 abbrev pub IsKeyBy : Phrase KeyBy
 IsKeyBy (keys.Col c) ts = IsColRef c ts
@@ -232,7 +237,8 @@ IsKey key = Sequence (IsKeyBy key.by ∷ IsDirection key.desc ∷ [])
 
 abbrev pub IsOrder : Phrase (List Key)
 IsOrder [] ts = ts ≡ []
-IsOrder (key ∷ keys) ts = Sequence (Keyword (codes "order") ∷ Keyword (codes "by") ∷ AtMost 16 (IsCommaList IsKey) (key ∷ keys) ∷ []) ts
+IsOrder (key ∷ keys) ts = Sequence (Keyword (codes "order") ∷ Keyword (codes "by")
+    ∷ AtMost 16 (IsCommaList IsKey) (key ∷ keys) ∷ []) ts
 
 abbrev pub IsSelect : Phrase Select
 IsSelect select = Sequence (
@@ -244,9 +250,12 @@ IsSelect select = Sequence (
 
 abbrev pub IsDml : Phrase Dml
 IsDml (dmls.Select select) = IsSelect select
-IsDml (dmls.Insert name rows) = Sequence (Keyword (codes "insert") ∷ Keyword (codes "into") ∷ IsName name ∷ Keyword (codes "values") ∷ IsCommaList IsTuple rows ∷ [])
-IsDml (dmls.Update name sets clauses) = Sequence (Keyword (codes "update") ∷ IsName name ∷ Keyword (codes "set") ∷ AtMost 16 (IsCommaList IsSet) sets ∷ IsWhere clauses ∷ [])
-IsDml (dmls.Delete name clauses) = Sequence (Keyword (codes "delete") ∷ Keyword (codes "from") ∷ IsName name ∷ IsWhere clauses ∷ [])
+IsDml (dmls.Insert name rows) = Sequence (Keyword (codes "insert") ∷ Keyword (codes "into") ∷ IsName name
+    ∷ Keyword (codes "values") ∷ IsCommaList IsTuple rows ∷ [])
+IsDml (dmls.Update name sets clauses) = Sequence (Keyword (codes "update") ∷ IsName name ∷ Keyword (codes "set")
+    ∷ AtMost 16 (IsCommaList IsSet) sets ∷ IsWhere clauses ∷ [])
+IsDml (dmls.Delete name clauses) = Sequence (Keyword (codes "delete") ∷ Keyword (codes "from")
+    ∷ IsName name ∷ IsWhere clauses ∷ [])
 
 -- a statement of a program, with its semicolon
 abbrev pub IsDmlEnded : Phrase Dml
@@ -259,21 +268,27 @@ IsBody (dml ∷ dmls) ts = AtMost 8 (IsSeries IsDmlEnded) (dml ∷ dmls) ts
 
 abbrev pub IsStmt : Phrase Stmt
 IsStmt (stmts.CreateTable name columns) =
-    Sequence (Keyword (codes "create") ∷ Keyword (codes "table") ∷ IsName name ∷ IsSymbol symbols.Open ∷ AtMost 16 (IsCommaList IsColumn) columns ∷ IsSymbol symbols.Close ∷ [])
+    Sequence (Keyword (codes "create") ∷ Keyword (codes "table") ∷ IsName name ∷ IsSymbol symbols.Open
+        ∷ AtMost 16 (IsCommaList IsColumn) columns ∷ IsSymbol symbols.Close ∷ [])
 IsStmt (stmts.DropTable name) = Sequence (Keyword (codes "drop") ∷ Keyword (codes "table") ∷ IsName name ∷ [])
 IsStmt (stmts.CreateIndex index name column) =
-    Sequence (Keyword (codes "create") ∷ Keyword (codes "index") ∷ IsIdent index ∷ Keyword (codes "on") ∷ IsName name ∷ IsSymbol symbols.Open ∷ IsIdent column ∷ IsSymbol symbols.Close ∷ [])
-IsStmt (stmts.DropIndex index name) = Sequence (Keyword (codes "drop") ∷ Keyword (codes "index") ∷ IsIdent index ∷ Keyword (codes "on") ∷ IsName name ∷ [])
+    Sequence (Keyword (codes "create") ∷ Keyword (codes "index") ∷ IsIdent index ∷ Keyword (codes "on") ∷ IsName name
+        ∷ IsSymbol symbols.Open ∷ IsIdent column ∷ IsSymbol symbols.Close ∷ [])
+IsStmt (stmts.DropIndex index name) = Sequence (Keyword (codes "drop") ∷ Keyword (codes "index") ∷ IsIdent index
+    ∷ Keyword (codes "on") ∷ IsName name ∷ [])
 IsStmt (stmts.CreateSynonym synonym name) =
     Sequence (Keyword (codes "create") ∷ Keyword (codes "synonym") ∷ IsIdent synonym ∷ Keyword (codes "for") ∷ IsName name ∷ [])
 IsStmt (stmts.DropSynonym synonym) = Sequence (Keyword (codes "drop") ∷ Keyword (codes "synonym") ∷ IsIdent synonym ∷ [])
-IsStmt (stmts.Migrate name to) = Sequence (Keyword (codes "migrate") ∷ Keyword (codes "table") ∷ IsName name ∷ Keyword (codes "to") ∷ IsSite to ∷ [])
+IsStmt (stmts.Migrate name to) = Sequence (Keyword (codes "migrate") ∷ Keyword (codes "table") ∷ IsName name
+    ∷ Keyword (codes "to") ∷ IsSite to ∷ [])
 IsStmt (stmts.Compile program params body) = Sequence (
-    Keyword (codes "compile") ∷ IsIdent program ∷ IsSymbol symbols.Open ∷ AtMost 16 (IsCommaListOrNone IsIdent) params ∷ IsSymbol symbols.Close
+    Keyword (codes "compile") ∷ IsIdent program ∷ IsSymbol symbols.Open
+        ∷ AtMost 16 (IsCommaListOrNone IsIdent) params ∷ IsSymbol symbols.Close
     ∷ Keyword (codes "as") ∷ IsBody body ∷ Keyword (codes "end") ∷ [])
 IsStmt (stmts.DropProgram program) = Sequence (Keyword (codes "drop") ∷ Keyword (codes "program") ∷ IsIdent program ∷ [])
 IsStmt (stmts.Execute program given) =
-    Sequence (Keyword (codes "execute") ∷ IsIdent program ∷ IsSymbol symbols.Open ∷ AtMost 16 (IsCommaListOrNone IsLiteral) given ∷ IsSymbol symbols.Close ∷ [])
+    Sequence (Keyword (codes "execute") ∷ IsIdent program ∷ IsSymbol symbols.Open
+        ∷ AtMost 16 (IsCommaListOrNone IsLiteral) given ∷ IsSymbol symbols.Close ∷ [])
 IsStmt (stmts.Explain select) = Sequence (Keyword (codes "explain") ∷ IsSelect select ∷ [])
 IsStmt stmts.ShowSections = Sequence (Keyword (codes "show") ∷ Keyword (codes "sections") ∷ [])
 IsStmt stmts.ShowCache = Sequence (Keyword (codes "show") ∷ Keyword (codes "cache") ∷ [])

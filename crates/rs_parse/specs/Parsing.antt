@@ -38,11 +38,14 @@ pub record IsOffending (ts : List Token) (number : ℕ) : Type 0 where
 -- The fault of a text is at this byte offset.
 pub data IsFault (text : List ℕ) (offset : ℕ) : Type 0 where
   -- a token begins there: some request begins with the tokens before it, and none with the tokens up to it
-  AtToken : (number : ℕ) → IsOffending (split_of text).tokens number → slice_get (split_of text).starts number ≡ Some offset → IsFault text offset
+  AtToken : (number : ℕ) → IsOffending (split_of text).tokens number
+      → slice_get (split_of text).starts number ≡ Some offset → IsFault text offset
   -- no token begins there, and some request begins with all tokens before it
-  NoToken : (split_of text).whole ≡ false → SomeBegins (split_of text).tokens → offset ≡ (split_of text).end → IsFault text offset
+  NoToken : (split_of text).whole ≡ false → SomeBegins (split_of text).tokens
+      → offset ≡ (split_of text).end → IsFault text offset
   -- the text ends there: some request begins with all of its tokens, and they are no request
-  AtEnd : (split_of text).whole ≡ true → SomeBegins (split_of text).tokens → ((stmt : Stmt) → IsRequest stmt (split_of text).tokens → ⊥) → offset ≡ length text → IsFault text offset
+  AtEnd : (split_of text).whole ≡ true → SomeBegins (split_of text).tokens
+      → ((stmt : Stmt) → IsRequest stmt (split_of text).tokens → ⊥) → offset ≡ length text → IsFault text offset
 
 -- ---- the parse of a text by reading its tokens
 

@@ -60,7 +60,8 @@ optional_at is read ts = if begins is ts then (read ts >>= λ x. Got (Some x.0) 
 -- items while the first token passes the test, at most this number
 abbrev pub series_at : {A : Type 0} → (Token → Bool) → (List Token → Read A) → ℕ → List Token → Read (List A)
 series_at is_next next zero ts = Got [] ts
-series_at is_next next (suc n) ts = if begins is_next ts then (next ts >>= λ x. series_at is_next next n x.1 >>= λ xs. Got (x.0 ∷ xs.0) xs.1) else Got [] ts
+series_at is_next next (suc n) ts =
+    if begins is_next ts then (next ts >>= λ x. series_at is_next next n x.1 >>= λ xs. Got (x.0 ∷ xs.0) xs.1) else Got [] ts
 
 -- one item, and at most `n` others
 abbrev pub more_at : {A : Type 0} → (Token → Bool) → (List Token → Read A) → (List Token → Read A) → ℕ → List Token → Read (List A)

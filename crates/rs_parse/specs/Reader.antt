@@ -69,7 +69,8 @@ unfoldable pub site_at : List Token → Read ℕ
 site_at ts = one_at site_of ts
 
 abbrev pub kind_of_word : List ℕ → Option Kind
-kind_of_word word = if bytes_eq word (codes "int") || bytes_eq word (codes "integer") then Some kinds.Int else (if bytes_eq word (codes "text") then Some kinds.Text else None)
+kind_of_word word = if bytes_eq word (codes "int") || bytes_eq word (codes "integer") then Some kinds.Int
+    else (if bytes_eq word (codes "text") then Some kinds.Text else None)
 
 abbrev pub kind_of : Token → Option Kind
 kind_of (tokens.Word word) = kind_of_word word
@@ -273,7 +274,8 @@ abbrev pub column_operand_at : List Token → Read Operand
 column_operand_at ts = col_ref_at ts >>= λ column. Got (operands.Col column.0) column.1
 
 unfoldable pub operand_at : List Token → Read Operand
-operand_at ts = either_at is_ident_token column_operand_at (either_at (is_symbol symbols.Colon) param_operand_at literal_operand_at) ts
+operand_at ts =
+    either_at is_ident_token column_operand_at (either_at (is_symbol symbols.Colon) param_operand_at literal_operand_at) ts
 
 unfoldable pub cmp_at : List Token → Read Cmp
 cmp_at ts = do
@@ -452,7 +454,8 @@ dml_at ts =
     (either_at (is_word (codes "update")) update_at delete_at)) ts
 
 abbrev pub begins_dml : Token → Bool
-begins_dml t = is_word (codes "select") t || is_word (codes "insert") t || is_word (codes "update") t || is_word (codes "delete") t
+begins_dml t = is_word (codes "select") t || is_word (codes "insert") t
+    || is_word (codes "update") t || is_word (codes "delete") t
 
 -- ---- tables, indexes and synonyms
 
@@ -487,7 +490,8 @@ create_synonym_at ts = do
 unfoldable pub create_at : List Token → Read Stmt
 create_at ts = do
   create ← word_at (codes "create") ts
-  either_at (is_word (codes "table")) create_table_at (either_at (is_word (codes "index")) create_index_at create_synonym_at) create.1
+  either_at (is_word (codes "table")) create_table_at
+      (either_at (is_word (codes "index")) create_index_at create_synonym_at) create.1
 
 unfoldable pub drop_table_at : List Token → Read Stmt
 drop_table_at ts = do
@@ -519,7 +523,8 @@ unfoldable pub drop_at : List Token → Read Stmt
 drop_at ts = do
   drop ← word_at (codes "drop") ts
   either_at (is_word (codes "table")) drop_table_at
-      (either_at (is_word (codes "index")) drop_index_at (either_at (is_word (codes "synonym")) drop_synonym_at drop_program_at)) drop.1
+      (either_at (is_word (codes "index")) drop_index_at
+          (either_at (is_word (codes "synonym")) drop_synonym_at drop_program_at)) drop.1
 
 unfoldable pub migrate_at : List Token → Read Stmt
 migrate_at ts = do

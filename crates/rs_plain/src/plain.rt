@@ -206,7 +206,8 @@ fn answer_once_bound(
     tables: &[PlainTable],
     name: &Swn,
 ) -> Result<Answered, NoMemory>
-    ensures { IfOk result (λ answered. answered ≡ (statements.once_bound [] (spec.plain_rows tables.now name.now ∷ []) outcome).answer) }
+    ensures { IfOk result (λ answered. answered
+        ≡ (statements.once_bound [] (spec.plain_rows tables.now name.now ∷ []) outcome).answer) }
 {
     match outcome {
         Ok(bound) => answer_over(alloc, &bound, &rows(alloc, tables, name)?),
@@ -222,7 +223,8 @@ fn answer_query(
     names: &[Swn],
 ) -> Result<Answered, NoMemory>
     requires { IsSelect bound.now }
-    ensures { IfOk result (λ answered. answered ≡ (statements.effect_of_bound [] (map (spec.plain_rows tables.now) names.now) bound.now).answer) }
+    ensures { IfOk result (λ answered. answered
+        ≡ (statements.effect_of_bound [] (map (spec.plain_rows tables.now) names.now) bound.now).answer) }
 {
     let Bound::Select { clauses, shape, .. } = bound else {
         unreachable!()
@@ -239,7 +241,8 @@ fn select(
     names: &[Swn],
     query: &Select,
 ) -> Result<Answered, NoMemory>
-    ensures { IfOk result (λ answered. answered ≡ (statements.select statements.no_arguments (spec.plain_tables tables.now) names.now query.now).answer) }
+    ensures { IfOk result (λ answered. answered
+        ≡ (statements.select statements.no_arguments (spec.plain_tables tables.now) names.now query.now).answer) }
 {
     if let Some(cause) = first_missing(tables, names) {
         return Ok(Err(cause));
@@ -258,7 +261,8 @@ fn query(
     site: SiteNo,
     query: &Select,
 ) -> Result<Answered, NoMemory>
-    ensures { IfOk result (λ answered. answered ≡ (statements.query statements.no_arguments (spec.plain_tables tables.now) (λ written. resolve written user site) query.now).answer) }
+    ensures { IfOk result (λ answered. answered ≡ (statements.query statements.no_arguments (spec.plain_tables tables.now)
+        (λ written. resolve written user site) query.now).answer) }
 {
     let names = names_of(alloc, query.from.as_slice(), user, site)?;
     select(alloc, tables, names.as_slice(), query)
@@ -270,7 +274,8 @@ fn insert(
     name: &Swn,
     given: &[TermRow],
 ) -> Result<Answered, NoMemory>
-    ensures { IfOk result (λ answered. answered ≡ (statements.insert statements.no_arguments (spec.plain_tables tables.now) name.now given.now).answer) }
+    ensures { IfOk result (λ answered. answered
+        ≡ (statements.insert statements.no_arguments (spec.plain_tables tables.now) name.now given.now).answer) }
 {
     if let Some(cause) = denial(tables, name) {
         return Ok(Err(cause));
@@ -287,7 +292,8 @@ fn update(
     sets: &[Set],
     clauses: &[Clause],
 ) -> Result<Answered, NoMemory>
-    ensures { IfOk result (λ answered. answered ≡ (statements.update statements.no_arguments (spec.plain_tables tables.now) name.now sets.now clauses.now).answer) }
+    ensures { IfOk result (λ answered. answered
+        ≡ (statements.update statements.no_arguments (spec.plain_tables tables.now) name.now sets.now clauses.now).answer) }
 {
     if let Some(cause) = denial(tables, name) {
         return Ok(Err(cause));
@@ -303,7 +309,8 @@ fn delete(
     name: &Swn,
     clauses: &[Clause],
 ) -> Result<Answered, NoMemory>
-    ensures { IfOk result (λ answered. answered ≡ (statements.delete statements.no_arguments (spec.plain_tables tables.now) name.now clauses.now).answer) }
+    ensures { IfOk result (λ answered. answered
+        ≡ (statements.delete statements.no_arguments (spec.plain_tables tables.now) name.now clauses.now).answer) }
 {
     if let Some(cause) = denial(tables, name) {
         return Ok(Err(cause));

@@ -56,7 +56,8 @@ pub record LacksSettle (bytes : List ℕ) (at : ℕ) : Type 0 where
 -- The cause of a refusal: the fault of bytes that are no schedule; of a schedule, the first line that isn't played yet.
 abbrev pub IsRefusal : List ℕ → ℕ → Cause → Type 0
 IsRefusal bytes line (causes.Bad why) = IsFault bytes line why
-IsRefusal bytes line causes.Later = ((given : List Event) × IsSchedule bytes given) × (IsLaterLine bytes line ⊎ LacksSettle bytes line)
+IsRefusal bytes line causes.Later = ((given : List Event) × IsSchedule bytes given)
+    × (IsLaterLine bytes line ⊎ LacksSettle bytes line)
 
 abbrev pub cause_text : Cause → List ℕ
 cause_text (causes.Bad why) = text_of why
@@ -70,12 +71,15 @@ refusal_text line cause = codes "line " ++ decimal line ++ codes " " ++ cause_te
 
 -- a source isn't refused
 abbrev pub SourceIsPlayed : Type 0
-SourceIsPlayed = (bytes : List ℕ) (given : List Event) (line : ℕ) (cause : Cause) → IsSource bytes given → IsRefusal bytes line cause → ⊥
+SourceIsPlayed = (bytes : List ℕ) (given : List Event) (line : ℕ) (cause : Cause) → IsSource bytes given
+    → IsRefusal bytes line cause → ⊥
 
 -- bytes have one refusal
 abbrev pub RefusedOnce : Type 0
-RefusedOnce = (bytes : List ℕ) (line other : ℕ) (cause also : Cause) → IsRefusal bytes line cause → IsRefusal bytes other also → (line ≡ other) × (cause ≡ also)
+RefusedOnce = (bytes : List ℕ) (line other : ℕ) (cause also : Cause) → IsRefusal bytes line cause → IsRefusal bytes other also
+    → (line ≡ other) × (cause ≡ also)
 
 -- bytes are a source or refused
 abbrev pub PlayedOrRefused : Type 0
-PlayedOrRefused = (bytes : List ℕ) → ((given : List Event) × IsSource bytes given) ⊎ ((line : ℕ) × (cause : Cause) × IsRefusal bytes line cause)
+PlayedOrRefused = (bytes : List ℕ)
+    → ((given : List Event) × IsSource bytes given) ⊎ ((line : ℕ) × (cause : Cause) × IsRefusal bytes line cause)

@@ -50,7 +50,8 @@ OwesReplay bytes text = Reports bytes text ⊎ Refuses bytes text
 
 -- What has to be written by these words over a source with these bytes left, if it reports them.
 abbrev pub Owes : List (String Global) → Option (List ℕ) → List ℕ → Type 0
-Owes words left text = (IsReplay words × IfSome left (λ bytes. OwesReplay (take most_read bytes) text)) ⊎ ((IsReplay words → ⊥) × (text ≡ codes "usage\n"))
+Owes words left text = (IsReplay words × IfSome left (λ bytes. OwesReplay (take most_read bytes) text))
+    ⊎ ((IsReplay words → ⊥) × (text ≡ codes "usage\n"))
 
 -- A prefix of what has to be written was written, or nothing.
 abbrev pub WritesPrefix : List (String Global) → Option (List ℕ) → Option (List ℕ) → Option (List ℕ) → Type 0

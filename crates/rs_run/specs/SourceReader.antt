@@ -38,17 +38,20 @@ end_by unsettled (Some sites) before = ended unsettled before
 -- the event of this line, and those after it
 abbrev pub further_by : Bool → ℕ → Result Event Why → (Event → Read) → Read
 further_by unsettled line (Err why) others = refused line (causes.Bad why)
-further_by unsettled line (Ok event) others = if may_come unsettled event then with_events (event ∷ []) (others event) else refused line causes.Later
+further_by unsettled line (Ok event) others = if may_come unsettled event then with_events (event ∷ []) (others event)
+    else refused line causes.Later
 
 -- the events of lines after this number of lines
 abbrev pub source_at : Bool → Option ℕ → ℕ → List (List ℕ) → Read
 source_at unsettled sites before [] = end_by unsettled sites before
 source_at unsettled sites before (line ∷ lines) =
     if is_comment (without_returns line) then source_at unsettled sites (before + 1) lines
-    else further_by unsettled (before + 1) (line_at sites (without_returns line)) (λ event. source_at (is_open_after unsettled event) (sites_after sites event) (before + 1) lines)
+    else further_by unsettled (before + 1) (line_at sites (without_returns line))
+        (λ event. source_at (is_open_after unsettled event) (sites_after sites event) (before + 1) lines)
 
 unfoldable pub source_of : List ℕ → Read
-source_of bytes = if nat_lt 16777216 (length bytes) then refused 0 (causes.Bad whys.TooLong) else source_at false None 0 (lines_of bytes)
+source_of bytes = if nat_lt 16777216 (length bytes) then refused 0 (causes.Bad whys.TooLong)
+    else source_at false None 0 (lines_of bytes)
 
 -- the fault of the schedule, if there is one; else what is read of its lines
 abbrev pub judged : Result (List Event) SchedFault → Read → Read

@@ -13,7 +13,8 @@ use std::alloc::Global;
 /// freed before the report is put together.
 pub fn report_text(alloc: Global, bytes: Bytes) -> Result<Bytes, SourceFault>
     ensures reported { IfOk result (λ text. Reports bytes text) }
-    ensures refused { (refusal : Refusal) → result ≡ Err (SourceFault.Refused refusal) → IsRefusal bytes refusal.line refusal.cause }
+    ensures refused { (refusal : Refusal) → result ≡ Err (SourceFault.Refused refusal)
+        → IsRefusal bytes refusal.line refusal.cause }
 {
     let events = events_of(alloc, bytes.as_slice())?;
     let world = World::play(alloc, events.as_slice())?;

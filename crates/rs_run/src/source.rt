@@ -207,7 +207,8 @@ fn read_source(alloc: Global, bytes: &[u8]) -> Result<Events, SourceFault>
 /// says nothing of the bytes.
 pub fn events_of(alloc: Global, bytes: &[u8]) -> Result<Events, SourceFault>
     ensures found { IfOk result (λ given. IsSource bytes.now given) }
-    ensures refused { (refusal : Refusal) → result ≡ Err (SourceFault.Refused refusal) → IsRefusal bytes.now refusal.line refusal.cause }
+    ensures refused { (refusal : Refusal) → result ≡ Err (SourceFault.Refused refusal)
+        → IsRefusal bytes.now refusal.line refusal.cause }
 {
     read_source(alloc, bytes)
 }

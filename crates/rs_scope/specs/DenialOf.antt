@@ -6,4 +6,5 @@ use Rattle.rs_scope.specs.Denials.{Test, first_denial}
 
 -- each result for an item is the first denial of its tests
 abbrev pub IsDenialBy : {T : Type 0} → (T → List Test) → (Bor T → Option Denial → Type 0) → Type 0
-IsDenialBy {T} tests gives = (item : Bor T) (denial : Option Denial) → gives item denial → denial ≡ first_denial (tests item.now)
+IsDenialBy {T} tests gives = (item : Bor T) (denial : Option Denial) → gives item denial
+    → denial ≡ first_denial (tests item.now)

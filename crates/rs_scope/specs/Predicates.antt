@@ -17,7 +17,8 @@ bound_side scope params (operands.Lit value) = sides.Lit value
 bound_side scope params (operands.Param name) = sides.Param (param_index params name)
 
 abbrev pub bound_cmp : List ScopeColumn → List Param → Cmp → BoundCmp
-bound_cmp scope params cmp = record { left = column_index_of scope cmp.left; op = cmp.op; right = bound_side scope params cmp.right }
+bound_cmp scope params cmp =
+    record { left = column_index_of scope cmp.left; op = cmp.op; right = bound_side scope params cmp.right }
 
 abbrev pub bound_clauses : List ScopeColumn → List Param → List Clause → List (List BoundCmp)
 bound_clauses scope params clauses = map (λ clause. map (bound_cmp scope params) clause.any) clauses

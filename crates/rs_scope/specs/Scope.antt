@@ -47,7 +47,8 @@ table_scope heading = columns_as heading.name.object heading.columns
 
 -- the name as it is written is this column's
 abbrev pub is_named : ColRef → ScopeColumn → Bool
-is_named written column = bytes_eq column.name written.column && option_map_or (λ alias. bytes_eq column.table alias) written.table true
+is_named written column = bytes_eq column.name written.column
+    && option_map_or (λ alias. bytes_eq column.table alias) written.table true
 
 -- the number of columns of that name
 abbrev pub named_count : List ScopeColumn → ColRef → ℕ

@@ -35,7 +35,8 @@ fn operand_kind(scope: &[ScopeColumn], params: &[Param], operand: &Operand) -> O
 }
 
 fn sides_fit(scope: &[ScopeColumn], params: &[Param], cmp: &Cmp) -> bool
-    ensures { result ≡ kinds.kinds_fit (named.column_kind scope.now cmp.now.left) (spec.operand_kind scope.now params.now cmp.now.right) }
+    ensures { result
+        ≡ kinds.kinds_fit (named.column_kind scope.now cmp.now.left) (spec.operand_kind scope.now params.now cmp.now.right) }
 {
     kinds_fit(
         column_kind(scope, &cmp.left),

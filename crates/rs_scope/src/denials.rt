@@ -9,7 +9,8 @@ use rs_base::Denial;
 /// Returns the first denial of the items, if there is one.
 pub fn first_denial<T, F: Fn(&T) -> Option<Denial>>(items: &[T], denial_of: F) -> Option<Denial>
     requires { F.IsAlwaysCallable denial_of }
-    ensures { (tests : T → List spec.Test) → IsDenialBy tests (F.post denial_of) → result ≡ spec.first_denial (flat_map tests items.now) }
+    ensures { (tests : T → List spec.Test) → IsDenialBy tests (F.post denial_of)
+        → result ≡ spec.first_denial (flat_map tests items.now) }
 {
     for item in items {
         let denial = denial_of(item);

@@ -138,7 +138,8 @@ unparsed_clause clause = unparsed_cmps clause.any
 -- without clauses there is no WHERE
 unfoldable pub unparsed_where : List Clause → List Token
 unparsed_where [] = []
-unparsed_where (clause ∷ clauses) = tokens.Word (codes "where") ∷ unparsed_list (tokens.Word (codes "and")) unparsed_clause (clause ∷ clauses)
+unparsed_where (clause ∷ clauses) = tokens.Word (codes "where")
+    ∷ unparsed_list (tokens.Word (codes "and")) unparsed_clause (clause ∷ clauses)
 
 -- ---- queries
 
@@ -169,7 +170,8 @@ unparsed_table_ref table = unparsed_name table.name ++ unparsed_alias table.alia
 
 unfoldable pub unparsed_group : List ColRef → List Token
 unparsed_group [] = []
-unparsed_group (ref ∷ refs) = tokens.Word (codes "group") ∷ tokens.Word (codes "by") ∷ unparsed_list comma unparsed_ref (ref ∷ refs)
+unparsed_group (ref ∷ refs) = tokens.Word (codes "group") ∷ tokens.Word (codes "by")
+    ∷ unparsed_list comma unparsed_ref (ref ∷ refs)
 
 unfoldable pub unparsed_by : KeyBy → List Token
 unparsed_by (keys.Col ref) = unparsed_ref ref
@@ -184,7 +186,8 @@ unparsed_key key = unparsed_by key.by ++ unparsed_direction key.desc
 
 unfoldable pub unparsed_order : List Key → List Token
 unparsed_order [] = []
-unparsed_order (key ∷ more) = tokens.Word (codes "order") ∷ tokens.Word (codes "by") ∷ unparsed_list comma unparsed_key (key ∷ more)
+unparsed_order (key ∷ more) = tokens.Word (codes "order") ∷ tokens.Word (codes "by")
+    ∷ unparsed_list comma unparsed_key (key ∷ more)
 
 -- the select list
 unfoldable pub unparsed_select_list : Bool → Option (List Item) → List Token
@@ -195,7 +198,8 @@ unfoldable pub unparsed_from : List TableRef → List Token
 unparsed_from tables = tokens.Word (codes "from") ∷ unparsed_list comma unparsed_table_ref tables
 
 unfoldable pub unparsed_select : Select → List Token
-unparsed_select select = unparsed_select_list select.distinct select.items ++ unparsed_from select.from ++ unparsed_where select.clauses ++ unparsed_group select.group ++ unparsed_order select.order
+unparsed_select select = unparsed_select_list select.distinct select.items ++ unparsed_from select.from
+    ++ unparsed_where select.clauses ++ unparsed_group select.group ++ unparsed_order select.order
 
 -- ---- INSERT, UPDATE and DELETE
 
@@ -226,9 +230,12 @@ unparsed_set set = tokens.Word set.column ∷ tokens.Symbol symbols.Equal ∷ un
 
 unfoldable pub unparsed_dml : Dml → List Token
 unparsed_dml (dmls.Select select) = unparsed_select select
-unparsed_dml (dmls.Insert name rows) = tokens.Word (codes "insert") ∷ tokens.Word (codes "into") ∷ unparsed_name name ++ tokens.Word (codes "values") ∷ unparsed_list comma unparsed_term_row rows
-unparsed_dml (dmls.Update name sets clauses) = tokens.Word (codes "update") ∷ unparsed_name name ++ tokens.Word (codes "set") ∷ unparsed_list comma unparsed_set sets ++ unparsed_where clauses
-unparsed_dml (dmls.Delete name clauses) = tokens.Word (codes "delete") ∷ tokens.Word (codes "from") ∷ unparsed_name name ++ unparsed_where clauses
+unparsed_dml (dmls.Insert name rows) = tokens.Word (codes "insert") ∷ tokens.Word (codes "into") ∷ unparsed_name name
+    ++ tokens.Word (codes "values") ∷ unparsed_list comma unparsed_term_row rows
+unparsed_dml (dmls.Update name sets clauses) = tokens.Word (codes "update") ∷ unparsed_name name
+    ++ tokens.Word (codes "set") ∷ unparsed_list comma unparsed_set sets ++ unparsed_where clauses
+unparsed_dml (dmls.Delete name clauses) = tokens.Word (codes "delete") ∷ tokens.Word (codes "from") ∷ unparsed_name name
+    ++ unparsed_where clauses
 
 -- ---- statements
 
@@ -240,16 +247,25 @@ unfoldable pub unparsed_steps : List Dml → List Token
 unparsed_steps body = flat_map unparsed_step body
 
 unfoldable pub unparsed_stmt : Stmt → List Token
-unparsed_stmt (stmts.CreateTable name columns) = tokens.Word (codes "create") ∷ tokens.Word (codes "table") ∷ unparsed_name name ++ unparsed_tuple unparsed_column columns
+unparsed_stmt (stmts.CreateTable name columns) = tokens.Word (codes "create") ∷ tokens.Word (codes "table") ∷ unparsed_name name
+    ++ unparsed_tuple unparsed_column columns
 unparsed_stmt (stmts.DropTable name) = tokens.Word (codes "drop") ∷ tokens.Word (codes "table") ∷ unparsed_name name
-unparsed_stmt (stmts.CreateIndex index name column) = tokens.Word (codes "create") ∷ tokens.Word (codes "index") ∷ tokens.Word index ∷ tokens.Word (codes "on") ∷ unparsed_name name ++ between_brackets (unparsed_ident column)
-unparsed_stmt (stmts.DropIndex index name) = tokens.Word (codes "drop") ∷ tokens.Word (codes "index") ∷ tokens.Word index ∷ tokens.Word (codes "on") ∷ unparsed_name name
-unparsed_stmt (stmts.CreateSynonym synonym name) = tokens.Word (codes "create") ∷ tokens.Word (codes "synonym") ∷ tokens.Word synonym ∷ tokens.Word (codes "for") ∷ unparsed_name name
-unparsed_stmt (stmts.DropSynonym synonym) = tokens.Word (codes "drop") ∷ tokens.Word (codes "synonym") ∷ tokens.Word synonym ∷ []
-unparsed_stmt (stmts.Migrate name to) = tokens.Word (codes "migrate") ∷ tokens.Word (codes "table") ∷ unparsed_name name ++ tokens.Word (codes "to") ∷ tokens.Number to ∷ []
-unparsed_stmt (stmts.Compile program params body) = tokens.Word (codes "compile") ∷ tokens.Word program ∷ unparsed_tuple unparsed_ident params ++ tokens.Word (codes "as") ∷ unparsed_steps body ++ tokens.Word (codes "end") ∷ []
-unparsed_stmt (stmts.DropProgram program) = tokens.Word (codes "drop") ∷ tokens.Word (codes "program") ∷ tokens.Word program ∷ []
-unparsed_stmt (stmts.Execute program given) = tokens.Word (codes "execute") ∷ tokens.Word program ∷ unparsed_tuple unparsed_value given
+unparsed_stmt (stmts.CreateIndex index name column) = tokens.Word (codes "create") ∷ tokens.Word (codes "index")
+    ∷ tokens.Word index ∷ tokens.Word (codes "on") ∷ unparsed_name name ++ between_brackets (unparsed_ident column)
+unparsed_stmt (stmts.DropIndex index name) = tokens.Word (codes "drop") ∷ tokens.Word (codes "index") ∷ tokens.Word index
+    ∷ tokens.Word (codes "on") ∷ unparsed_name name
+unparsed_stmt (stmts.CreateSynonym synonym name) = tokens.Word (codes "create") ∷ tokens.Word (codes "synonym")
+    ∷ tokens.Word synonym ∷ tokens.Word (codes "for") ∷ unparsed_name name
+unparsed_stmt (stmts.DropSynonym synonym) = tokens.Word (codes "drop")
+    ∷ tokens.Word (codes "synonym") ∷ tokens.Word synonym ∷ []
+unparsed_stmt (stmts.Migrate name to) = tokens.Word (codes "migrate") ∷ tokens.Word (codes "table") ∷ unparsed_name name
+    ++ tokens.Word (codes "to") ∷ tokens.Number to ∷ []
+unparsed_stmt (stmts.Compile program params body) = tokens.Word (codes "compile") ∷ tokens.Word program
+    ∷ unparsed_tuple unparsed_ident params ++ tokens.Word (codes "as") ∷ unparsed_steps body ++ tokens.Word (codes "end") ∷ []
+unparsed_stmt (stmts.DropProgram program) = tokens.Word (codes "drop")
+    ∷ tokens.Word (codes "program") ∷ tokens.Word program ∷ []
+unparsed_stmt (stmts.Execute program given) = tokens.Word (codes "execute") ∷ tokens.Word program
+    ∷ unparsed_tuple unparsed_value given
 unparsed_stmt (stmts.Explain select) = tokens.Word (codes "explain") ∷ unparsed_select select
 unparsed_stmt stmts.ShowSections = tokens.Word (codes "show") ∷ tokens.Word (codes "sections") ∷ []
 unparsed_stmt stmts.ShowCache = tokens.Word (codes "show") ∷ tokens.Word (codes "cache") ∷ []
