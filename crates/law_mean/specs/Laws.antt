@@ -147,7 +147,7 @@ TableIsMade = (db : Database) (execution : Execution) (written : NameText) (colu
     → (given ≡ answers.Ok ∷ [])
     × (table_named (name_of db execution written) db ≡ None)
     × (table_named (name_of db execution written) (after db execution)
-        ≡ Some (record { made = execution.txn; place = (name_of db execution written).birth; columns = columns; indexes = []; rows = [] }))
+    ≡ Some (record { made = execution.txn; place = (name_of db execution written).birth; columns = columns; indexes = []; rows = [] }))
 
 -- after a done DROP TABLE in a database with sorted names no table has its name, which one had before
 abbrev pub TableIsDropped : Type 0
@@ -164,7 +164,7 @@ RowsAreAppended = (db : Database) (execution : Execution) (written : NameText) (
     → (given ≡ answers.Changed (length rows) ∷ [])
     × IsSome (table_named (name_of db execution written) db)
     × (table_named (name_of db execution written) (after db execution)
-        ≡ option_map (with_rows rows) (table_named (name_of db execution written) db))
+    ≡ option_map (with_rows rows) (table_named (name_of db execution written) db))
 
 -- A table has this number of rows less.
 pub record HasLost (count : ℕ) (old new : Table) : Type 0 where
@@ -187,7 +187,7 @@ RowsAreTakenOut = (db : Database) (execution : Execution) (written : NameText) (
     → execution.stmt ≡ stmts.Dml (dmls.Delete written clauses) → (meaning db execution).1 ≡ Done given
     → (count : ℕ) × (old : Table) × (new : Table) × (given ≡ answers.Changed count ∷ [])
     × (table_named (name_of db execution written) db ≡ Some old)
-        × (table_named (name_of db execution written) (after db execution) ≡ Some new) × HasLost count old new
+    × (table_named (name_of db execution written) (after db execution) ≡ Some new) × HasLost count old new
     × (new.rows ≡ filter (λ row. not (holds (predicate_on (name_of db execution written) old clauses) row)) old.rows)
 
 -- Each row is the one of before, set by the assignments if that satisfies the predicate.
@@ -206,9 +206,9 @@ RowsAreChanged =
     → execution.stmt ≡ stmts.Dml (dmls.Update written sets clauses) → (meaning db execution).1 ≡ Done given
     → (count : ℕ) × (old : Table) × (new : Table) × (given ≡ answers.Changed count ∷ []) × (count ≤ length old.rows)
     × (table_named (name_of db execution written) db ≡ Some old)
-        × (table_named (name_of db execution written) (after db execution) ≡ Some new) × HasLost 0 old new
+    × (table_named (name_of db execution written) (after db execution) ≡ Some new) × HasLost 0 old new
     × AreSet (assignments_on (name_of db execution written) old sets)
-        (predicate_on (name_of db execution written) old clauses) old.rows new.rows
+    (predicate_on (name_of db execution written) old clauses) old.rows new.rows
 
 -- the column at this index has this name
 abbrev pub IsNameAt : List ℕ → List ColDef → ℕ → Type 0
@@ -226,10 +226,10 @@ IndexIsMade =
     (db : Database) (execution : Execution) (name : List ℕ) (written : NameText) (column : List ℕ) (given : List Answer)
     → execution.stmt ≡ stmts.CreateIndex name written column → (meaning db execution).1 ≡ Done given
     → (old : Table) × (new : Table) × (index : IndexOf) × (given ≡ answers.Ok ∷ []) × (index.name ≡ name)
-        × (index.made ≡ execution.txn)
+    × (index.made ≡ execution.txn)
     × (length old.columns ≤ 16 → IsNameAt column old.columns index.column)
     × (table_named (name_of db execution written) db ≡ Some old)
-        × (table_named (name_of db execution written) (after db execution) ≡ Some new) × HasGained index old new
+    × (table_named (name_of db execution written) (after db execution) ≡ Some new) × HasGained index old new
 
 -- A table that had an index of this name has none of it any more, and all its others.
 pub record HasNoMore (name : List ℕ) (old new : Table) : Type 0 where
@@ -243,7 +243,7 @@ IndexIsDropped = (db : Database) (execution : Execution) (name : List ℕ) (writ
     → execution.stmt ≡ stmts.DropIndex name written → (meaning db execution).1 ≡ Done given
     → (old : Table) × (new : Table) × (given ≡ answers.Ok ∷ [])
     × (table_named (name_of db execution written) db ≡ Some old)
-        × (table_named (name_of db execution written) (after db execution) ≡ Some new) × HasNoMore name old new
+    × (table_named (name_of db execution written) (after db execution) ≡ Some new) × HasNoMore name old new
 
 -- after a done CREATE SYNONYM the user's synonym at the asked site, which wasn't there, refers to the name
 abbrev pub SynonymIsMade : Type 0
@@ -307,7 +307,7 @@ abbrev pub TablesStayAtSites : Type 0
 TablesStayAtSites =
     ((sites : ℕ) → EachTable (IsAtSite sites) (empty sites))
     × ((db : Database) (execution : Execution) → EachTable (IsAtSite db.sites) db
-        → EachTable (IsAtSite (after db execution).sites) (after db execution))
+    → EachTable (IsAtSite (after db execution).sites) (after db execution))
 
 -- ---- kinds
 
@@ -322,7 +322,7 @@ abbrev pub RowsStayTyped : Type 0
 RowsStayTyped =
     ((sites : ℕ) → EachTable IsTyped (empty sites))
     × ((db : Database) (execution : Execution) → KeepsLimits execution.stmt → EachTable IsTyped db
-        → EachTable IsTyped (after db execution))
+    → EachTable IsTyped (after db execution))
 
 ---- a query's answer
 
@@ -348,6 +348,6 @@ kinds_shown columns (Some shown) = map (kind_shown columns) shown
 abbrev pub AnswersAreTyped : Type 0
 AnswersAreTyped = (db : Database) (execution : Execution) (query : Select) (given : List Answer)
     → EachTable IsTyped db → KeepsLimits execution.stmt → execution.stmt ≡ stmts.Dml (dmls.Select query)
-        → (meaning db execution).1 ≡ Done given
+    → (meaning db execution).1 ≡ Done given
     → (rows : List (List Value)) × (known : List Kind) × (given ≡ answers.Rows rows ∷ [])
     × AreKindsOf (kinds_shown (columns_named db execution query) query.items) known × All (HasKinds known) rows

@@ -33,7 +33,7 @@ items_keep_limits (Some items) = one_to 16 items
 abbrev pub select_keeps_limits : Select → Bool
 select_keeps_limits select =
     items_keep_limits select.items && one_to 6 select.from && clauses_keep_limits select.clauses
-        && up_to 16 select.group && up_to 16 select.order
+    && up_to 16 select.group && up_to 16 select.order
 
 -- a constant or a parameter, and no column
 abbrev pub is_given : Term → Bool

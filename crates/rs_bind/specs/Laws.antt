@@ -18,7 +18,7 @@ use Rattle.rs_bind.specs.Entries.{headings_of, params_of, kinds_given, table_cou
 abbrev pub BoundIsOver : Type 0
 BoundIsOver = (stmt : Dml) (entries : List Entry) (names : List (List ℕ)) (given : Option (List Value)) (bound : Bound)
     → DmlKeepsLimits stmt → All IsNarrow entries → length entries ≡ table_count stmt
-        → length names ≤ 16 → AreValuesOf names given
+    → length names ≤ 16 → AreValuesOf names given
     → bound_of stmt (headings_of entries) (params_of names given) ≡ Some (Ok bound)
     → IsOver bound entries (kinds_given given) × HasParamsBelow (length names) bound
 
@@ -27,7 +27,7 @@ BoundIsOver = (stmt : Dml) (entries : List Entry) (names : List (List ℕ)) (giv
 abbrev pub PlacesAreNamed : Type 0
 PlacesAreNamed = (stmt : Dml) (entries : List Entry) (written : ColRef)
     → DmlKeepsLimits stmt → All IsNarrow entries → length entries ≡ table_count stmt
-        → (named_count (scope_of stmt (headings_of entries)) written == 0) ≡ false
+    → (named_count (scope_of stmt (headings_of entries)) written == 0) ≡ false
     → IsNamedAt (scope_of stmt (headings_of entries)) written (column_index_of (scope_of stmt (headings_of entries)) written)
 
 -- a statement that keeps the limits and is bound over the entries of its tables, with at most 16 parameters, and not denied,
@@ -35,6 +35,6 @@ PlacesAreNamed = (stmt : Dml) (entries : List Entry) (written : ColRef)
 abbrev pub BoundIsAsWritten : Type 0
 BoundIsAsWritten = (stmt : Dml) (entries : List Entry) (names : List (List ℕ)) (given : Option (List Value)) (bound : Bound)
     → DmlKeepsLimits stmt → All IsNarrow entries → length entries ≡ table_count stmt
-        → length names ≤ 16 → AreValuesOf names given
+    → length names ≤ 16 → AreValuesOf names given
     → bound_of stmt (headings_of entries) (params_of names given) ≡ Some (Ok bound)
     → IsBoundAs stmt (headings_of entries) names bound

@@ -45,10 +45,10 @@ unfoldable pub update_bound : List Set → List Clause → Heading → List Para
 update_bound sets clauses heading params =
     let scope = table_scope heading in
     unless_denied (first_denial (update_tests sets clauses scope params))
-        (bounds.Update heading.name (map (bound_set scope params) sets) (bound_clauses scope params clauses))
+    (bounds.Update heading.name (map (bound_set scope params) sets) (bound_clauses scope params clauses))
 
 unfoldable pub delete_bound : List Clause → Heading → List Param → Result Bound Denial
 delete_bound clauses heading params =
     let scope = table_scope heading in
     unless_denied (first_denial (delete_tests clauses scope params))
-        (bounds.Delete heading.name (bound_clauses scope params clauses))
+    (bounds.Delete heading.name (bound_clauses scope params clauses))

@@ -72,7 +72,7 @@ abbrev pub expr_fits : List ScopeColumn → List Param → Option Kind → Term 
 expr_fits scope params kind first None = kinds_fit kind (term_kind scope params first)
 expr_fits scope params kind first (Some more) =
     kinds_fit kind (Some kinds.Int) && kinds_fit (Some kinds.Int) (term_kind scope params first)
-        && kinds_fit (Some kinds.Int) (term_kind scope params more.1)
+    && kinds_fit (Some kinds.Int) (term_kind scope params more.1)
 
 -- its column isn't there, or is assigned by one of those before
 abbrev pub set_column_tests : List ScopeColumn → List Set → Set → List Test

@@ -29,8 +29,8 @@ abbrev pub stored_at : ℕ → Option Table → Option StoredTable
 stored_at site None = None
 stored_at site (Some table) =
     if table.place == site
-        then Some (record { made = table.made; columns = table.columns; indexes = table.indexes; rows = table.rows })
-        else None
+    then Some (record { made = table.made; columns = table.columns; indexes = table.indexes; rows = table.rows })
+    else None
 
 abbrev pub place_of : Option Table → Option ℕ
 place_of None = None

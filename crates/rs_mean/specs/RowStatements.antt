@@ -82,7 +82,7 @@ effect_of_bound values tables (bounds.Select names aliases widths clauses shape)
 effect_of_bound values tables (bounds.Insert name rows) = inserting name (inserted values rows (only tables))
 effect_of_bound values tables (bounds.Update name sets clauses) =
     updating name (matching_count (filled values clauses) (only tables))
-        (updated values sets (filled values clauses) (only tables))
+    (updated values sets (filled values clauses) (only tables))
 effect_of_bound values tables (bounds.Delete name clauses) = deleting name (filled values clauses) (only tables)
 
 abbrev pub once_bound : List Value → List (List (List Value)) → Result Bound Denial → Effect

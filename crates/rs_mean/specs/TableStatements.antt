@@ -24,7 +24,7 @@ use Rattle.rs_mean.specs.Names.{own_synonym, site_test, table_tests}
 abbrev pub create_tests : Database → Swn → List ColDef → List Test
 create_tests db name columns =
     site_test db name ∷ test (not (names_differ columns)) denials.TwoColumns
-        ∷ test (is_some (table_named name db)) denials.TableExists ∷ []
+    ∷ test (is_some (table_named name db)) denials.TableExists ∷ []
 
 -- a table without rows, at its birth site
 abbrev pub new_table : Txn → Swn → List ColDef → Table
@@ -34,7 +34,7 @@ new_table txn name columns = record { made = txn; place = name.birth; columns = 
 abbrev pub create_table : Database → Txn → Swn → List ColDef → Effect
 create_table db txn name columns =
     unless_denied (first_denial (create_tests db name columns))
-        (done (changes.PutTable name (new_table txn name columns)) answers.Ok)
+    (done (changes.PutTable name (new_table txn name columns)) answers.Ok)
 
 abbrev pub drop_table : Database → Swn → Effect
 drop_table db name = unless_denied (first_denial (table_tests db name)) (done (changes.DropTable name) answers.Ok)
@@ -109,7 +109,7 @@ create_synonym_tests db execution synonym name =
 abbrev pub create_synonym : Database → Execution → List ℕ → Swn → Effect
 create_synonym db execution synonym name =
     unless_denied (first_denial (create_synonym_tests db execution synonym name))
-        (done (changes.PutSynonym (own_synonym execution synonym) name) answers.Ok)
+    (done (changes.PutSynonym (own_synonym execution synonym) name) answers.Ok)
 
 abbrev pub drop_synonym_tests : Database → Execution → List ℕ → List Test
 drop_synonym_tests db execution synonym =
@@ -118,4 +118,4 @@ drop_synonym_tests db execution synonym =
 abbrev pub drop_synonym : Database → Execution → List ℕ → Effect
 drop_synonym db execution synonym =
     unless_denied (first_denial (drop_synonym_tests db execution synonym))
-        (done (changes.DropSynonym (own_synonym execution synonym)) answers.Ok)
+    (done (changes.DropSynonym (own_synonym execution synonym)) answers.Ok)

@@ -108,7 +108,7 @@ abbrev pub IsNameOf : Option (List ℕ) → NameText → List Token → Type 0
 IsNameOf None name ts = (name.creator_site ≡ None) × Sequence (IsIdent name.object ∷ Optional IsAtSite name.birth ∷ []) ts
 IsNameOf (Some creator) name ts =
     Sequence (IsIdent creator ∷ Optional IsAtSite name.creator_site ∷ IsSymbol symbols.Dot ∷ IsIdent name.object
-        ∷ Optional IsAtSite name.birth ∷ []) ts
+    ∷ Optional IsAtSite name.birth ∷ []) ts
 
 abbrev pub IsName : Phrase NameText
 IsName name = IsNameOf name.creator name
@@ -132,7 +132,7 @@ IsColumn column = Sequence (IsIdent column.name ∷ IsKind column.kind ∷ [])
 abbrev pub IsLiteral : Phrase Value
 IsLiteral (values.Int z) ts = (n : ℕ) × (n < 2 ^ 63)
     × (((z ≡ pos n) × Is (tokens.Number n) ts)
-        ⊎ ((z ≡ neg_ℤ (pos n)) × Sequence (IsSymbol symbols.Minus ∷ Is (tokens.Number n) ∷ []) ts))
+    ⊎ ((z ≡ neg_ℤ (pos n)) × Sequence (IsSymbol symbols.Minus ∷ Is (tokens.Number n) ∷ []) ts))
 IsLiteral (values.Text text) ts = Is (tokens.Text text) ts
 
 abbrev pub IsParam : Phrase (List ℕ)
@@ -269,11 +269,11 @@ IsBody (dml ∷ dmls) ts = AtMost 8 (IsSeries IsDmlEnded) (dml ∷ dmls) ts
 abbrev pub IsStmt : Phrase Stmt
 IsStmt (stmts.CreateTable name columns) =
     Sequence (Keyword (codes "create") ∷ Keyword (codes "table") ∷ IsName name ∷ IsSymbol symbols.Open
-        ∷ AtMost 16 (IsCommaList IsColumn) columns ∷ IsSymbol symbols.Close ∷ [])
+    ∷ AtMost 16 (IsCommaList IsColumn) columns ∷ IsSymbol symbols.Close ∷ [])
 IsStmt (stmts.DropTable name) = Sequence (Keyword (codes "drop") ∷ Keyword (codes "table") ∷ IsName name ∷ [])
 IsStmt (stmts.CreateIndex index name column) =
     Sequence (Keyword (codes "create") ∷ Keyword (codes "index") ∷ IsIdent index ∷ Keyword (codes "on") ∷ IsName name
-        ∷ IsSymbol symbols.Open ∷ IsIdent column ∷ IsSymbol symbols.Close ∷ [])
+    ∷ IsSymbol symbols.Open ∷ IsIdent column ∷ IsSymbol symbols.Close ∷ [])
 IsStmt (stmts.DropIndex index name) = Sequence (Keyword (codes "drop") ∷ Keyword (codes "index") ∷ IsIdent index
     ∷ Keyword (codes "on") ∷ IsName name ∷ [])
 IsStmt (stmts.CreateSynonym synonym name) =
@@ -283,12 +283,12 @@ IsStmt (stmts.Migrate name to) = Sequence (Keyword (codes "migrate") ∷ Keyword
     ∷ Keyword (codes "to") ∷ IsSite to ∷ [])
 IsStmt (stmts.Compile program params body) = Sequence (
     Keyword (codes "compile") ∷ IsIdent program ∷ IsSymbol symbols.Open
-        ∷ AtMost 16 (IsCommaListOrNone IsIdent) params ∷ IsSymbol symbols.Close
+    ∷ AtMost 16 (IsCommaListOrNone IsIdent) params ∷ IsSymbol symbols.Close
     ∷ Keyword (codes "as") ∷ IsBody body ∷ Keyword (codes "end") ∷ [])
 IsStmt (stmts.DropProgram program) = Sequence (Keyword (codes "drop") ∷ Keyword (codes "program") ∷ IsIdent program ∷ [])
 IsStmt (stmts.Execute program given) =
     Sequence (Keyword (codes "execute") ∷ IsIdent program ∷ IsSymbol symbols.Open
-        ∷ AtMost 16 (IsCommaListOrNone IsLiteral) given ∷ IsSymbol symbols.Close ∷ [])
+    ∷ AtMost 16 (IsCommaListOrNone IsLiteral) given ∷ IsSymbol symbols.Close ∷ [])
 IsStmt (stmts.Explain select) = Sequence (Keyword (codes "explain") ∷ IsSelect select ∷ [])
 IsStmt stmts.ShowSections = Sequence (Keyword (codes "show") ∷ Keyword (codes "sections") ∷ [])
 IsStmt stmts.ShowCache = Sequence (Keyword (codes "show") ∷ Keyword (codes "cache") ∷ [])

@@ -524,7 +524,7 @@ drop_at ts = do
   drop ← word_at (codes "drop") ts
   either_at (is_word (codes "table")) drop_table_at
       (either_at (is_word (codes "index")) drop_index_at
-          (either_at (is_word (codes "synonym")) drop_synonym_at drop_program_at)) drop.1
+      (either_at (is_word (codes "synonym")) drop_synonym_at drop_program_at)) drop.1
 
 unfoldable pub migrate_at : List Token → Read Stmt
 migrate_at ts = do

@@ -47,7 +47,7 @@ source_at unsettled sites before [] = end_by unsettled sites before
 source_at unsettled sites before (line ∷ lines) =
     if is_comment (without_returns line) then source_at unsettled sites (before + 1) lines
     else further_by unsettled (before + 1) (line_at sites (without_returns line))
-        (λ event. source_at (is_open_after unsettled event) (sites_after sites event) (before + 1) lines)
+    (λ event. source_at (is_open_after unsettled event) (sites_after sites event) (before + 1) lines)
 
 unfoldable pub source_of : List ℕ → Read
 source_of bytes = if nat_lt 16777216 (length bytes) then refused 0 (causes.Bad whys.TooLong)
