@@ -6,9 +6,10 @@ use Rattle.std.specs.BTreeSet.{insert_key}
 use Rattle.std.specs.List.{slice_get, range_with_len, find, list_any}
 use Rattle.std.specs.Ordering.{match_ordering}
 use Rattle.rs_base.specs.Reading.{◌>>=◌}
-use Rattle.rs_site.specs.declared.input.Input.{Input}
+use Rattle.rs_course.specs.declared.input.Input.{Input}
 use Rattle.rs_course.specs.declared.datagram.Datagram.{Datagram}
 use Rattle.rs_course.specs.Course.{GiveNext, datagram_at, delivery_at, delivery_of, gives, lowest_pending, stepped_by, without, act}
+use Rattle.rs_course.specs.Rules.{Rules}
 use Rattle.rs_course.specs.World.{World}
 
 -- the position of an element is below the length
@@ -77,48 +78,25 @@ insert_next a (suc n) k is =
 
 -- ---- worlds
 
--- if none is pending, no datagram is delivered
-pub none_delivered : (world : World) → lowest_pending world ≡ None → act world GiveNext ≡ world
-none_delivered world none = ap (λ (number : Option ℕ). stepped_by (without number world) (delivery_at world number)) none
-
 -- the datagrams up to this number are gone, and no others
-abbrev pub AreGoneTo : World → ℕ → Type 0
+abbrev pub AreGoneTo : {Site : Type 0} → World Site → ℕ → Type 0
 AreGoneTo world d = world.gone ≡ range_with_len 1 d
 
-abbrev pub next_given : World → ℕ → Option Datagram → World
-next_given world d None = world
-next_given world d (Some datagram) = stepped_by (record world { gone = range_with_len 1 (d + 1) }) (Some (delivery_of datagram))
-
-lowest_is : (world : World) (d : ℕ) → AreGoneTo world d → lowest_pending world ≡ first_other (range_with_len 1 (length world.sent)) (range_with_len 1 d)
+lowest_is : {Site : Type 0} (world : World Site) (d : ℕ) → AreGoneTo world d → lowest_pending world ≡ first_other (range_with_len 1 (length world.sent)) (range_with_len 1 d)
 lowest_is world d gone = ap (λ (numbers : List ℕ). first_other (range_with_len 1 (length world.sent)) numbers) gone
 
-module _ (world : World) (d : ℕ) (gone : AreGoneTo world d) where
-  abbrev by_number : Option ℕ → World
-  by_number number = stepped_by (without number world) (delivery_at world number)
-
+module _ {Site : Type 0} (world : World Site) (d : ℕ) (gone : AreGoneTo world d) where
   pub none_pending : length world.sent ≤ d → lowest_pending world ≡ None
   none_pending le = lowest_is world d gone ∙ none_found 1 (length world.sent) d (omega (arith, le)) (omega arith)
 
   pub one_pending : d < length world.sent → lowest_pending world ≡ Some (d + 1)
   one_pending lt = lowest_is world d gone ∙ other_found 1 (length world.sent) d (omega arith) (omega (arith, lt)) (omega arith)
 
-  pub none_next : length world.sent ≤ d → act world GiveNext ≡ world
-  none_next le = ap by_number (none_pending le)
-
   there : (datagram : Datagram) → slice_get world.sent d ≡ Some datagram → datagram_at world (d + 1) ≡ Some datagram
   there datagram at =
       let not_none : ((d + 1) == 0) ≡ false = grind (arith, nat_tests) in
       let same : (d + 1) - 1 ≡ d = omega arith in
       ap (λ (b : Bool). cond b None (slice_get world.sent ((d + 1) - 1))) not_none ∙ ap (λ (i : ℕ). slice_get world.sent i) same ∙ at
-
-  pub one_next : d < length world.sent → (datagram : Datagram) → slice_get world.sent d ≡ Some datagram → act world GiveNext ≡ next_given world d (Some datagram)
-  one_next lt datagram at =
-      ap by_number (one_pending lt)
-      ∙ ap (λ (found : Option Datagram). stepped_by (without (Some (d + 1)) world) (found >>= λ datagram. Some (delivery_of datagram))) (there datagram at)
-      ∙ ap (λ (numbers : List ℕ). stepped_by (record world { gone = numbers }) (Some (delivery_of datagram))) left
-    where
-      left : insert_key nat_cmp world.gone (d + 1) ≡ range_with_len 1 (d + 1)
-      left = ap (λ (numbers : List ℕ). insert_key nat_cmp numbers (d + 1)) gone ∙ insert_next 1 d (d + 1) (omega arith)
 
   -- the datagram after those that are gone is given to its site
   pub next_gives : (datagram : Datagram) → slice_get world.sent d ≡ Some datagram → gives world GiveNext ≡ Some (delivery_of datagram)
@@ -132,3 +110,30 @@ module _ (world : World) (d : ℕ) (gone : AreGoneTo world d) where
       by : (found : Option Datagram) → slice_get world.sent d ≡ found → (datagram : Datagram) × (slice_get world.sent d ≡ Some datagram) × (delivery_of datagram ≡ (to, input))
       by None e = absurd (let both : None ≡ Some (to, input) = sym (ap (delivery_at world) (none_pending (get_past world.sent d e))) ∙ given in cc)
       by (Some datagram) e = let both : Some (delivery_of datagram) ≡ Some (to, input) = sym (next_gives datagram e) ∙ given in (datagram, e, let same : delivery_of datagram ≡ (to, input) = cc in same)
+
+-- ---- by the rules of the sites
+
+module _ {Site : Type 0} (rules : Rules Site) where
+  -- if none is pending, no datagram is delivered
+  pub none_delivered : (world : World Site) → lowest_pending world ≡ None → act rules world GiveNext ≡ world
+  none_delivered world none = ap (λ (number : Option ℕ). stepped_by rules (without number world) (delivery_at world number)) none
+
+  abbrev pub next_given : World Site → ℕ → Option Datagram → World Site
+  next_given world d None = world
+  next_given world d (Some datagram) = stepped_by rules (record world { gone = range_with_len 1 (d + 1) }) (Some (delivery_of datagram))
+
+  abbrev by_number : World Site → Option ℕ → World Site
+  by_number world number = stepped_by rules (without number world) (delivery_at world number)
+
+  pub none_next : (world : World Site) (d : ℕ) → AreGoneTo world d → length world.sent ≤ d → act rules world GiveNext ≡ world
+  none_next world d gone le = ap (by_number world) (none_pending world d gone le)
+
+  pub one_next : (world : World Site) (d : ℕ) → AreGoneTo world d → d < length world.sent → (datagram : Datagram) → slice_get world.sent d ≡ Some datagram
+      → act rules world GiveNext ≡ next_given world d (Some datagram)
+  one_next world d gone lt datagram at =
+      ap (by_number world) (one_pending world d gone lt)
+      ∙ ap (λ (found : Option Datagram). stepped_by rules (without (Some (d + 1)) world) (found >>= λ datagram. Some (delivery_of datagram))) (there world d gone datagram at)
+      ∙ ap (λ (numbers : List ℕ). stepped_by rules (record world { gone = numbers }) (Some (delivery_of datagram))) left
+    where
+      left : insert_key nat_cmp world.gone (d + 1) ≡ range_with_len 1 (d + 1)
+      left = ap (λ (numbers : List ℕ). insert_key nat_cmp numbers (d + 1)) gone ∙ insert_next 1 d (d + 1) (omega arith)

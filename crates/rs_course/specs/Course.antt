@@ -12,18 +12,16 @@ use Rattle.rs_msg.specs.declared.message.Message.TheVariants as messages
 use Rattle.rs_msg.specs.Reader.{message_of}
 use Rattle.rs_msg.specs.Written.{message_bytes}
 use Rattle.rs_session.specs.declared.told.Told.{Told}
-use Rattle.rs_site.specs.declared.input.Input.{Input}
-use Rattle.rs_site.specs.declared.input.Input.TheVariants as inputs
-use Rattle.rs_site.specs.declared.outs.Decided.{Decided}
-use Rattle.rs_site.specs.declared.outs.Outs.{Outs}
-use Rattle.rs_site.specs.Planned.{done}
-use Rattle.rs_site.specs.State.{SiteState, opened}
-use Rattle.rs_site.specs.Step.{planned_step, site_step}
 use Rattle.rs_sched.specs.declared.event.Event.{Event}
 use Rattle.rs_sched.specs.declared.event.Event.TheVariants as events
 use Rattle.rs_course.specs.declared.datagram.Datagram.{Datagram}
+use Rattle.rs_course.specs.declared.input.Input.{Input}
+use Rattle.rs_course.specs.declared.input.Input.TheVariants as inputs
+use Rattle.rs_course.specs.declared.outs.Decided.{Decided}
+use Rattle.rs_course.specs.declared.outs.Outs.{Outs}
 use Rattle.rs_course.specs.declared.report.Given.{Given}
 use Rattle.rs_course.specs.History.{with_entries}
+use Rattle.rs_course.specs.Rules.{Rules}
 use Rattle.rs_course.specs.World.{World, start, site_at}
 
 -- ---- actions
@@ -51,22 +49,22 @@ ask_datagram origin text = record {
 }
 
 -- the datagram of this number, if it was sent
-abbrev pub datagram_at : World → ℕ → Option Datagram
+abbrev pub datagram_at : {Site : Type 0} → World Site → ℕ → Option Datagram
 datagram_at world number = if number == 0 then None else slice_get world.sent (number - 1)
 
-abbrev pub is_gone : World → ℕ → Bool
+abbrev pub is_gone : {Site : Type 0} → World Site → ℕ → Bool
 is_gone world number = list_any (λ other. number == other) world.gone
 
 -- the lowest number of a datagram that is neither delivered nor lost
-abbrev pub lowest_pending : World → Option ℕ
+abbrev pub lowest_pending : {Site : Type 0} → World Site → Option ℕ
 lowest_pending world = find (λ number. not (is_gone world number)) (range_with_len 1 (length world.sent))
 
 -- the number, if a datagram of it was sent
-abbrev pub sent_number : World → ℕ → Option ℕ
+abbrev pub sent_number : {Site : Type 0} → World Site → ℕ → Option ℕ
 sent_number world number = if number == 0 || nat_lt (length world.sent) number then None else Some number
 
 -- the number of the datagram that an action delivers or loses, if it does
-abbrev pub taken : World → Action → Option ℕ
+abbrev pub taken : {Site : Type 0} → World Site → Action → Option ℕ
 taken world (Open last) = None
 taken world (Post origin text) = None
 taken world (Give number) = sent_number world number
@@ -79,7 +77,7 @@ taken world (Restart site) = None
 taken world (Noise site bytes) = None
 
 -- the world in which the datagram of this number is gone
-abbrev pub without : Option ℕ → World → World
+abbrev pub without : {Site : Type 0} → Option ℕ → World Site → World Site
 without None world = world
 without (Some number) world = record world { gone = insert_key nat_cmp world.gone number }
 
@@ -88,7 +86,7 @@ without (Some number) world = record world { gone = insert_key nat_cmp world.gon
 abbrev pub delivery_of : Datagram → ℕ × Input
 delivery_of datagram = (datagram.to, inputs.Datagram datagram.from datagram.bytes)
 
-abbrev pub delivery_at : World → Option ℕ → Option (ℕ × Input)
+abbrev pub delivery_at : {Site : Type 0} → World Site → Option ℕ → Option (ℕ × Input)
 delivery_at world number = (number >>= datagram_at world) >>= λ datagram. Some (delivery_of datagram)
 
 abbrev pub noise_of : ℕ → List ℕ → Option Message → Option (ℕ × Input)
@@ -96,7 +94,7 @@ noise_of site bytes None = Some (site, inputs.Datagram (peers.Client 0) bytes)
 noise_of site bytes (Some message) = None
 
 -- the number of the site that an action gives an input, and that input
-abbrev pub gives : World → Action → Option (ℕ × Input)
+abbrev pub gives : {Site : Type 0} → World Site → Action → Option (ℕ × Input)
 gives world (Open last) = None
 gives world (Post origin text) = None
 gives world (Give number) = delivery_at world (sent_number world number)
@@ -119,7 +117,7 @@ abbrev pub given_of : Told → Given
 given_of reported = record { origin = reported.origin; reply = reported.reply }
 
 -- the output of a step of this site
-abbrev pub after_outs : World → ℕ → Outs → World
+abbrev pub after_outs : {Site : Type 0} → World Site → ℕ → Outs → World Site
 after_outs world site outs = record world {
   sent = world.sent ++ flat_map (sent_by site) outs.sends;
   replies = world.replies ++ map given_of outs.replies;
@@ -128,47 +126,8 @@ after_outs world site outs = record world {
 }
 
 -- the world in which the site of this number is up in this state, or down
-abbrev pub with_place : ℕ → Option SiteState → World → World
+abbrev pub with_place : {Site : Type 0} → ℕ → Option Site → World Site → World Site
 with_place number up world = record world { sites = slice_set world.sites (number - 1) (record { up = up }) }
-
--- What is given to a site that is down is lost. The logs of sites that are up have all items that are appended, so far.
-abbrev pub stepped : World → ℕ → Input → Option SiteState → World
-stepped world number input None = world
-stepped world number input (Some site) =
-    let step = done (planned_step site input) true in
-    after_outs (with_place number step.0 world) number step.1
-
--- the site that is given an input takes it
-abbrev pub stepped_by : World → Option (ℕ × Input) → World
-stepped_by world None = world
-stepped_by world (Some (number, input)) = stepped world number input (site_at world number)
-
--- the executions that a step of this site, by this input, reports as committed
-abbrev pub decided_in : Input → Option SiteState → List Decided
-decided_in input None = []
-decided_in input (Some site) = (site_step site input).1.decided
-
--- those that the step reports by which a site takes what it is given
-abbrev pub decided_by : World → Option (ℕ × Input) → List Decided
-decided_by world None = []
-decided_by world (Some (number, input)) = decided_in input (site_at world number)
-
--- an action that delivers or loses a datagram, or gives a site an input
-abbrev pub moved : World → Action → World
-moved world action = stepped_by (without (taken world action) world) (gives world action)
-
--- Stops, arms and restarts aren't played yet: they do nothing.
-abbrev pub act : World → Action → World
-act world (Open last) = record world { sites = map (λ me. record { up = Some (opened me last) }) (range_with_len 1 last) }
-act world (Post origin text) = record world { sent = world.sent ++ ask_datagram origin text ∷ [] }
-act world (Give number) = moved world (Give number)
-act world GiveNext = moved world GiveNext
-act world (Lose number) = moved world (Lose number)
-act world (Tick site) = moved world (Tick site)
-act world (Stop site) = world
-act world (Arm site) = world
-act world (Restart site) = world
-act world (Noise site bytes) = moved world (Noise site bytes)
 
 -- ---- events
 
@@ -190,8 +149,51 @@ actions_of (events.Stop site k j) = []
 actions_of (events.Arm site c k j) = []
 actions_of (events.Restart site) = []
 
-abbrev pub world_step : World → Event → World
-world_step world event = fold act world (actions_of event)
+-- ---- the course, by the rules of the sites
 
-abbrev pub course : List Event → World
-course given = fold world_step start given
+module _ {Site : Type 0} (rules : Rules Site) where
+  -- What is given to a site that is down is lost.
+  abbrev pub stepped : World Site → ℕ → Input → Option Site → World Site
+  stepped world number input None = world
+  stepped world number input (Some site) =
+      let step = rules.step site input in
+      after_outs (with_place number step.0 world) number step.1
+
+  -- the site that is given an input takes it
+  abbrev pub stepped_by : World Site → Option (ℕ × Input) → World Site
+  stepped_by world None = world
+  stepped_by world (Some (number, input)) = stepped world number input (site_at world number)
+
+  -- the executions that a step of this site, by this input, reports as committed
+  abbrev pub decided_in : Input → Option Site → List Decided
+  decided_in input None = []
+  decided_in input (Some site) = (rules.step site input).1.decided
+
+  -- those that the step reports by which a site takes what it is given
+  abbrev pub decided_by : World Site → Option (ℕ × Input) → List Decided
+  decided_by world None = []
+  decided_by world (Some (number, input)) = decided_in input (site_at world number)
+
+  -- an action that delivers or loses a datagram, or gives a site an input
+  abbrev pub moved : World Site → Action → World Site
+  moved world action = stepped_by (without (taken world action) world) (gives world action)
+
+  -- Stops, arms and restarts aren't played yet: they do nothing.
+  abbrev pub act : World Site → Action → World Site
+  act world (Open last) = record world { sites = map (λ me. record { up = Some (rules.opened me last) }) (range_with_len 1 last) }
+  act world (Post origin text) = record world { sent = world.sent ++ ask_datagram origin text ∷ [] }
+  act world (Give number) = moved world (Give number)
+  act world GiveNext = moved world GiveNext
+  act world (Lose number) = moved world (Lose number)
+  act world (Tick site) = moved world (Tick site)
+  act world (Stop site) = world
+  act world (Arm site) = world
+  act world (Restart site) = world
+  act world (Noise site bytes) = moved world (Noise site bytes)
+
+  -- the world after an event, and after each of several
+  abbrev pub world_step : World Site → Event → World Site
+  world_step world event = fold act world (actions_of event)
+
+  abbrev pub course : List Event → World Site
+  course given = fold world_step start given

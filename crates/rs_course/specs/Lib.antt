@@ -2,6 +2,8 @@ pub mod Calm
 pub mod Course
 pub mod History
 pub mod Moments
+pub mod Outs
 pub mod Played
 pub mod Report
+pub mod Rules
 pub mod World

@@ -1,14 +1,13 @@
 -- The states of a course, the steps of its sites, and when a site receives an ask.
-use Rattle.std.specs.Prelude.{◌≡◌, ℕ, ◌+◌, List, [], ◌∷◌, ◌++◌, flat_map, fold, Some}
+use Rattle.std.specs.Prelude.{◌≡◌, ℕ, List, [], ◌∷◌, ◌++◌, flat_map, fold, Some}
 use Rattle.rs_base.specs.declared.peer.Peer.TheVariants as peers
 use Rattle.rs_base.specs.declared.txn.Origin.{Origin}
 use Rattle.rs_sched.specs.declared.event.Event.{Event}
 use Rattle.rs_sched.specs.declared.event.Event.TheVariants as events
-use Rattle.rs_session.specs.Sessions.{session_of}
-use Rattle.rs_site.specs.declared.input.Input.{Input}
-use Rattle.rs_site.specs.declared.input.Input.TheVariants as inputs
-use Rattle.rs_site.specs.State.{SiteState}
+use Rattle.rs_course.specs.declared.input.Input.{Input}
+use Rattle.rs_course.specs.declared.input.Input.TheVariants as inputs
 use Rattle.rs_course.specs.Course.{Action, actions_of, act, ask_datagram, gives}
+use Rattle.rs_course.specs.Rules.{Rules}
 use Rattle.rs_course.specs.World.{World, start, site_at}
 
 -- the number of sites that an event opens
@@ -32,32 +31,25 @@ sites_of (event ∷ others) = sites_opened event
 abbrev pub actions : List Event → List Action
 actions given = flat_map actions_of given
 
-abbrev pub world_after : List Action → World
-world_after before = fold act start before
-
--- After these actions comes this one, and by it a site that is up, in this state, takes this input.
-pub record IsStep (given : List Event) (before : List Action) (action : Action) (site : SiteState) (input : Input) : Type 0 where
-  pub suffix : List Action
-  pub separated : actions given ≡ before ++ action ∷ suffix
-  pub number : ℕ
-  pub gives : gives (world_after before) action ≡ Some (number, input)
-  pub at : site_at (world_after before) number ≡ Some site
-
 -- the input by which a site receives a client's ask of a first part
 abbrev pub ask_input : Origin → List ℕ → Input
 ask_input origin text = inputs.Datagram (peers.Client 0) (ask_datagram origin text).bytes
 
--- By this step the site of the origin receives the ask.
-pub record Receives (given : List Event) (before : List Action) (action : Action) (site : SiteState) (origin : Origin) (text : List ℕ) : Type 0 where
-  pub step : IsStep given before action site (ask_input origin text)
-  pub home : step.number ≡ origin.site
+-- ---- by the rules of the sites
 
--- The ask is received, is of the site's epoch, and has the number after the user's last: the site accepts it, if the last
--- request is answered and the epoch has a transaction left.
-pub record Accepts (given : List Event) (origin : Origin) (text : List ℕ) : Type 0 where
-  pub before : List Action
-  pub action : Action
-  pub site : SiteState
-  pub receives : Receives given before action site origin text
-  pub epoch : origin.epoch ≡ site.who.epoch
-  pub number : origin.number ≡ (session_of origin.user site.desk.sessions).last + 1
+module _ {Site : Type 0} (rules : Rules Site) where
+  abbrev pub world_after : List Action → World Site
+  world_after before = fold (act rules) start before
+
+  -- After these actions comes this one, and by it a site that is up, in this state, takes this input.
+  pub record IsStep (given : List Event) (before : List Action) (action : Action) (site : Site) (input : Input) : Type 0 where
+    pub suffix : List Action
+    pub separated : actions given ≡ before ++ action ∷ suffix
+    pub number : ℕ
+    pub gives : gives (world_after before) action ≡ Some (number, input)
+    pub at : site_at (world_after before) number ≡ Some site
+
+  -- By this step the site of the origin receives the ask.
+  pub record Receives (given : List Event) (before : List Action) (action : Action) (site : Site) (origin : Origin) (text : List ℕ) : Type 0 where
+    pub step : IsStep given before action site (ask_input origin text)
+    pub home : step.number ≡ origin.site

@@ -1,8 +1,8 @@
 //! The report of a world.
 
+use crate::outs::{Decideds, Runs};
 use rs_base::{Origin, Reply, SiteNo, Swn, Txn};
 use rs_rows::StoredRows;
-use rs_site::{Decideds, Runs};
 use sqlite_items::Items;
 
 /// A reply, and the request that it answers, as it was asked.
