@@ -3,11 +3,14 @@ use Rattle.std.proofs.Common.{◌≡◌, ℕ, List, [], ◌∷◌, ◌++◌, Opt
 use Rattle.std.proofs.lemmas.List.Sums.{fold_push}
 use Rattle.rs_sched.specs.declared.event.Event.{Event}
 use Rattle.rs_site.specs.State.{SiteState}
-use Rattle.rs_site.specs.declared.input.Input.{Input}
-use Rattle.rs_course.specs.Course.{Action, Open, Post, Give, GiveNext, Lose, Tick, Stop, Arm, Restart, Noise, decided_by, decided_in, gives, stepped, stepped_by, taken, without, act}
+use Rattle.rs_course.specs.declared.input.Input.{Input}
+use Rattle.rs_course.specs.Course.{Action, Open, Post, Give, GiveNext, Lose, Tick, Stop, Arm, Restart, Noise, gives, taken, without}
+use Rattle.rs_site.specs.Course.{decided_by, decided_in, stepped, stepped_by, act}
 use Rattle.rs_course.specs.History.{with_entries}
-use Rattle.rs_course.specs.Moments.{actions, world_after}
-use Rattle.rs_course.specs.World.{World, start, site_at}
+use Rattle.rs_course.specs.Moments.{actions}
+use Rattle.rs_site.specs.Moments.{world_after}
+use Rattle.rs_course.specs.World.{start, site_at}
+use Rattle.rs_site.specs.World.{World}
 
 by_step : (world : World) (number : ℕ) (input : Input) (site : Option SiteState) → (stepped world number input site).history ≡ with_entries world.history (decided_in input site)
 by_step world number input None = refl

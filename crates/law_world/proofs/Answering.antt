@@ -19,19 +19,21 @@ use Rattle.rs_site.specs.Asking.{last_number, on_first}
 use Rattle.rs_site.specs.Planned.{Planned}
 use Rattle.rs_site.specs.State.{SiteState, next_txn}
 use Rattle.rs_site.specs.Statement.{statement_of, offset_replied}
-use Rattle.rs_site.specs.declared.input.Input.{Input}
-use Rattle.rs_site.specs.declared.input.Input.TheVariants as inputs
-use Rattle.rs_site.specs.declared.outs.Decided.{Decided}
+use Rattle.rs_course.specs.declared.input.Input.{Input}
+use Rattle.rs_course.specs.declared.input.Input.TheVariants as inputs
+use Rattle.rs_course.specs.declared.outs.Decided.{Decided}
 use Rattle.rs_site.proofs.Acceptance.{Acceptance, NotRead, Read, accepted}
 use Rattle.rs_site.proofs.Asked.{Asked, asked}
 use Rattle.rs_course.specs.declared.datagram.Datagram.{Datagram}
 use Rattle.rs_course.specs.declared.report.Given.{Given}
-use Rattle.rs_course.specs.Course.{Action, Open, Post, Give, GiveNext, Lose, Tick, Stop, Arm, Restart, Noise, actions_of, ask_datagram, course, deliveries, delivery_of, given_of, gives, noise_of}
-use Rattle.rs_course.specs.History.{database_of}
-use Rattle.rs_course.specs.Moments.{actions, ask_input, world_after, Receives, Accepts}
+use Rattle.rs_course.specs.Course.{Action, Open, Post, Give, GiveNext, Lose, Tick, Stop, Arm, Restart, Noise, actions_of, ask_datagram, deliveries, delivery_of, given_of, gives, noise_of}
+use Rattle.rs_site.specs.Course.{course}
+use Rattle.rs_site.specs.History.{database_of}
+use Rattle.rs_course.specs.Moments.{actions, ask_input}
+use Rattle.rs_site.specs.Moments.{world_after, Receives, Accepts}
 use Rattle.rs_course.specs.Played.{are_accepted}
-use Rattle.rs_course.specs.Report.{report_of, tables_at}
-use Rattle.rs_course.specs.World.{World}
+use Rattle.rs_site.specs.Report.{report_of, tables_at}
+use Rattle.rs_site.specs.World.{World}
 use Rattle.rs_course.proofs.Pending.{gives_next}
 use Rattle.law_world.specs.Answered.{asked_by, requests_asked, requests_answered, IsEntered, EachAskIsAnswered, HaveTransactions}
 use Rattle.law_world.proofs.AtEach.{StateAt, at_each}

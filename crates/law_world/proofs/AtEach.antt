@@ -6,15 +6,18 @@ use Rattle.rs_base.specs.Reading.{◌>>=◌}
 use Rattle.rs_base.specs.declared.peer.Peer.TheVariants as peers
 use Rattle.rs_base.specs.declared.txn.Origin.{Origin}
 use Rattle.rs_sched.specs.declared.event.Event.{Event}
-use Rattle.rs_site.specs.declared.outs.Decided.{Decided}
+use Rattle.rs_course.specs.declared.outs.Decided.{Decided}
 use Rattle.rs_site.specs.Planned.{Planned}
 use Rattle.rs_site.specs.State.{SiteState, opened}
 use Rattle.rs_site.proofs.Asked.{Asked}
 use Rattle.rs_course.specs.declared.report.Given.{Given}
-use Rattle.rs_course.specs.World.{World, Place, site_at}
+use Rattle.rs_course.specs.World.{site_at}
+use Rattle.rs_site.specs.World.{World, Place}
 use Rattle.rs_course.proofs.Pending.{next_gives}
-use Rattle.rs_course.specs.Course.{Action, Open, Post, GiveNext, given_of, ask_datagram, act}
-use Rattle.rs_course.specs.Moments.{IsStep, actions, world_after, ask_input, Receives}
+use Rattle.rs_course.specs.Course.{Action, Open, Post, GiveNext, given_of, ask_datagram}
+use Rattle.rs_site.specs.Course.{act}
+use Rattle.rs_course.specs.Moments.{actions, ask_input}
+use Rattle.rs_site.specs.Moments.{IsStep, world_after, Receives}
 use Rattle.law_world.proofs.Fresh.{below_received}
 use Rattle.law_world.proofs.Played.{IsPost, IsPlayed, Playable}
 use Rattle.law_world.proofs.Received.{gone_count}

@@ -14,7 +14,7 @@ use Rattle.rs_mean.specs.Meaning.{meaning}
 use Rattle.rs_mean.specs.Outcome.{Outcome}
 use Rattle.rs_sched.specs.declared.event.Event.{Event}
 use Rattle.rs_session.specs.declared.session.Session.{Session}
-use Rattle.rs_site.specs.declared.outs.Decided.{Decided}
+use Rattle.rs_course.specs.declared.outs.Decided.{Decided}
 use Rattle.rs_site.specs.declared.who.Who.{Who}
 use Rattle.rs_site.specs.Asking.{execution_of, reply_of, with_change, with_reply}
 use Rattle.rs_session.specs.Sessions.{Book, session_of, with_session}
@@ -22,8 +22,8 @@ use Rattle.rs_site.specs.State.{SiteState, opened, next_txn}
 use Rattle.rs_session.proofs.PutSessions.{session_put, session_beside, user_is}
 use Rattle.rs_course.specs.declared.report.Given.{Given}
 use Rattle.law_world.specs.Explains.{IsCommitted, IsMeaningAt}
-use Rattle.rs_course.specs.History.{effect_of, effect, database_of, outcome_after}
-use Rattle.rs_course.specs.Moments.{Accepts}
+use Rattle.rs_site.specs.History.{effect_of, effect, database_of, outcome_after}
+use Rattle.rs_site.specs.Moments.{Accepts}
 use Rattle.law_world.proofs.Kept.{last_origin, get_prefix}
 use Rattle.rs_course.proofs.Pending.{get_below}
 use Rattle.law_world.proofs.Gets.{get_push}

@@ -8,7 +8,7 @@ use Rattle.rs_base.specs.declared.reply.Reply.TheVariants as replies
 use Rattle.rs_ast.specs.declared.stmt.Stmt.{Stmt}
 use Rattle.rs_site.specs.Statement.{statement_of, offset_replied}
 use Rattle.rs_sched.specs.declared.event.Event.{Event}
-use Rattle.rs_site.specs.declared.outs.Decided.{Decided}
+use Rattle.rs_course.specs.declared.outs.Decided.{Decided}
 use Rattle.rs_site.specs.Asking.{executed, with_reply}
 use Rattle.rs_session.specs.Sessions.{session_of}
 use Rattle.rs_site.specs.Planned.{Planned}
@@ -17,7 +17,7 @@ use Rattle.rs_site.proofs.Asked.{Asked, Refused, RepliedAgain, Silent, NoRequest
 use Rattle.rs_course.specs.declared.report.Given.{Given}
 use Rattle.rs_course.specs.Course.{Action, GiveNext, given_of}
 use Rattle.law_world.specs.Explains.{IsCommitted, IsMeaningAt}
-use Rattle.rs_course.specs.Moments.{world_after}
+use Rattle.rs_site.specs.Moments.{world_after}
 use Rattle.law_world.proofs.AtEach.{ReceivesNext, IsLaw}
 use Rattle.law_world.proofs.Entered.{Entered, entered_first, entered_said, entered_remembered, entered_executed}
 use Rattle.law_world.proofs.Kept.{last_origin}

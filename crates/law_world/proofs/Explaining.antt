@@ -5,17 +5,18 @@ use Rattle.rs_base.specs.declared.reply.Denial.{Denial}
 use Rattle.rs_sched.specs.declared.event.Event.{Event}
 use Rattle.rs_sched.specs.Schedule.{IsValid}
 use Rattle.rs_course.specs.declared.report.SiteView.{SiteView}
-use Rattle.rs_course.specs.Course.{course}
-use Rattle.rs_course.specs.History.{database_of, outcome_after}
-use Rattle.rs_course.specs.Moments.{actions, sites_of, world_after}
+use Rattle.rs_site.specs.Course.{course}
+use Rattle.rs_site.specs.History.{database_of, outcome_after}
+use Rattle.rs_course.specs.Moments.{actions, sites_of}
+use Rattle.rs_site.specs.Moments.{world_after}
 use Rattle.rs_course.specs.Played.{are_accepted}
-use Rattle.rs_course.specs.Report.{report_of, tables_at}
-use Rattle.rs_course.specs.World.{World}
+use Rattle.rs_site.specs.Report.{report_of, tables_at}
+use Rattle.rs_site.specs.World.{World}
 use Rattle.rs_mean.specs.Database.{Database, IsInOrder}
 use Rattle.rs_mean.specs.Expected.{expected}
 use Rattle.rs_mean.specs.Outcome.{Denied}
 use Rattle.rs_site.specs.State.{SiteState}
-use Rattle.rs_site.specs.declared.outs.Decided.{Decided}
+use Rattle.rs_course.specs.declared.outs.Decided.{Decided}
 use Rattle.law_world.specs.Explains.{Explains, IsMeaningAt}
 use Rattle.law_world.proofs.Added.{entries_added}
 use Rattle.law_world.proofs.Growing.{no_runs}

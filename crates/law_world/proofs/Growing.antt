@@ -3,17 +3,19 @@ use Rattle.std.proofs.Common.{◌≡◌, List, [], ◌∷◌, ◌++◌, refl, sy
 use Rattle.std.specs.Prelude.{fold}
 use Rattle.std.proofs.lemmas.List.{append-nil}
 use Rattle.std.proofs.lemmas.List.Sums.{fold-append}
-use Rattle.rs_site.specs.declared.outs.Decided.{Decided}
-use Rattle.rs_site.specs.declared.outs.RunOf.{RunOf}
+use Rattle.rs_course.specs.declared.outs.Decided.{Decided}
+use Rattle.rs_course.specs.declared.outs.RunOf.{RunOf}
 use Rattle.rs_site.proofs.Lawful.{no_section_runs}
 use Rattle.rs_site.specs.State.{SiteState}
 use Rattle.rs_site.specs.Step.{site_step}
-use Rattle.rs_site.specs.declared.input.Input.{Input}
+use Rattle.rs_course.specs.declared.input.Input.{Input}
 use Rattle.std.proofs.Common.{ℕ, Option, Some, None}
 use Rattle.rs_course.specs.declared.report.Given.{Given}
-use Rattle.rs_course.specs.Course.{Action, Open, Post, Give, GiveNext, Lose, Tick, Stop, Arm, Restart, Noise, gives, stepped, stepped_by, taken, without, act}
-use Rattle.rs_course.specs.Moments.{world_after}
-use Rattle.rs_course.specs.World.{World, start, site_at}
+use Rattle.rs_course.specs.Course.{Action, Open, Post, Give, GiveNext, Lose, Tick, Stop, Arm, Restart, Noise, gives, taken, without}
+use Rattle.rs_site.specs.Course.{stepped, stepped_by, act}
+use Rattle.rs_site.specs.Moments.{world_after}
+use Rattle.rs_course.specs.World.{start, site_at}
+use Rattle.rs_site.specs.World.{World}
 use Rattle.law_world.proofs.Fresh.{grows_entries}
 
 -- what was given and committed stays, and no stored section runs

@@ -12,17 +12,20 @@ use Rattle.rs_mean.specs.Meaning.{meaning}
 use Rattle.rs_mean.specs.Outcome.{Denied}
 use Rattle.law_mean.proofs.Lawful.{denied_changes_nothing as after_denied}
 use Rattle.rs_sched.specs.declared.event.Event.{Event}
-use Rattle.rs_site.specs.declared.outs.Decided.{Decided}
+use Rattle.rs_course.specs.declared.outs.Decided.{Decided}
 use Rattle.rs_site.specs.Asking.{execution_of}
 use Rattle.rs_site.specs.State.{SiteState}
 use Rattle.rs_course.specs.declared.report.Given.{Given}
 use Rattle.rs_course.specs.declared.report.SiteView.{SiteView}
-use Rattle.rs_course.specs.Course.{Action, Open, course}
+use Rattle.rs_course.specs.Course.{Action, Open}
+use Rattle.rs_site.specs.Course.{course}
 use Rattle.law_world.specs.Explains.{IsCommitted, IsMeaningAt}
-use Rattle.rs_course.specs.History.{effect_of, database_of, outcome_after}
-use Rattle.rs_course.specs.Moments.{actions, world_after, Accepts}
-use Rattle.rs_course.specs.Report.{report_of, tables_at, view_of}
-use Rattle.rs_course.specs.World.{World, Place, site_at}
+use Rattle.rs_site.specs.History.{effect_of, database_of, outcome_after}
+use Rattle.rs_course.specs.Moments.{actions}
+use Rattle.rs_site.specs.Moments.{world_after, Accepts}
+use Rattle.rs_site.specs.Report.{report_of, tables_at, view_of}
+use Rattle.rs_course.specs.World.{site_at}
+use Rattle.rs_site.specs.World.{World, Place}
 use Rattle.law_world.proofs.AtEach.{StateAt, at_each}
 use Rattle.law_world.proofs.Entered.{Entered, database_of-push, txn_at}
 use Rattle.law_world.proofs.Entering.{entered_law}

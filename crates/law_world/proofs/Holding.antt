@@ -9,15 +9,17 @@ use Rattle.rs_base.specs.declared.reply.Reply.{Reply}
 use Rattle.rs_base.specs.declared.reply.Reply.TheVariants as replies
 use Rattle.rs_sched.specs.declared.event.Event.{Event}
 use Rattle.rs_sched.specs.Schedule.{IsValid}
-use Rattle.rs_site.specs.declared.outs.Decided.{Decided}
+use Rattle.rs_course.specs.declared.outs.Decided.{Decided}
 use Rattle.rs_site.specs.Planned.{Planned}
 use Rattle.rs_site.specs.State.{SiteState, opened}
 use Rattle.rs_site.proofs.Asked.{Asked, Refused, RepliedAgain, Silent, NoRequest, Spent, Executed}
 use Rattle.rs_course.specs.declared.report.Given.{Given}
-use Rattle.rs_course.specs.World.{World}
+use Rattle.rs_site.specs.World.{World}
 use Rattle.rs_course.specs.Played.{are_accepted}
-use Rattle.rs_course.specs.Course.{Action, Open, Post, GiveNext, course}
-use Rattle.rs_course.specs.Moments.{actions, world_after}
+use Rattle.rs_course.specs.Course.{Action, Open, Post, GiveNext}
+use Rattle.rs_site.specs.Course.{course}
+use Rattle.rs_course.specs.Moments.{actions}
+use Rattle.rs_site.specs.Moments.{world_after}
 use Rattle.law_world.proofs.AtEach.{StateAt, IsLaw, at_each}
 use Rattle.law_world.proofs.Kept.{Kept}
 use Rattle.law_world.proofs.Gets.{get_push}

@@ -6,7 +6,7 @@ use Rattle.rs_base.specs.declared.reply.Reply.{Reply}
 use Rattle.rs_base.specs.declared.reply.Reply.TheVariants as replies
 use Rattle.rs_sched.specs.declared.event.Event.{Event}
 use Rattle.rs_session.specs.declared.session.Session.{Session}
-use Rattle.rs_site.specs.declared.outs.Decided.{Decided}
+use Rattle.rs_course.specs.declared.outs.Decided.{Decided}
 use Rattle.rs_site.specs.declared.who.Who.{Who}
 use Rattle.rs_session.specs.Sessions.{Book, session_of, with_session}
 use Rattle.rs_site.specs.State.{SiteState}

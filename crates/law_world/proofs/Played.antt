@@ -11,9 +11,12 @@ use Rattle.rs_sched.specs.declared.event.Event.{Event}
 use Rattle.rs_sched.specs.declared.event.Event.TheVariants as events
 use Rattle.rs_sched.specs.Schedule.{IsValid, IsLater, AreLater}
 use Rattle.rs_course.specs.Played.{may_come, is_open_after, are_accepted}
-use Rattle.rs_course.specs.Course.{Action, Open, Post, Give, GiveNext, Lose, Tick, Stop, Arm, Restart, Noise, deliveries, actions_of, act, world_step, course}
-use Rattle.rs_course.specs.Moments.{actions, sites_of, world_after}
-use Rattle.rs_course.specs.World.{World, start}
+use Rattle.rs_course.specs.Course.{Action, Open, Post, Give, GiveNext, Lose, Tick, Stop, Arm, Restart, Noise, deliveries, actions_of}
+use Rattle.rs_site.specs.Course.{act, world_step, course}
+use Rattle.rs_course.specs.Moments.{actions, sites_of}
+use Rattle.rs_site.specs.Moments.{world_after}
+use Rattle.rs_course.specs.World.{start}
+use Rattle.rs_site.specs.World.{World}
 
 -- the message that asks for a first part
 abbrev pub ask_of : Origin → List ℕ → Ask

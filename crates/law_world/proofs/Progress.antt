@@ -12,7 +12,7 @@ use Rattle.rs_base.specs.declared.txn.Origin.{Origin}
 use Rattle.rs_base.specs.declared.reply.Reply.{Reply}
 use Rattle.rs_sched.specs.declared.event.Event.{Event}
 use Rattle.rs_session.specs.declared.session.Session.{Session}
-use Rattle.rs_site.specs.declared.outs.Decided.{Decided}
+use Rattle.rs_course.specs.declared.outs.Decided.{Decided}
 use Rattle.rs_site.specs.Asking.{last_number, on_first, remembering, with_reply}
 use Rattle.rs_session.specs.Sessions.{Book, session_of, is_there, last_is_answered}
 use Rattle.rs_site.specs.Planned.{Planned}
@@ -21,10 +21,11 @@ use Rattle.rs_site.proofs.Asked.{Asked, Refused, RepliedAgain, Silent, NoRequest
 use Rattle.rs_session.proofs.PutSessions.{session_put, session_beside, user_is}
 use Rattle.rs_course.specs.declared.report.Given.{Given}
 use Rattle.rs_course.specs.declared.datagram.Datagram.{Datagram}
-use Rattle.rs_course.specs.World.{World}
+use Rattle.rs_site.specs.World.{World}
 use Rattle.law_world.specs.Answered.{numbered, requests_answered}
-use Rattle.rs_course.specs.Course.{Action, Open, Post, Give, GiveNext, Lose, Tick, Stop, Arm, Restart, Noise, given_of, ask_datagram, act}
-use Rattle.rs_course.proofs.Pending.{none_next}
+use Rattle.rs_course.specs.Course.{Action, Open, Post, Give, GiveNext, Lose, Tick, Stop, Arm, Restart, Noise, given_of, ask_datagram}
+use Rattle.rs_site.specs.Course.{act}
+use Rattle.rs_site.proofs.Pending.{none_next}
 use Rattle.law_world.proofs.AtEach.{IsLaw, StateAt, at_each}
 use Rattle.law_world.proofs.Entered.{Entered}
 use Rattle.law_world.proofs.Entering.{entered_law}

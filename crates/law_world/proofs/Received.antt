@@ -10,17 +10,19 @@ use Rattle.rs_msg.specs.declared.message.Message.{Message}
 use Rattle.rs_msg.specs.declared.message.Message.TheVariants as messages
 use Rattle.rs_msg.specs.Reader.{message_of}
 use Rattle.rs_msg.specs.Written.{message_bytes}
-use Rattle.rs_site.specs.declared.input.Input.{Input}
-use Rattle.rs_site.specs.declared.input.Input.TheVariants as inputs
+use Rattle.rs_course.specs.declared.input.Input.{Input}
+use Rattle.rs_course.specs.declared.input.Input.TheVariants as inputs
 use Rattle.rs_site.specs.Asking.{on_first}
 use Rattle.rs_site.specs.Planned.{Planned, idle}
 use Rattle.rs_site.specs.State.{SiteState}
 use Rattle.rs_site.specs.Step.{most_bytes, on_read, planned_step}
 use Rattle.rs_site.proofs.Planning.{when_true, when_false, by_when}
 use Rattle.rs_course.specs.declared.datagram.Datagram.{Datagram}
-use Rattle.rs_course.specs.Course.{Action, Open, Post, Give, GiveNext, Lose, Tick, Stop, Arm, Restart, Noise, after_outs, stepped, stepped_by, ask_datagram, noise_of, act}
-use Rattle.rs_course.specs.World.{World, Place}
-use Rattle.rs_course.proofs.Pending.{AreGoneTo, get_below, get_past, none_next, one_next}
+use Rattle.rs_course.specs.Course.{Action, Open, Post, Give, GiveNext, Lose, Tick, Stop, Arm, Restart, Noise, after_outs, ask_datagram, noise_of}
+use Rattle.rs_site.specs.Course.{stepped, stepped_by, act}
+use Rattle.rs_site.specs.World.{World, Place}
+use Rattle.rs_course.proofs.Pending.{AreGoneTo, get_below, get_past}
+use Rattle.rs_site.proofs.Pending.{none_next, one_next}
 use Rattle.rs_msg.proofs.Sizes.{ask_fits}
 use Rattle.law_world.proofs.Messages.{ask_is_read}
 use Rattle.law_world.proofs.Played.{ask_of, IsPost, IsPlayed}

@@ -6,8 +6,8 @@ use Rattle.rs_sched.specs.declared.event.Event.{Event}
 use Rattle.rs_sched.specs.Schedule.{IsValid}
 use Rattle.rs_course.specs.declared.report.Given.{Given}
 use Rattle.rs_course.specs.Played.{are_accepted}
-use Rattle.rs_course.specs.Course.{course}
-use Rattle.rs_course.specs.Report.{report_of}
+use Rattle.rs_site.specs.Course.{course}
+use Rattle.rs_site.specs.Report.{report_of}
 use Rattle.law_world.specs.Explains.{IsGivenTruly, IsNoRequest}
 use Rattle.law_world.proofs.Holding.{holds_last}
 

@@ -10,18 +10,19 @@ use Rattle.rs_mean.specs.Database.{Database}
 use Rattle.rs_mean.specs.Meaning.{meaning}
 use Rattle.rs_mean.specs.Outcome.{Outcome}
 use Rattle.rs_sched.specs.declared.event.Event.{Event}
-use Rattle.rs_site.specs.declared.outs.Decided.{Decided}
+use Rattle.rs_course.specs.declared.outs.Decided.{Decided}
 use Rattle.rs_site.specs.Asking.{execution_of, reply_of, executed}
 use Rattle.rs_site.specs.Planned.{Planned}
 use Rattle.rs_site.specs.State.{SiteState, next_txn}
 use Rattle.rs_site.proofs.Asked.{Asked, Refused, RepliedAgain, Silent, NoRequest, Spent, Executed}
 use Rattle.rs_course.specs.declared.report.Given.{Given}
-use Rattle.rs_course.specs.World.{World}
-use Rattle.rs_course.specs.Course.{given_of, course}
+use Rattle.rs_site.specs.World.{World}
+use Rattle.rs_course.specs.Course.{given_of}
+use Rattle.rs_site.specs.Course.{course}
 use Rattle.rs_mean.proofs.Meanings.{done_or_denied}
 use Rattle.law_world.specs.Answered.{IsReplied}
 use Rattle.law_world.specs.Explains.{IsCommitted}
-use Rattle.rs_course.specs.Moments.{world_after}
+use Rattle.rs_site.specs.Moments.{world_after}
 use Rattle.law_world.proofs.AtEach.{IsLaw, at_each}
 use Rattle.law_world.proofs.Gets.{get_push}
 use Rattle.law_world.proofs.HistoryFields.{last_is}

@@ -5,13 +5,15 @@ use Rattle.std.proofs.lemmas.Bool.{cases_lt, cases_order}
 use Rattle.rs_base.specs.declared.txn.Origin.{Origin}
 use Rattle.rs_sched.specs.declared.event.Event.{Event}
 use Rattle.rs_sched.specs.Schedule.{IsValid}
-use Rattle.rs_site.specs.declared.outs.Decided.{Decided}
+use Rattle.rs_course.specs.declared.outs.Decided.{Decided}
 use Rattle.rs_course.specs.declared.report.Given.{Given}
 use Rattle.rs_course.specs.Played.{are_accepted}
-use Rattle.rs_course.specs.Course.{Action, Post, course}
-use Rattle.rs_course.specs.Report.{report_of}
+use Rattle.rs_course.specs.Course.{Action, Post}
+use Rattle.rs_site.specs.Course.{course}
+use Rattle.rs_site.specs.Report.{report_of}
 use Rattle.law_world.specs.Explains.{IsCommitted}
-use Rattle.rs_course.specs.Moments.{actions, world_after}
+use Rattle.rs_course.specs.Moments.{actions}
+use Rattle.rs_site.specs.Moments.{world_after}
 use Rattle.law_world.proofs.Holding.{ArePosted, holds_at}
 use Rattle.law_world.proofs.Kept.{IsEntered, get_prefix}
 use Rattle.rs_course.proofs.Pending.{get_below}

@@ -14,7 +14,7 @@ use Rattle.rs_mean.specs.Database.{Database}
 use Rattle.rs_mean.specs.Meaning.{meaning}
 use Rattle.rs_mean.specs.Outcome.{Outcome, Done, Denied, Shown}
 use Rattle.rs_sched.specs.declared.event.Event.{Event}
-use Rattle.rs_site.specs.declared.outs.Decided.{Decided}
+use Rattle.rs_course.specs.declared.outs.Decided.{Decided}
 use Rattle.rs_session.specs.Sessions.{session_of}
 use Rattle.rs_site.specs.Planned.{Planned}
 use Rattle.rs_site.specs.State.{SiteState, next_txn}
@@ -23,7 +23,8 @@ use Rattle.rs_site.specs.Truth.{IsTrueReply}
 use Rattle.rs_site.proofs.Asked.{Asked, Refused, RepliedAgain, Silent, NoRequest, Spent, Executed, IsRefusal, IsLast, IsNext}
 use Rattle.rs_course.specs.declared.report.Given.{Given}
 use Rattle.rs_course.specs.Course.{Action, given_of}
-use Rattle.rs_course.specs.Moments.{world_after, ask_input, Receives}
+use Rattle.rs_course.specs.Moments.{ask_input}
+use Rattle.rs_site.specs.Moments.{world_after, Receives}
 use Rattle.law_world.specs.Explains.{IsFinal, IsCommitted, IsGivenTruly, IsNoRequest}
 use Rattle.rs_mean.proofs.Meanings.{done_or_denied}
 use Rattle.law_world.proofs.Kept.{Kept, IsKeepable, IsEntered, last_origin, same_origin, said, remembered, kept_then}

@@ -5,14 +5,14 @@ use Rattle.std.proofs.lemmas.List.FromFn.{length-range_with_len}
 use Rattle.std.proofs.lemmas.List.Elements.{Contains-append_left, Contains-push}
 use Rattle.rs_base.specs.declared.peer.Peer.{Peer}
 use Rattle.rs_base.specs.declared.txn.Origin.{Origin}
-use Rattle.rs_site.specs.declared.outs.Decided.{Decided}
+use Rattle.rs_course.specs.declared.outs.Decided.{Decided}
 use Rattle.rs_site.specs.declared.who.Who.{Who}
 use Rattle.rs_site.specs.Planned.{Planned}
 use Rattle.rs_site.specs.State.{SiteState, opened}
 use Rattle.rs_site.proofs.Asked.{Asked, Refused, RepliedAgain, Silent, NoRequest, Spent, Executed}
 use Rattle.rs_course.specs.declared.report.Given.{Given}
 use Rattle.rs_course.specs.declared.datagram.Datagram.{Datagram}
-use Rattle.rs_course.specs.World.{World}
+use Rattle.rs_site.specs.World.{World}
 use Rattle.rs_course.specs.Course.{Action, Open, Post, ask_datagram}
 use Rattle.law_world.proofs.Fresh.{AreBelow}
 use Rattle.law_world.proofs.Received.{IsOf, IsAsked, gone_count}

@@ -8,9 +8,9 @@ use Rattle.rs_mean.specs.Database.{Database}
 use Rattle.rs_mean.specs.Meaning.{meaning}
 use Rattle.rs_site.specs.Asking.{execution_of}
 use Rattle.rs_site.specs.Statement.{statement_of, statement_said}
-use Rattle.rs_site.specs.declared.outs.Decided.{Decided}
+use Rattle.rs_course.specs.declared.outs.Decided.{Decided}
 use Rattle.rs_site.proofs.Said.{executed_is}
-use Rattle.rs_course.specs.History.{effect, effect_of, database_of}
+use Rattle.rs_site.specs.History.{effect, effect_of, database_of}
 use Rattle.law_mean.specs.Laws.{EachTable, IsAtSite, IsTyped}
 use Rattle.law_mean.proofs.Lawful.{rows_stay_typed, sites_stay, tables_stay_at_sites}
 

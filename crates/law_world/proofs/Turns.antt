@@ -6,17 +6,18 @@ use Rattle.std.proofs.lemmas.List.{append-nil}
 use Rattle.rs_base.specs.declared.peer.Peer.{Peer}
 use Rattle.rs_base.specs.declared.peer.Peer.TheVariants as peers
 use Rattle.rs_base.specs.declared.txn.Origin.{Origin}
-use Rattle.rs_site.specs.declared.outs.Decided.{Decided}
-use Rattle.rs_site.specs.declared.outs.RunOf.{RunOf}
+use Rattle.rs_course.specs.declared.outs.Decided.{Decided}
+use Rattle.rs_course.specs.declared.outs.RunOf.{RunOf}
 use Rattle.rs_site.specs.Asking.{on_first}
 use Rattle.rs_site.specs.Planned.{Planned}
 use Rattle.rs_site.specs.State.{SiteState}
 use Rattle.rs_site.proofs.Asked.{Asked, Refused, RepliedAgain, Silent, NoRequest, Spent, Executed, asked}
 use Rattle.rs_course.specs.declared.report.Given.{Given}
 use Rattle.rs_course.specs.declared.datagram.Datagram.{Datagram}
-use Rattle.rs_course.specs.Course.{Action, Post, GiveNext, sent_by, given_of, ask_datagram, act}
+use Rattle.rs_course.specs.Course.{Action, Post, GiveNext, sent_by, given_of, ask_datagram}
+use Rattle.rs_site.specs.Course.{act}
 use Rattle.rs_course.specs.History.{with_entries}
-use Rattle.rs_course.specs.World.{World}
+use Rattle.rs_site.specs.World.{World}
 use Rattle.law_world.proofs.Fresh.{AreBelow, fresh_received}
 use Rattle.law_world.proofs.Received.{IsOf, IsAsked, Does, Posts, Receives, Stays, place_of, gone_count, receiving, receives_next, does}
 use Rattle.law_world.proofs.Played.{IsPost, IsPlayed}

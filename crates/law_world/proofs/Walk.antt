@@ -2,9 +2,11 @@
 use Rattle.std.proofs.Common.{◌≡◌, List, [], ◌∷◌, ◌++◌, sym, subst, ◌∙◌, append_assoc}
 use Rattle.std.proofs.lemmas.List.{append-nil}
 use Rattle.std.proofs.lemmas.List.Sums.{fold_push}
-use Rattle.rs_course.specs.Course.{Action, Open, act}
-use Rattle.rs_course.specs.Moments.{world_after}
-use Rattle.rs_course.specs.World.{World, start}
+use Rattle.rs_course.specs.Course.{Action, Open}
+use Rattle.rs_site.specs.Course.{act}
+use Rattle.rs_site.specs.Moments.{world_after}
+use Rattle.rs_course.specs.World.{start}
+use Rattle.rs_site.specs.World.{World}
 use Rattle.law_world.proofs.Played.{IsPlayed, ArePlayed, played_first}
 
 -- the world after the opening of site 1 and these actions

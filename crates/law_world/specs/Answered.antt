@@ -9,13 +9,14 @@ use Rattle.rs_sched.specs.declared.event.Event.{Event}
 use Rattle.rs_sched.specs.declared.event.Event.TheVariants as events
 use Rattle.rs_site.specs.Asking.{last_number}
 use Rattle.rs_site.specs.Statement.{statement_of, offset_replied}
-use Rattle.rs_site.specs.declared.outs.Decided.{Decided}
+use Rattle.rs_course.specs.declared.outs.Decided.{Decided}
 use Rattle.rs_course.specs.declared.report.Given.{Given}
 use Rattle.rs_course.specs.declared.report.Report.{Report}
-use Rattle.rs_course.specs.Course.{course}
-use Rattle.rs_course.specs.History.{database_of}
-use Rattle.rs_course.specs.Moments.{Accepts, sites_of}
-use Rattle.rs_course.specs.Report.{tables_at}
+use Rattle.rs_site.specs.Course.{course}
+use Rattle.rs_site.specs.History.{database_of}
+use Rattle.rs_course.specs.Moments.{sites_of}
+use Rattle.rs_site.specs.Moments.{Accepts}
+use Rattle.rs_site.specs.Report.{tables_at}
 use Rattle.law_world.specs.Explains.{IsCommitted}
 
 -- Requests are numbered from 1: none is named by the number 0.

@@ -16,14 +16,17 @@ use Rattle.rs_site.specs.Asking.{reply_of}
 use Rattle.rs_site.specs.State.{SiteState}
 use Rattle.rs_site.specs.Statement.{statement_of, SaysNothing}
 use Rattle.rs_site.specs.Truth.{IsTrueReply}
-use Rattle.rs_site.specs.declared.input.Input.{Input}
-use Rattle.rs_site.specs.declared.outs.Decided.{Decided}
+use Rattle.rs_course.specs.declared.input.Input.{Input}
+use Rattle.rs_course.specs.declared.outs.Decided.{Decided}
 use Rattle.rs_course.specs.declared.report.Given.{Given}
 use Rattle.rs_course.specs.declared.report.Report.{Report}
-use Rattle.rs_course.specs.Course.{Action, Post, course, decided_by, gives}
-use Rattle.rs_course.specs.History.{database_of, outcome_after, with_entries}
-use Rattle.rs_course.specs.Moments.{IsStep, Accepts, actions, sites_of, world_after}
-use Rattle.rs_course.specs.Report.{report_of, tables_at}
+use Rattle.rs_course.specs.Course.{Action, Post, gives}
+use Rattle.rs_site.specs.Course.{course, decided_by}
+use Rattle.rs_course.specs.History.{with_entries}
+use Rattle.rs_site.specs.History.{database_of, outcome_after}
+use Rattle.rs_course.specs.Moments.{actions, sites_of}
+use Rattle.rs_site.specs.Moments.{IsStep, Accepts, world_after}
+use Rattle.rs_site.specs.Report.{report_of, tables_at}
 use Rattle.rs_course.specs.World.{site_at}
 use Rattle.law_mean.specs.Laws.{EachTable, IsAtSite, IsTyped}
 use Rattle.law_world.specs.Stores.{IsApplied, content_of}

@@ -4,9 +4,9 @@ ghost use Rattle.std.specs.Prelude.{List, Bool.false, IsTrue};
 ghost use Rattle.rs_sched.specs.declared.event.Event.{Event};
 ghost use Rattle.rs_sched.specs.Schedule.{IsValid};
 ghost use Rattle.rs_course.specs.Calm.{is_calm};
-ghost use Rattle.rs_course.specs.Course.{course};
+ghost use Rattle.rs_site.specs.Course.{course};
 ghost use Rattle.rs_course.specs.Played.{are_accepted};
-ghost use Rattle.rs_course.specs.Report.{report_of};
+ghost use Rattle.rs_site.specs.Report.{report_of};
 ghost use Rattle.law_world.specs.Answered.{EachAskIsAnswered, HaveTransactions};
 ghost use Rattle.law_world.specs.Explains.{Explains};
 

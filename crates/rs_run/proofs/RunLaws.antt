@@ -6,8 +6,8 @@ use Rattle.std.specs.declared.alloc.Global.{Global}
 use Rattle.std.proofs.lemmas.List.{take_all, take_at, append-nil}
 use Rattle.rs_stream.specs.Streams.{AppendsPrefix}
 use Rattle.rs_sched.specs.declared.event.Event.{Event}
-use Rattle.rs_course.specs.Course.{course}
-use Rattle.rs_course.specs.Report.{report_of}
+use Rattle.rs_site.specs.Course.{course}
+use Rattle.rs_site.specs.Report.{report_of}
 use Rattle.law_world.proofs.Answering.{answers}
 use Rattle.law_world.proofs.Explaining.{explains}
 use Rattle.rs_world.specs.ReportText.{printed_report}

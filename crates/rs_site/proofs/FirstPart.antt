@@ -9,7 +9,7 @@ use Rattle.rs_msg.specs.Message.{IsMessage}
 use Rattle.rs_msg.specs.Written.{message_bytes}
 use Rattle.rs_msg.proofs.Sizes.{ask_fits}
 use Rattle.rs_msg.proofs.Whole.{message_read, once_message, written_message}
-use Rattle.rs_site.specs.declared.input.Input.TheVariants as inputs
+use Rattle.rs_course.specs.declared.input.Input.TheVariants as inputs
 use Rattle.rs_site.specs.Asking.{origin_of, on_first}
 use Rattle.rs_site.specs.State.{SiteState}
 use Rattle.rs_site.specs.Step.{most_bytes, on_read, planned_step}

@@ -9,8 +9,8 @@ use Rattle.rs_msg.specs.declared.message.Ask.{Ask}
 use Rattle.rs_msg.specs.declared.message.Message.TheVariants as messages
 use Rattle.rs_msg.specs.Reader.{message_of}
 use Rattle.rs_site.specs.declared.desk.Desk.{Desk}
-use Rattle.rs_site.specs.declared.input.Input.TheVariants as inputs
-use Rattle.rs_site.specs.declared.outs.Decided.{Decided}
+use Rattle.rs_course.specs.declared.input.Input.TheVariants as inputs
+use Rattle.rs_course.specs.declared.outs.Decided.{Decided}
 use Rattle.rs_session.specs.declared.session.Session.{Session}
 use Rattle.rs_site.specs.Asking.{remembering, is_next, origin_of, on_ask}
 use Rattle.rs_site.specs.Laws.{last_of, IsLogged, IsNextCommit, NumbersRise, CommitsAreMeaning, DecidedAreLogged, NoSectionRuns}

@@ -13,11 +13,12 @@ use Rattle.rs_msg.specs.declared.message.Message.{Message}
 use Rattle.rs_msg.specs.declared.message.Message.TheVariants as messages
 use Rattle.rs_msg.specs.Message.{IsMessage}
 use Rattle.rs_msg.specs.Reader.{message_of}
-use Rattle.rs_site.specs.declared.input.Input.{Input}
-use Rattle.rs_site.specs.declared.input.Input.TheVariants as inputs
-use Rattle.rs_site.specs.declared.outs.Outs.{Outs}
+use Rattle.rs_course.specs.declared.input.Input.{Input}
+use Rattle.rs_course.specs.declared.input.Input.TheVariants as inputs
+use Rattle.rs_course.specs.declared.outs.Outs.{Outs}
 use Rattle.rs_site.specs.Asking.{repeated, origin_of, on_further, on_ask}
-use Rattle.rs_site.specs.Planned.{Planned, done, no_outs, idle}
+use Rattle.rs_course.specs.Outs.{no_outs}
+use Rattle.rs_site.specs.Planned.{Planned, done, idle}
 use Rattle.rs_session.specs.Parts.{has_part}
 use Rattle.rs_site.specs.Dropped.{HasFurther, FitsNoRule, IsDropped}
 use Rattle.rs_session.specs.Sessions.{session_of}

@@ -13,12 +13,13 @@ use Rattle.rs_mean.specs.Meaning.{meaning}
 use Rattle.rs_mean.specs.Outcome.{Outcome, Done, Denied, Shown}
 use Rattle.rs_msg.specs.declared.message.Ask.{Ask}
 use Rattle.rs_session.specs.declared.session.Session.{Session}
-use Rattle.rs_site.specs.declared.outs.Decided.{Decided}
-use Rattle.rs_site.specs.declared.outs.Outs.{Outs}
+use Rattle.rs_course.specs.declared.outs.Decided.{Decided}
+use Rattle.rs_course.specs.declared.outs.Outs.{Outs}
 use Rattle.rs_site.specs.declared.desk.Desk.{Desk}
 use Rattle.rs_site.specs.declared.who.Who.{Who}
 use Rattle.rs_session.specs.Sessions.{session_of, with_session, last_is_answered}
-use Rattle.rs_site.specs.Planned.{Committed, Planned, no_outs, sending, idle, and_then, when}
+use Rattle.rs_course.specs.Outs.{no_outs}
+use Rattle.rs_site.specs.Planned.{Committed, Planned, sending, idle, and_then, when}
 use Rattle.rs_site.specs.State.{SiteState, next_txn}
 use Rattle.rs_session.specs.Parts.{has_part}
 

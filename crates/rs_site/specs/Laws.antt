@@ -9,10 +9,10 @@ use Rattle.rs_msg.specs.declared.message.Ask.{Ask}
 use Rattle.rs_msg.specs.declared.message.Message.TheVariants as messages
 use Rattle.rs_msg.specs.Message.{IsMessage}
 use Rattle.rs_site.specs.Statement.{statement_of, offset_replied}
-use Rattle.rs_site.specs.declared.input.Input.{Input}
-use Rattle.rs_site.specs.declared.input.Input.TheVariants as inputs
-use Rattle.rs_site.specs.declared.outs.Decided.{Decided}
-use Rattle.rs_site.specs.declared.outs.Outs.{Outs}
+use Rattle.rs_course.specs.declared.input.Input.{Input}
+use Rattle.rs_course.specs.declared.input.Input.TheVariants as inputs
+use Rattle.rs_course.specs.declared.outs.Decided.{Decided}
+use Rattle.rs_course.specs.declared.outs.Outs.{Outs}
 use Rattle.rs_site.specs.declared.desk.Desk.{Desk}
 use Rattle.rs_site.specs.Asking.{execution_of, last_number, origin_of, reply_of, reply_with}
 use Rattle.rs_site.specs.Planned.{Committed, Planned}

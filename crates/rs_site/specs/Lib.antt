@@ -1,8 +1,14 @@
 pub mod Asking
+pub mod Course
 pub mod Dropped
+pub mod History
 pub mod Laws
+pub mod Moments
 pub mod Planned
+pub mod Report
 pub mod State
 pub mod Statement
 pub mod Step
+pub mod Tables
 pub mod Truth
+pub mod World

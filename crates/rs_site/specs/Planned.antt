@@ -1,24 +1,9 @@
 -- A step as a plan: what a site appends to its log, what it is after that, and what it sends.
 use Rattle.std.specs.Prelude.{◌≡◌, Bool, true, false, ◌||◌, List, [], ◌++◌, Option, Some, None, if◌then◌else◌}
-use Rattle.rs_site.specs.declared.outs.Decided.{Decided}
-use Rattle.rs_site.specs.declared.outs.Outs.{Outs}
+use Rattle.rs_course.specs.declared.outs.Decided.{Decided}
+use Rattle.rs_course.specs.declared.outs.Outs.{Outs}
+use Rattle.rs_course.specs.Outs.{no_outs, with_outs}
 use Rattle.rs_site.specs.State.{SiteState}
-
----- output
-
-abbrev pub no_outs : Outs
-no_outs = record { sends = []; replies = []; decided = []; runs = [] }
-
--- what the one sends, replies, commits and runs, and then what the other does
-abbrev pub with_outs : Outs → Outs → Outs
-with_outs one other = record {
-  sends = one.sends ++ other.sends;
-  replies = one.replies ++ other.replies;
-  decided = one.decided ++ other.decided;
-  runs = one.runs ++ other.runs;
-}
-
----- plans
 
 -- what a site appends to its log: so far, that an execution is committed
 pub data LogItem : Type 0 where

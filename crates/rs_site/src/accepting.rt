@@ -8,10 +8,11 @@ ghost use Rattle.rs_site.specs.Asking as spec;
 ghost use Rattle.rs_site.specs.Planned.{IsDone};
 ghost use Rattle.rs_site.specs.Statement.{statement_of, offset_replied};
 
-use crate::outs::{Decided, Outs, commits, no_outs, reply_with};
+use crate::outs::{commits, no_outs, reply_with};
 use crate::site::Site;
 use rs_ast::Stmt;
 use rs_base::{Answer, Bytes, Denial, NoMemory, Origin, Peer, Reply, Txn, one_item};
+use rs_course::{Decided, Outs};
 use rs_mean::{Change, Effect, Execution, is_executed};
 use rs_parse::{ParseFault, parse};
 use std::alloc::Global;

@@ -2,45 +2,17 @@
 
 ghost use Rattle.std.specs.Prelude.{◌≡◌, [], ◌∷◌, IfOk};
 ghost use Rattle.rs_site.specs.Asking as spec;
-ghost use Rattle.rs_site.specs.Planned as planned;
+ghost use Rattle.rs_course.specs.Outs.{no_outs};
 
-use rs_base::{Bytes, Datagrams, NoMemory, Origin, Peer, Reply, SiteNo, Txn, one_item};
-use rs_plan::SectionId;
-use rs_session::{Told, Tolds};
+use rs_base::{NoMemory, Origin, Peer, Reply, one_item};
+use rs_course::{Decided, Outs};
+use rs_session::Told;
 use sqlite_items::Items;
 use std::alloc::Global;
 
-/// A committed execution: its transaction, its request, and the request's text.
-#[derive(Drop)]
-pub struct Decided {
-    pub txn: Txn,
-    pub origin: Origin,
-    pub text: Bytes,
-}
-
-pub type Decideds = Items<Decided>;
-
-/// A run of a stored section: the site that ran it, and the section.
-#[derive(Clone, Copy)]
-pub struct RunOf {
-    pub site: SiteNo,
-    pub id: SectionId,
-}
-
-pub type Runs = Items<RunOf>;
-
-/// The output of a step: datagrams to sites, replies, committed executions, and runs of stored sections.
-#[derive(Drop)]
-pub struct Outs {
-    pub sends: Datagrams,
-    pub replies: Tolds,
-    pub decided: Decideds,
-    pub runs: Runs,
-}
-
 /// Returns the empty output.
 pub(crate) fn no_outs(alloc: Global) -> Outs
-    ensures { result ≡ planned.no_outs }
+    ensures { result ≡ no_outs }
 {
     Outs {
         sends: Items::new(alloc),

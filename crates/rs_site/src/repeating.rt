@@ -5,9 +5,10 @@ ghost use Rattle.rs_site.specs.Asking as spec;
 ghost use Rattle.rs_site.specs.Planned.{IsDone};
 ghost use Rattle.rs_session.specs.Sessions.{session_of};
 
-use crate::outs::{Outs, no_outs, reply_with};
+use crate::outs::{no_outs, reply_with};
 use crate::site::Site;
 use rs_base::{NoMemory, Origin, Peer};
+use rs_course::Outs;
 use rs_session::has_part;
 use std::alloc::Global;
 

@@ -3,16 +3,16 @@
 ghost use Rattle.std.specs.Prelude.{◌≡◌, ℕ, true, List, Some, IfOk, OnErr};
 ghost use Rattle.rs_base.specs.declared.peer.Peer.{Peer};
 ghost use Rattle.rs_msg.specs.Limits.{HasRoom};
+ghost use Rattle.rs_course.specs.declared.input.Input.TheVariants as inputs;
+ghost use Rattle.rs_course.specs.Outs.{no_outs};
 ghost use Rattle.rs_site.specs.Dropped.{IsDropped};
 ghost use Rattle.rs_site.specs.Planned.{IsDone, done};
-ghost use Rattle.rs_site.specs.Planned as planned;
 ghost use Rattle.rs_site.specs.Step as spec;
-ghost use Rattle.rs_site.specs.declared.input.Input.TheVariants as inputs;
 
-use crate::input::Input;
-use crate::outs::{Outs, no_outs};
+use crate::outs::no_outs;
 use crate::site::Site;
 use rs_base::{NoMemory, Peer, ReadFault};
+use rs_course::{Input, Outs};
 use rs_msg::{Message, decode};
 use std::alloc::Global;
 
@@ -65,7 +65,8 @@ impl Site {
     /// was.
     pub fn step(&mut self, alloc: Global, input: &Input) -> Result<Outs, NoMemory>
         ensures ok { IfOk result (λ outs. done (spec.planned_step self.old input.now) true ≡ (Some self.new, outs)) }
-        ensures dropped { (from : Peer) (bytes : List ℕ) → input.now ≡ inputs.Datagram from bytes → IsDropped self.old bytes → IfOk result (λ outs. (self.new ≡ self.old) × (outs ≡ planned.no_outs)) }
+        ensures dropped { (from : Peer) (bytes : List ℕ) → input.now ≡ inputs.Datagram from bytes → IsDropped self.old bytes
+            → IfOk result (λ outs. (self.new ≡ self.old) × (outs ≡ no_outs)) }
         ensures err { OnErr result (self.new ≡ self.old) }
     {
         self.on_input(alloc, input)

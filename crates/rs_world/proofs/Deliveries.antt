@@ -5,9 +5,11 @@ use Rattle.std.specs.Prelude.{nat_le}
 use Rattle.std.proofs.lemmas.Bool.{cases_lt}
 use Rattle.std.proofs.lemmas.Bool.Decides.{nat_tests}
 use Rattle.rs_course.specs.declared.datagram.Datagram.{Datagram}
-use Rattle.rs_course.specs.Course.{GiveNext, act, lowest_pending}
-use Rattle.rs_course.specs.World.{World}
-use Rattle.rs_course.proofs.Pending.{get_below, get_past, next_given, none_pending, one_pending, none_delivered, none_next, one_next}
+use Rattle.rs_course.specs.Course.{GiveNext, lowest_pending}
+use Rattle.rs_site.specs.Course.{act}
+use Rattle.rs_site.specs.World.{World}
+use Rattle.rs_course.proofs.Pending.{get_below, get_past, none_pending, one_pending}
+use Rattle.rs_site.proofs.Pending.{next_given, none_delivered, none_next, one_next}
 use Rattle.rs_world.specs.Inside.{world_of}
 use Rattle.rs_world.specs.declared.world.World.TheInside.{Inside}
 

@@ -2,12 +2,14 @@
 use Rattle.std.proofs.Common.{◌≡◌, ℕ, zero, suc, ◌-◌, List, [], ◌∷◌, map, Option, Some, None, refl, sym, ap, ◌∙◌}
 use Rattle.std.specs.List.{slice_get, slice_set}
 use Rattle.rs_base.specs.Reading.{◌>>=◌}
-use Rattle.rs_site.specs.declared.input.Input.{Input}
-use Rattle.rs_site.specs.declared.outs.Outs.{Outs}
+use Rattle.rs_course.specs.declared.input.Input.{Input}
+use Rattle.rs_course.specs.declared.outs.Outs.{Outs}
 use Rattle.rs_site.specs.State.{SiteState}
 use Rattle.rs_site.specs.Step.{site_step}
-use Rattle.rs_course.specs.Course.{after_outs, stepped}
-use Rattle.rs_course.specs.World.{Place, site_at}
+use Rattle.rs_course.specs.Course.{after_outs}
+use Rattle.rs_site.specs.Course.{stepped}
+use Rattle.rs_course.specs.World.{site_at}
+use Rattle.rs_site.specs.World.{Place}
 use Rattle.rs_world.specs.Inside.{world_of}
 use Rattle.rs_world.specs.Sites.{place_of, places_of, sites_after, outs_of}
 use Rattle.rs_world.specs.declared.world.World.TheInside.{Inside}

@@ -4,8 +4,8 @@ use Rattle.std.specs.List.{enumerate_from}
 use Rattle.std.proofs.lemmas.List.{length-map, map-append}
 use Rattle.rs_site.specs.State.{SiteState}
 use Rattle.rs_course.specs.declared.report.SiteView.{SiteView}
-use Rattle.rs_course.specs.Report.{view_of, view_when}
-use Rattle.rs_course.specs.World.{Place}
+use Rattle.rs_site.specs.Report.{view_of, view_when}
+use Rattle.rs_site.specs.World.{Place}
 use Rattle.rs_world.specs.Sites.{place_of, places_of}
 use Rattle.rs_world.proofs.Places.{enumerate_from-push}
 

@@ -1,6 +1,6 @@
 -- The fields of a world.
 use Rattle.std.specs.List.{range_with_len}
-use Rattle.rs_course.specs.World.{World}
+use Rattle.rs_site.specs.World.{World}
 use Rattle.rs_world.specs.Sites.{places_of}
 use Rattle.rs_world.specs.declared.world.World.TheInside.{Inside}
 

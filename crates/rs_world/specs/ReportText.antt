@@ -3,8 +3,8 @@ use Rattle.std.specs.Prelude.{ℕ, List, ◌++◌, flat_map, length, decimal, co
 use Rattle.std.specs.List.{enumerate_from}
 use Rattle.rs_base.specs.Printing.{printed_swn}
 use Rattle.rs_print.specs.Replies.{printed_row, printed_txn, printed_origin, printed_reply}
-use Rattle.rs_site.specs.declared.outs.Decided.{Decided}
-use Rattle.rs_site.specs.declared.outs.RunOf.{RunOf}
+use Rattle.rs_course.specs.declared.outs.Decided.{Decided}
+use Rattle.rs_course.specs.declared.outs.RunOf.{RunOf}
 use Rattle.rs_course.specs.declared.report.Given.{Given}
 use Rattle.rs_course.specs.declared.report.SiteView.{SiteView}
 use Rattle.rs_course.specs.declared.report.Report.{Report}

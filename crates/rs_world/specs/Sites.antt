@@ -1,10 +1,10 @@
 -- The sites of a world: their states, and the output when the one of a number handles an input.
 use Rattle.std.specs.Prelude.{ℕ, List, map, slice_set, Option, Some, None}
-use Rattle.rs_site.specs.declared.input.Input.{Input}
-use Rattle.rs_site.specs.declared.outs.Outs.{Outs}
+use Rattle.rs_course.specs.declared.input.Input.{Input}
+use Rattle.rs_course.specs.declared.outs.Outs.{Outs}
 use Rattle.rs_site.specs.State.{SiteState}
 use Rattle.rs_site.specs.Step.{site_step}
-use Rattle.rs_course.specs.World.{Place}
+use Rattle.rs_site.specs.World.{Place}
 
 -- each of these sites is up
 abbrev pub place_of : SiteState → Place

@@ -2,15 +2,15 @@
 
 ghost use Rattle.std.specs.Prelude.{◌≡◌, replicate, fold, None, IfOk, OnOk, IsTrue, ◌↔◌};
 ghost use Rattle.rs_msg.specs.declared.message.Message.TheVariants as messages;
-ghost use Rattle.rs_site.specs.declared.input.Input.TheVariants as inputs;
-ghost use Rattle.rs_course.specs.Course as spec;
+ghost use Rattle.rs_course.specs.declared.input.Input.TheVariants as inputs;
+ghost use Rattle.rs_course.specs.Course.{GiveNext, Noise, Open, Post, ask_datagram, deliveries, lowest_pending};
+ghost use Rattle.rs_site.specs.Course as spec;
 
 use crate::sites::Sites;
 use crate::world::World;
 use rs_base::{Bytes, NoMemory, Origin, Peer, ReadFault, SiteNo};
-use rs_course::Datagram;
+use rs_course::{Datagram, Input};
 use rs_msg::{Ask, Message, decode, encode};
-use rs_site::Input;
 use std::alloc::Global;
 
 /// The largest number of deliveries of a settle without a count.
@@ -18,7 +18,7 @@ const MOST_DELIVERIES: usize = 16_777_216;
 
 /// Makes the datagram of a client's ask of a first part.
 fn ask_datagram(alloc: Global, origin: &Origin, text: &Bytes) -> Result<Datagram, NoMemory>
-    ensures { IfOk result (λ datagram. datagram ≡ spec.ask_datagram origin.now text.now) }
+    ensures { IfOk result (λ datagram. datagram ≡ ask_datagram origin.now text.now) }
 {
     let ask = Ask {
         user: origin.user,
@@ -45,7 +45,7 @@ fn input_of(alloc: Global, from: Peer, bytes: &Bytes) -> Result<Input, NoMemory>
 
 impl World {
     pub(crate) fn open_sites(&mut self, alloc: Global, last: SiteNo) -> Result<(), NoMemory>
-        ensures { OnOk result (self.new ≡ spec.act self.old (spec.Open last)) }
+        ensures { OnOk result (self.new ≡ spec.act self.old (Open last)) }
     {
         self.sites = Sites::open(alloc, last)?;
         Ok(())
@@ -57,7 +57,7 @@ impl World {
         origin: &Origin,
         text: &Bytes,
     ) -> Result<(), NoMemory>
-        ensures { OnOk result (self.new ≡ spec.act self.old (spec.Post origin.now text.now)) }
+        ensures { OnOk result (self.new ≡ spec.act self.old (Post origin.now text.now)) }
     {
         self.sent.push(ask_datagram(alloc, origin, text)?)?;
         Ok(())
@@ -70,7 +70,7 @@ impl World {
         site: SiteNo,
         bytes: &Bytes,
     ) -> Result<(), NoMemory>
-        ensures { OnOk result (self.new ≡ spec.act self.old (spec.Noise site bytes.now)) }
+        ensures { OnOk result (self.new ≡ spec.act self.old (Noise site bytes.now)) }
     {
         match decode(alloc, bytes.as_slice()) {
             Ok(_) => Ok(()),
@@ -84,14 +84,14 @@ impl World {
 
     /// Returns whether no datagram is pending.
     fn is_settled(&self) -> bool
-        ensures { IsTrue result ↔ (spec.lowest_pending self.now ≡ None) }
+        ensures { IsTrue result ↔ (lowest_pending self.now ≡ None) }
     {
         self.sent.len() <= self.delivered
     }
 
     /// Delivers the first datagram that wasn't delivered yet, if there is one.
     fn deliver_next(&mut self, alloc: Global) -> Result<(), NoMemory>
-        ensures { OnOk result (self.new ≡ spec.act self.old spec.GiveNext) }
+        ensures { OnOk result (self.new ≡ spec.act self.old GiveNext) }
     {
         let Some(datagram) = self.sent.as_slice().get(self.delivered) else {
             return Ok(());
@@ -105,7 +105,7 @@ impl World {
     /// Delivers at most `most` datagrams, and no more than are left.
     #[tactic(auto, using(crate::proofs::Deliveries::none_left, crate::proofs::Deliveries::one_of))]
     fn deliver_most(&mut self, alloc: Global, most: usize) -> Result<(), NoMemory>
-        ensures { OnOk result (self.new ≡ fold spec.act self.old (replicate most spec.GiveNext)) }
+        ensures { OnOk result (self.new ≡ fold spec.act self.old (replicate most GiveNext)) }
     {
         for _ in 0..most {
             if self.is_settled() {
@@ -117,7 +117,7 @@ impl World {
     }
 
     pub(crate) fn settle(&mut self, alloc: Global) -> Result<(), NoMemory>
-        ensures { OnOk result (self.new ≡ fold spec.act self.old spec.deliveries) }
+        ensures { OnOk result (self.new ≡ fold spec.act self.old deliveries) }
     {
         self.deliver_most(alloc, MOST_DELIVERIES)
     }

@@ -5,7 +5,7 @@ ghost use Rattle.rs_course.specs.History.{entered, with_entries};
 
 use crate::queue::reversed;
 use rs_base::{NoMemory, Txn};
-use rs_site::{Decided, Decideds};
+use rs_course::{Decided, Decideds};
 use std::alloc::Global;
 use std::collections::BTreeSet;
 use std::marker::Model;
@@ -19,7 +19,7 @@ pub struct History {
 
 impl Model for History {
     ghost use Rattle.std.specs.Prelude.{List};
-    ghost use Rattle.rs_site.specs.declared.outs.Decided.{Decided};
+    ghost use Rattle.rs_course.specs.declared.outs.Decided.{Decided};
     ghost use Rattle.rs_world.specs.Entries.{KnowsTransactions};
 
     ghost Value = { List Decided };

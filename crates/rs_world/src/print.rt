@@ -6,10 +6,9 @@ ghost use Rattle.rs_print.specs.Replies.{printed_row};
 ghost use Rattle.rs_world.specs.ReportText as spec;
 
 use rs_base::{Bytes, NoMemory};
-use rs_course::{Given, Report, SiteView, TableView};
+use rs_course::{Decided, Given, Report, RunOf, SiteView, TableView};
 use rs_print::append;
 use rs_rows::RowRun;
-use rs_site::{Decided, RunOf};
 use std::alloc::Global;
 
 fn print_givens(givens: &[Given], out: &mut Bytes) -> Result<(), NoMemory>

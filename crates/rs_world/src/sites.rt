@@ -3,13 +3,13 @@
 ghost use Rattle.std.specs.Prelude.{◌≡◌, ◌-◌, [], map, IfOk, OnErr, slice_get};
 ghost use Rattle.std.specs.List.{enumerate_from, range_with_len};
 ghost use Rattle.rs_site.specs.State.{opened};
-ghost use Rattle.rs_course.specs.Report.{view_of};
+ghost use Rattle.rs_site.specs.Report.{view_of};
 ghost use Rattle.rs_world.specs.Sites as spec;
 
 use crate::report::site_view;
 use rs_base::{NoMemory, SiteNo};
-use rs_course::SiteViews;
-use rs_site::{Input, Outs, Site};
+use rs_course::{Input, Outs, SiteViews};
+use rs_site::Site;
 use std::alloc::Global;
 use std::marker::Model;
 

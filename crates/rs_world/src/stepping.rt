@@ -2,12 +2,13 @@
 
 ghost use Rattle.std.specs.Prelude.{◌≡◌, ◌++◌, map, flat_map, Some, OnOk};
 ghost use Rattle.rs_course.specs.Course as spec;
+ghost use Rattle.rs_site.specs.Course.{stepped_by};
 
 use crate::queue::reversed;
 use crate::world::World;
 use rs_base::{Bytes, Datagrams, NoMemory, Peer, SiteNo};
-use rs_course::{Datagram, Given, ReplyList};
-use rs_site::{Input, Outs, Tolds};
+use rs_course::{Datagram, Given, Input, Outs, ReplyList};
+use rs_session::Tolds;
 use sqlite_items::Items;
 use std::alloc::Global;
 
@@ -82,7 +83,7 @@ impl World {
         site: SiteNo,
         input: &Input,
     ) -> Result<(), NoMemory>
-        ensures { OnOk result (self.new ≡ spec.stepped_by self.old (Some (site, input.now))) }
+        ensures { OnOk result (self.new ≡ stepped_by self.old (Some (site, input.now))) }
     {
         match self.sites.step(alloc, site, input)? {
             Some(outs) => self.take_outs(alloc, site, outs),

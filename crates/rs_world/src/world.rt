@@ -1,16 +1,15 @@
 //! A world of sites, and the events that it plays.
 
 ghost use Rattle.std.specs.Prelude.{◌≡◌, OnOk, IfOk};
-ghost use Rattle.rs_course.specs.Course as spec;
-ghost use Rattle.rs_course.specs.Report.{report_of};
 ghost use Rattle.rs_course.specs.World.{start};
+ghost use Rattle.rs_site.specs.Course as spec;
+ghost use Rattle.rs_site.specs.Report.{report_of};
 
 use crate::history::History;
 use crate::sites::Sites;
 use rs_base::NoMemory;
-use rs_course::{Datagram, ReplyList, Report};
+use rs_course::{Datagram, ReplyList, Report, Runs};
 use rs_sched::Event;
-use rs_site::Runs;
 use sqlite_items::Items;
 use std::alloc::Global;
 use std::marker::Model;
@@ -29,7 +28,7 @@ pub struct World {
 }
 
 impl Model for World {
-    ghost use Rattle.rs_course.specs.World.{World};
+    ghost use Rattle.rs_site.specs.World.{World};
     ghost use Rattle.rs_world.specs.Inside.{world_of};
 
     ghost Value = { World };

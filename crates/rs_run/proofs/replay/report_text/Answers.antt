@@ -1,9 +1,9 @@
 use Rattle.std.proofs.Common.{ℕ, List, ap, subst, ◌∙◌}
 use Rattle.rs_sched.specs.declared.event.Event.{Event}
 use Rattle.rs_course.specs.declared.report.Report.{Report}
-use Rattle.rs_course.specs.Course.{course}
-use Rattle.rs_course.specs.Report.{report_of}
-use Rattle.rs_course.specs.World.{World}
+use Rattle.rs_site.specs.Course.{course}
+use Rattle.rs_site.specs.Report.{report_of}
+use Rattle.rs_site.specs.World.{World}
 use Rattle.rs_world.specs.ReportText.{printed_report}
 use Rattle.rs_run.specs.Refusal.{IsSource}
 use Rattle.rs_run.proofs.RunLaws.{reported}

@@ -1,6 +1,6 @@
 use Rattle.std.proofs.Common.{◌≡◌, map, length}
 use Rattle.std.specs.List.{enumerate_from}
-use Rattle.rs_course.specs.Report.{view_of}
+use Rattle.rs_site.specs.Report.{view_of}
 use Rattle.rs_world.specs.Sites.{places_of}
 use Rattle.rs_world.proofs.sites.Sites.into_views.Given as goal
 

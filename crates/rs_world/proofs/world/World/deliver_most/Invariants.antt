@@ -1,5 +1,6 @@
 use Rattle.std.proofs.Common.{◌≡◌, ◌-◌, replicate, fold}
-use Rattle.rs_course.specs.Course.{GiveNext, act}
+use Rattle.rs_course.specs.Course.{GiveNext}
+use Rattle.rs_site.specs.Course.{act}
 use Rattle.rs_world.proofs.world.World.deliver_most.Given as goal
 
 abbrev pub invariant-loop : goal.invariant-loop

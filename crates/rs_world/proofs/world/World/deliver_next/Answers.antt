@@ -1,11 +1,12 @@
 use Rattle.std.proofs.Common.{◌≡◌, ◌+◌, ◌≤◌, List, length, Some, OnOk, refl, sym, ap, subst, ◌∙◌, arith}
 use Rattle.std.proofs.lemmas.Bool.Decides.{nat_tests}
 use Rattle.std.specs.List.{slice_get}
-use Rattle.rs_site.specs.declared.input.Input.{Input}
+use Rattle.rs_course.specs.declared.input.Input.{Input}
 use Rattle.rs_course.specs.declared.datagram.Datagram.{Datagram}
-use Rattle.rs_course.specs.Course.{GiveNext, act, moved, stepped_by}
-use Rattle.rs_course.specs.World.{World}
-use Rattle.rs_course.proofs.Pending.{none_next}
+use Rattle.rs_course.specs.Course.{GiveNext}
+use Rattle.rs_site.specs.Course.{act, moved, stepped_by}
+use Rattle.rs_site.specs.World.{World}
+use Rattle.rs_site.proofs.Pending.{none_next}
 use Rattle.rs_world.specs.Inside.{world_of}
 use Rattle.rs_world.proofs.Deliveries.{get_of, gives_next}
 use Rattle.rs_world.proofs.world.World.deliver_next.Goals as goal

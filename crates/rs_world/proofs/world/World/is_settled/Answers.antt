@@ -1,7 +1,7 @@
 use Rattle.std.proofs.Common.{◌≡◌, None, IsTrue, subst}
 use Rattle.std.specs.Prelude.{nat_le}
 use Rattle.rs_course.specs.Course.{lowest_pending}
-use Rattle.rs_course.specs.World.{World}
+use Rattle.rs_site.specs.World.{World}
 use Rattle.rs_world.proofs.Deliveries.{settled_if}
 use Rattle.rs_world.proofs.world.World.is_settled.Goals as goal
 

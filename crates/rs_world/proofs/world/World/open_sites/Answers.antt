@@ -1,8 +1,9 @@
 use Rattle.std.proofs.Common.{List, ap, ◌∙◌}
 use Rattle.std.specs.List.{range_with_len}
 use Rattle.rs_site.specs.State.{SiteState, opened}
-use Rattle.rs_course.specs.Course.{Open, act}
-use Rattle.rs_course.specs.World.{World, Place}
+use Rattle.rs_course.specs.Course.{Open}
+use Rattle.rs_site.specs.Course.{act}
+use Rattle.rs_site.specs.World.{World, Place}
 use Rattle.rs_world.specs.Sites.{places_of}
 use Rattle.rs_world.proofs.SitePlaces.{opened_places}
 use Rattle.rs_world.proofs.world.World.open_sites.Goals as goal

@@ -1,5 +1,5 @@
 use Rattle.std.proofs.Common.{◌≡◌, take}
-use Rattle.rs_course.specs.Course.{course}
+use Rattle.rs_site.specs.Course.{course}
 use Rattle.rs_world.proofs.world.World.play.Given as goal
 
 abbrev pub invariant-loop-event : goal.invariant-loop-event

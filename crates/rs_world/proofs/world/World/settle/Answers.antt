@@ -1,5 +1,6 @@
 use Rattle.std.proofs.Common.{OnOk, ◌≡◌, List, fold, sym, subst}
-use Rattle.rs_course.specs.Course.{Action, act}
+use Rattle.rs_course.specs.Course.{Action}
+use Rattle.rs_site.specs.Course.{act}
 use Rattle.rs_course.proofs.Settling.{deliveries_are}
 use Rattle.rs_world.proofs.world.World.settle.Goals as goal
 

@@ -1,8 +1,10 @@
 use Rattle.std.proofs.Common.{◌≡◌, ◌-◌, OnOk, List, refl, sym, ap, subst, ◌∙◌}
 use Rattle.std.specs.List.{slice_get}
 use Rattle.rs_site.specs.State.{SiteState}
-use Rattle.rs_course.specs.Course.{after_outs, stepped}
-use Rattle.rs_course.specs.World.{World, site_at}
+use Rattle.rs_course.specs.Course.{after_outs}
+use Rattle.rs_site.specs.Course.{stepped}
+use Rattle.rs_course.specs.World.{site_at}
+use Rattle.rs_site.specs.World.{World}
 use Rattle.rs_world.specs.Inside.{world_of}
 use Rattle.rs_world.proofs.SitePlaces.{step_taken, no_step}
 use Rattle.rs_world.proofs.world.World.take_input.Goals as goal
