@@ -25,8 +25,8 @@ use Rattle.rs_course.specs.declared.outs.Decided.{Decided}
 use Rattle.rs_site.proofs.Acceptance.{Acceptance, NotRead, Read, accepted}
 use Rattle.rs_site.proofs.Asked.{Asked, asked}
 use Rattle.rs_course.specs.declared.datagram.Datagram.{Datagram}
-use Rattle.rs_course.specs.declared.report.Given.{Given}
-use Rattle.rs_course.specs.Course.{Action, Open, Post, Give, GiveNext, Lose, Tick, Stop, Arm, Restart, Noise, actions_of, ask_datagram, deliveries, delivery_of, given_of, gives, noise_of}
+use Rattle.rs_course.specs.declared.report.ReportedReply.{ReportedReply}
+use Rattle.rs_course.specs.Course.{Action, Open, Post, Give, GiveNext, Lose, Tick, Stop, Arm, Restart, Noise, actions_of, ask_datagram, deliveries, delivery_of, reported_reply, gives, noise_of}
 use Rattle.rs_site.specs.Course.{course}
 use Rattle.rs_site.specs.History.{database_of}
 use Rattle.rs_course.specs.Moments.{actions, ask_input}
@@ -141,8 +141,8 @@ module _ (given : List Event) (valid : IsValid given) (are : IsTrue (are_accepte
       pub cases : Asked site (peers.Client 0) origin text came
       pub go : GoOn site
       pub room : site.desk.begun < last_number
-      pub reported_after : List Given
-      pub replies_are : (course given).replies ≡ ((world_after before).replies ++ map given_of came.outs.replies) ++ reported_after
+      pub reported_after : List ReportedReply
+      pub replies_are : (course given).replies ≡ ((world_after before).replies ++ map reported_reply came.outs.replies) ++ reported_after
       pub more : List Decided
       pub history_is : (course given).history ≡ ((world_after before).history ++ came.outs.decided) ++ more
 
@@ -151,7 +151,7 @@ module _ (given : List Event) (valid : IsValid given) (are : IsTrue (are_accepte
     comes_now done suffix separated waits m =
         let world = after done in
         let came : Planned = on_first m.site (peers.Client 0) origin text in
-        let next : world_after ((Open 1 ∷ done) ++ GiveNext ∷ []) ≡ onward world came.after (map given_of came.outs.replies) came.outs.decided
+        let next : world_after ((Open 1 ∷ done) ++ GiveNext ∷ []) ≡ onward world came.after (map reported_reply came.outs.replies) came.outs.decided
         = after_push done GiveNext ∙ turns_received (Open 1 ∷ done) world m.site m.stands.one m.stands.below origin text is waits in
         let on = grows ((Open 1 ∷ done) ++ GiveNext ∷ []) suffix in
         let whole : course given ≡ world_after (((Open 1 ∷ done) ++ GiveNext ∷ []) ++ suffix)
@@ -240,7 +240,7 @@ module _ (given : List Event) (valid : IsValid given) (are : IsTrue (are_accepte
               text_is = refl;
             }
 
-    abbrev replied_as : Reply → Given
+    abbrev replied_as : Reply → ReportedReply
     replied_as reply = record { origin = origin; reply = reply }
 
     no_request_replied : Accepts given origin text → statement_of text ≡ None → Contains (course given).replies (replied_as (replies.Syntax (offset_replied text)))
@@ -249,10 +249,10 @@ module _ (given : List Event) (valid : IsValid given) (are : IsTrue (are_accepte
         by_accepted : (c : Comes accepts.before accepts.site) → Acceptance accepts.site (peers.Client 0) origin text c.came → Contains (course given).replies (replied_as (replies.Syntax (offset_replied text)))
         by_accepted c (Read s read e) = absurd (let both : None ≡ Some s = sym none ∙ read in cc)
         by_accepted c (NotRead not_read e) =
-            let prefix : List Given = (world_after accepts.before).replies in
-            let syntax : Given = replied_as (replies.Syntax (offset_replied text)) in
-            let whole : (course given).replies ≡ (prefix ++ syntax ∷ []) ++ c.reported_after = c.replies_are ∙ ap (λ (p : Planned). (prefix ++ map given_of p.outs.replies) ++ c.reported_after) e in
-            subst (λ (gs : List Given). Contains gs syntax) (sym whole) (Contains-append_left (prefix ++ syntax ∷ []) c.reported_after syntax (Contains-push prefix syntax))
+            let prefix : List ReportedReply = (world_after accepts.before).replies in
+            let syntax : ReportedReply = replied_as (replies.Syntax (offset_replied text)) in
+            let whole : (course given).replies ≡ (prefix ++ syntax ∷ []) ++ c.reported_after = c.replies_are ∙ ap (λ (p : Planned). (prefix ++ map reported_reply p.outs.replies) ++ c.reported_after) e in
+            subst (λ (gs : List ReportedReply). Contains gs syntax) (sym whole) (Contains-append_left (prefix ++ syntax ∷ []) c.reported_after syntax (Contains-push prefix syntax))
 
 asked_is_post : (given : List Event) → IsValid given → IsTrue (are_accepted false given) → (origin : Origin) (text : List ℕ) → Contains given (events.Ask origin text) → IsPost origin text
 asked_is_post [] valid are origin text at = absurd valid

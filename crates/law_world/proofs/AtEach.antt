@@ -10,11 +10,11 @@ use Rattle.rs_course.specs.declared.outs.Decided.{Decided}
 use Rattle.rs_site.specs.Planned.{Planned}
 use Rattle.rs_site.specs.State.{SiteState, opened}
 use Rattle.rs_site.proofs.Asked.{Asked}
-use Rattle.rs_course.specs.declared.report.Given.{Given}
+use Rattle.rs_course.specs.declared.report.ReportedReply.{ReportedReply}
 use Rattle.rs_course.specs.World.{site_at}
 use Rattle.rs_site.specs.World.{World, Place}
 use Rattle.rs_course.proofs.Pending.{next_gives}
-use Rattle.rs_course.specs.Course.{Action, Open, Post, GiveNext, given_of, ask_datagram}
+use Rattle.rs_course.specs.Course.{Action, Open, Post, GiveNext, reported_reply, ask_datagram}
 use Rattle.rs_site.specs.Course.{act}
 use Rattle.rs_course.specs.Moments.{actions, ask_input}
 use Rattle.rs_site.specs.Moments.{IsStep, world_after, Receives}
@@ -34,11 +34,11 @@ pub record ReceivesNext (given : List Event) (before : List Action) (site : Site
 
 -- the next delivery leaves the site as this, and has this output
 abbrev pub DeliversNext : List Action → Planned → Type 0
-DeliversNext before came = world_after (before ++ GiveNext ∷ []) ≡ onward (world_after before) came.after (map given_of came.outs.replies) came.outs.decided
+DeliversNext before came = world_after (before ++ GiveNext ∷ []) ≡ onward (world_after before) came.after (map reported_reply came.outs.replies) came.outs.decided
 
 -- a fact of a prefix of the actions, and of the site, the replies and the history after it
 abbrev pub Fact : Type 1
-Fact = List Action → SiteState → List Given → List Decided → Type 0
+Fact = List Action → SiteState → List ReportedReply → List Decided → Type 0
 
 -- the fact in this state
 pub record StateAt (P : Fact) (before : List Action) (world : World) : Type 0 where
@@ -49,10 +49,10 @@ pub record StateAt (P : Fact) (before : List Action) (world : World) : Type 0 wh
 -- the fact holds after the opening, and is kept by each action
 pub record IsLaw (given : List Event) (P : Fact) : Type 0 where
   pub first : P (Open 1 ∷ []) (opened 1 1) [] []
-  pub later : (before : List Action) (action : Action) (site : SiteState) (givens : List Given) (entries : List Decided) → P before site givens entries → P (before ++ action ∷ []) site givens entries
+  pub later : (before : List Action) (action : Action) (site : SiteState) (givens : List ReportedReply) (entries : List Decided) → P before site givens entries → P (before ++ action ∷ []) site givens entries
   pub received : (before : List Action) (site : SiteState) (origin : Origin) (text : List ℕ) (came : Planned) → ReceivesNext given before site origin text
       → DeliversNext before came → Asked site (peers.Client 0) origin text came → P before site (world_after before).replies (world_after before).history
-      → P before came.after ((world_after before).replies ++ map given_of came.outs.replies) ((world_after before).history ++ came.outs.decided)
+      → P before came.after ((world_after before).replies ++ map reported_reply came.outs.replies) ((world_after before).history ++ came.outs.decided)
 
 module _ (given : List Event) (playable : Playable given) (P : Fact) (law : IsLaw given P) where
   abbrev At : List Action → Type 0
@@ -88,9 +88,9 @@ module _ (given : List Event) (playable : Playable given) (P : Fact) (law : IsLa
       let delivers : DeliversNext (Open 1 ∷ done) came = sym (ap (λ (h : Action). after (done ++ h ∷ [])) is.deliver) ∙ is_next ∙ made in
       subst (StateAt P (Open 1 ∷ (done ++ action ∷ []))) (sym made) (record {
         site = came.after;
-        stands = stands_received (Open 1 ∷ done) (after done) now.site now.stands action came.after (map given_of came.outs.replies) came.outs.decided (same_site now.site (peers.Client 0) origin text came cases)
+        stands = stands_received (Open 1 ∷ done) (after done) now.site now.stands action came.after (map reported_reply came.outs.replies) came.outs.decided (same_site now.site (peers.Client 0) origin text came cases)
             (below_received now.site (peers.Client 0) origin text (after done).history now.stands.below came cases);
-        holds = law.later (Open 1 ∷ done) action came.after ((after done).replies ++ map given_of came.outs.replies) ((after done).history ++ came.outs.decided)
+        holds = law.later (Open 1 ∷ done) action came.after ((after done).replies ++ map reported_reply came.outs.replies) ((after done).history ++ came.outs.decided)
             (law.received (Open 1 ∷ done) now.site origin text came receiving delivers cases now.holds);
       })
 

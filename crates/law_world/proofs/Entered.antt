@@ -20,7 +20,7 @@ use Rattle.rs_site.specs.Asking.{execution_of, reply_of, with_change, with_reply
 use Rattle.rs_session.specs.Sessions.{Book, session_of, with_session}
 use Rattle.rs_site.specs.State.{SiteState, opened, next_txn}
 use Rattle.rs_session.proofs.PutSessions.{session_put, session_beside, user_is}
-use Rattle.rs_course.specs.declared.report.Given.{Given}
+use Rattle.rs_course.specs.declared.report.ReportedReply.{ReportedReply}
 use Rattle.law_world.specs.Explains.{IsCommitted, IsMeaningAt}
 use Rattle.rs_site.specs.History.{effect_of, effect, database_of, outcome_after}
 use Rattle.rs_site.specs.Moments.{Accepts}
@@ -38,7 +38,7 @@ database_of-push history entry = fold_push (λ db e. (effect db e).0) (empty 1) 
 pub take_prefix : {X : Type 0} (xs ys : List X) → take (length xs) (xs ++ ys) ≡ xs
 take_prefix xs ys = take-append-le (length xs) xs ys (omega arith) ∙ take_all (length xs) xs (omega arith)
 
-pub meaning_more : (history more : List Decided) (i : ℕ) (reported : Given) → IsMeaningAt 1 history i reported → IsMeaningAt 1 (history ++ more) i reported
+pub meaning_more : (history more : List Decided) (i : ℕ) (reported : ReportedReply) → IsMeaningAt 1 history i reported → IsMeaningAt 1 (history ++ more) i reported
 meaning_more history more i reported is =
     let below = get_below history i is.entry is.there in
     record {
@@ -62,14 +62,14 @@ pub record IsEntry (given : List Event) (state : SiteState) (entry : Decided) : 
   pub low : entry.origin.number ≤ (session_of entry.origin.user state.desk.sessions).last
   pub accepts : Accepts given entry.origin entry.text
 
-pub record Entered (given : List Event) (state : SiteState) (givens : List Given) (history : List Decided) : Type 0 where
+pub record Entered (given : List Event) (state : SiteState) (givens : List ReportedReply) (history : List Decided) : Type 0 where
   pub begun : state.desk.begun ≡ length history
   pub database : state.held.database ≡ database_of 1 history
   pub in_order : IsInOrder state.held.database
   pub txns : (i : ℕ) (entry : Decided) → slice_get history i ≡ Some entry → entry.txn ≡ txn_at i
   pub entries : (i : ℕ) (entry : Decided) → slice_get history i ≡ Some entry → IsEntry given state entry
   pub distinct : (i j : ℕ) (a b : Decided) → i < j → slice_get history i ≡ Some a → slice_get history j ≡ Some b → a.origin ≢ b.origin
-  pub answers : (k : ℕ) (reported : Given) → slice_get givens k ≡ Some reported → IsCommitted reported.reply → (i : ℕ) × IsMeaningAt 1 history i reported
+  pub answers : (k : ℕ) (reported : ReportedReply) → slice_get givens k ≡ Some reported → IsCommitted reported.reply → (i : ℕ) × IsMeaningAt 1 history i reported
   pub known : (user : List ℕ) (reply : Reply) → (session_of user state.desk.sessions).reply ≡ Some reply → IsCommitted reply → (i : ℕ) × IsMeaningAt 1 history i (record { origin = last_origin state user; reply = reply })
 
 nothing_at : {X : Type 0} (i : ℕ) (x : X) → slice_get [] i ≡ Some x → ⊥
@@ -92,7 +92,7 @@ entered_first given = record {
 
 -- ---- a reply is given
 
-pub entered_said : (given : List Event) (state : SiteState) (givens : List Given) (history : List Decided) (reported : Given)
+pub entered_said : (given : List Event) (state : SiteState) (givens : List ReportedReply) (history : List Decided) (reported : ReportedReply)
     → (IsCommitted reported.reply → (i : ℕ) × IsMeaningAt 1 history i reported) → Entered given state givens history → Entered given state (givens ++ reported ∷ []) history
 entered_said given state givens history reported meant holds = record {
   begun = holds.begun;
@@ -105,11 +105,11 @@ entered_said given state givens history reported meant holds = record {
   known = holds.known;
 }
   where
-    answers_next : (k : ℕ) (g : Given) → slice_get (givens ++ reported ∷ []) k ≡ Some g → IsCommitted g.reply → (i : ℕ) × IsMeaningAt 1 history i g
+    answers_next : (k : ℕ) (g : ReportedReply) → slice_get (givens ++ reported ∷ []) k ≡ Some g → IsCommitted g.reply → (i : ℕ) × IsMeaningAt 1 history i g
     answers_next k g at =
         elim (get_push givens reported g k at) [
           | inl p ↦ holds.answers k g p.1
-          | inr p ↦ subst (λ (x : Given). IsCommitted x.reply → (i : ℕ) × IsMeaningAt 1 history i x) p.1 meant
+          | inr p ↦ subst (λ (x : ReportedReply). IsCommitted x.reply → (i : ℕ) × IsMeaningAt 1 history i x) p.1 meant
         ]
 
 ---- a request is accepted
@@ -166,7 +166,7 @@ module _ (given : List Event) (state : SiteState) (origin : Origin) (reply : Rep
       ]
 
 -- a text without a supported statement is accepted
-pub entered_remembered : (given : List Event) (state : SiteState) (givens : List Given) (history : List Decided) (origin : Origin) (reply : Reply)
+pub entered_remembered : (given : List Event) (state : SiteState) (givens : List ReportedReply) (history : List Decided) (origin : Origin) (reply : Reply)
     → origin.number ≡ (session_of origin.user state.desk.sessions).last + 1 → origin.site ≡ state.who.me → origin.epoch ≡ state.who.epoch → (IsCommitted reply → ⊥)
     → Entered given state givens history → Entered given (with_reply origin reply state) givens history
 entered_remembered given state givens history origin reply number home of_epoch open_ended holds = record {
@@ -187,7 +187,7 @@ entered_remembered given state givens history origin reply number home of_epoch 
 
 -- ---- a statement is executed
 
-module _ (given : List Event) (state : SiteState) (givens : List Given) (history : List Decided) (origin : Origin) (text : List ℕ) (stmt : Stmt)
+module _ (given : List Event) (state : SiteState) (givens : List ReportedReply) (history : List Decided) (origin : Origin) (text : List ℕ) (stmt : Stmt)
     (reads : statement_of text ≡ Some stmt) (number : origin.number ≡ (session_of origin.user state.desk.sessions).last + 1) (home : origin.site ≡ state.who.me) (of_epoch : origin.epoch ≡ state.who.epoch)
     (me : state.who.me ≡ 1) (epoch : state.who.epoch ≡ 1) (accepts : Accepts given origin text) (holds : Entered given state givens history) where
   abbrev entry : Decided
@@ -196,7 +196,7 @@ module _ (given : List Event) (state : SiteState) (givens : List Given) (history
   abbrev made : Database × Outcome
   made = meaning state.held.database (execution_of (next_txn state.who state.desk) origin stmt)
 
-  abbrev reported : Given
+  abbrev reported : ReportedReply
   reported = record { origin = origin; reply = reply_of made.1 }
 
   abbrev next : SiteState
@@ -248,7 +248,7 @@ module _ (given : List Event) (state : SiteState) (givens : List Given) (history
         | inr p ↦ absurd (omega (arith, p.0, lt, get_below longer j b at_b, length_next))
       ]
 
-  answers_next : (k : ℕ) (g : Given) → slice_get givens k ≡ Some g → IsCommitted g.reply → (i : ℕ) × IsMeaningAt 1 longer i g
+  answers_next : (k : ℕ) (g : ReportedReply) → slice_get givens k ≡ Some g → IsCommitted g.reply → (i : ℕ) × IsMeaningAt 1 longer i g
   answers_next k g at committed = let there = holds.answers k g at committed in (there.0, meaning_more history (entry ∷ []) there.0 g there.1)
 
   meaning_here : IsMeaningAt 1 longer (length history) reported

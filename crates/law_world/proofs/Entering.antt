@@ -14,8 +14,8 @@ use Rattle.rs_session.specs.Sessions.{session_of}
 use Rattle.rs_site.specs.Planned.{Planned}
 use Rattle.rs_site.specs.State.{SiteState}
 use Rattle.rs_site.proofs.Asked.{Asked, Refused, RepliedAgain, Silent, NoRequest, Spent, Executed, IsLast, IsNext}
-use Rattle.rs_course.specs.declared.report.Given.{Given}
-use Rattle.rs_course.specs.Course.{Action, GiveNext, given_of}
+use Rattle.rs_course.specs.declared.report.ReportedReply.{ReportedReply}
+use Rattle.rs_course.specs.Course.{Action, GiveNext, reported_reply}
 use Rattle.law_world.specs.Explains.{IsCommitted, IsMeaningAt}
 use Rattle.rs_site.specs.Moments.{world_after}
 use Rattle.law_world.proofs.AtEach.{ReceivesNext, IsLaw}
@@ -25,23 +25,23 @@ use Rattle.law_world.proofs.Reports.{refusal_is_not_final, committed_is_final}
 
 module _ (given : List Event) (before : List Action) (state : SiteState) (origin : Origin) (text : List ℕ) (receiving : ReceivesNext given before state origin text)
     (holds : Entered given state (world_after before).replies (world_after before).history) where
-  abbrev givens : List Given
+  abbrev givens : List ReportedReply
   givens = (world_after before).replies
 
   abbrev history : List Decided
   history = (world_after before).history
 
   abbrev After : Planned → Type 0
-  After came = Entered given came.after (givens ++ map given_of came.outs.replies) (history ++ came.outs.decided)
+  After came = Entered given came.after (givens ++ map reported_reply came.outs.replies) (history ++ came.outs.decided)
 
   home : origin.site ≡ state.who.me
   home = receiving.post.site ∙ sym receiving.stands.one.me
 
-  without_entry : (next : SiteState) (more : List Given) → Entered given next (givens ++ more) history → Entered given next (givens ++ more) (history ++ [])
+  without_entry : (next : SiteState) (more : List ReportedReply) → Entered given next (givens ++ more) history → Entered given next (givens ++ more) (history ++ [])
   without_entry next more entered = subst (λ (h : List Decided). Entered given next (givens ++ more) h) (sym (append-nil history)) entered
 
   on_nothing : Entered given state (givens ++ []) (history ++ [])
-  on_nothing = without_entry state [] (subst (λ (gs : List Given). Entered given state gs history) (sym (append-nil givens)) holds)
+  on_nothing = without_entry state [] (subst (λ (gs : List ReportedReply). Entered given state gs history) (sym (append-nil givens)) holds)
 
   on_replied : (next : SiteState) (reply : Reply) → (IsCommitted reply → (i : ℕ) × IsMeaningAt 1 history i (record { origin = origin; reply = reply })) → Entered given next givens history
       → Entered given next (givens ++ (record { origin = origin; reply = reply }) ∷ []) (history ++ [])

@@ -10,7 +10,7 @@ use Rattle.rs_site.specs.State.{SiteState}
 use Rattle.rs_site.specs.Step.{site_step}
 use Rattle.rs_course.specs.declared.input.Input.{Input}
 use Rattle.std.proofs.Common.{ℕ, Option, Some, None}
-use Rattle.rs_course.specs.declared.report.Given.{Given}
+use Rattle.rs_course.specs.declared.report.ReportedReply.{ReportedReply}
 use Rattle.rs_course.specs.Course.{Action, Open, Post, Give, GiveNext, Lose, Tick, Stop, Arm, Restart, Noise, gives, taken, without}
 use Rattle.rs_site.specs.Course.{stepped, stepped_by, act}
 use Rattle.rs_site.specs.Moments.{world_after}
@@ -20,7 +20,7 @@ use Rattle.law_world.proofs.Fresh.{grows_entries}
 
 -- what was given and committed stays, and no stored section runs
 pub record Grows (world next : World) : Type 0 where
-  pub givens : List Given
+  pub givens : List ReportedReply
   pub replies : next.replies ≡ world.replies ++ givens
   pub entries : List Decided
   pub history : next.history ≡ world.history ++ entries
@@ -32,7 +32,7 @@ grows_not world next replies history runs = record { givens = []; replies = repl
 grows_twice : (a b c : World) → Grows a b → Grows b c → Grows a c
 grows_twice a b c first second = record {
   givens = first.givens ++ second.givens;
-  replies = second.replies ∙ ap (λ (xs : List Given). xs ++ second.givens) first.replies ∙ append_assoc a.replies first.givens second.givens;
+  replies = second.replies ∙ ap (λ (xs : List ReportedReply). xs ++ second.givens) first.replies ∙ append_assoc a.replies first.givens second.givens;
   entries = first.entries ++ second.entries;
   history = second.history ∙ ap (λ (xs : List Decided). xs ++ second.entries) first.history ∙ append_assoc a.history first.entries second.entries;
   runs = second.runs ∙ first.runs;

@@ -15,7 +15,7 @@ use Rattle.rs_sched.specs.declared.event.Event.{Event}
 use Rattle.rs_course.specs.declared.outs.Decided.{Decided}
 use Rattle.rs_site.specs.Asking.{execution_of}
 use Rattle.rs_site.specs.State.{SiteState}
-use Rattle.rs_course.specs.declared.report.Given.{Given}
+use Rattle.rs_course.specs.declared.report.ReportedReply.{ReportedReply}
 use Rattle.rs_course.specs.declared.report.SiteView.{SiteView}
 use Rattle.rs_course.specs.Course.{Action, Open}
 use Rattle.rs_site.specs.Course.{course}
@@ -99,7 +99,7 @@ module _ (given : List Event) (can : Playable given) where
   pub entries_asked : (i : ℕ) (entry : Decided) → slice_get (course given).history i ≡ Some entry → Accepts given entry.origin entry.text
   entries_asked i entry at = (end.holds.entries i entry at).accepts
 
-  pub answers_are_meaning : (k : ℕ) (reported : Given) → slice_get (course given).replies k ≡ Some reported → IsCommitted reported.reply → (i : ℕ) × IsMeaningAt 1 (course given).history i reported
+  pub answers_are_meaning : (k : ℕ) (reported : ReportedReply) → slice_get (course given).replies k ≡ Some reported → IsCommitted reported.reply → (i : ℕ) × IsMeaningAt 1 (course given).history i reported
   answers_are_meaning k reported at committed = end.holds.answers k reported at committed
 
   -- in each state the database of a site that is up is that of the history so far

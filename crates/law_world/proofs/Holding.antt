@@ -13,7 +13,7 @@ use Rattle.rs_course.specs.declared.outs.Decided.{Decided}
 use Rattle.rs_site.specs.Planned.{Planned}
 use Rattle.rs_site.specs.State.{SiteState, opened}
 use Rattle.rs_site.proofs.Asked.{Asked, Refused, RepliedAgain, Silent, NoRequest, Spent, Executed}
-use Rattle.rs_course.specs.declared.report.Given.{Given}
+use Rattle.rs_course.specs.declared.report.ReportedReply.{ReportedReply}
 use Rattle.rs_site.specs.World.{World}
 use Rattle.rs_course.specs.Played.{are_accepted}
 use Rattle.rs_course.specs.Course.{Action, Open, Post, GiveNext}
@@ -30,7 +30,7 @@ use Rattle.law_world.proofs.Reports.{reported_keeps}
 abbrev pub ArePosted : List Action → List Decided → Type 0
 ArePosted before history = (i : ℕ) (entry : Decided) → slice_get history i ≡ Some entry → Contains before (Post entry.origin entry.text)
 
-pub record Holds (all : List Event) (before : List Action) (site : SiteState) (reports : List Given) (history : List Decided) : Type 0 where
+pub record Holds (all : List Event) (before : List Action) (site : SiteState) (reports : List ReportedReply) (history : List Decided) : Type 0 where
   pub kept : Kept all site reports history
   pub posted : ArePosted before history
 

@@ -12,7 +12,7 @@ use Rattle.rs_session.specs.Sessions.{Book, session_of, with_session}
 use Rattle.rs_site.specs.State.{SiteState}
 use Rattle.rs_site.proofs.Asked.{IsNext}
 use Rattle.rs_session.proofs.PutSessions.{session_put, session_beside, user_is}
-use Rattle.rs_course.specs.declared.report.Given.{Given}
+use Rattle.rs_course.specs.declared.report.ReportedReply.{ReportedReply}
 use Rattle.law_world.specs.Explains.{IsFinal, IsCommitted, IsGivenTruly, IsNoRequest}
 use Rattle.law_world.proofs.Gets.{get_push}
 
@@ -28,12 +28,12 @@ pub record IsEntered (history : List Decided) (request : Origin) : Type 0 where
   pub origin : entry.origin ≡ request
 
 -- the reply is the one stored for its user's last request
-pub record IsKept (site : SiteState) (reported : Given) : Type 0 where
+pub record IsKept (site : SiteState) (reported : ReportedReply) : Type 0 where
   pub number : reported.origin.number ≡ (session_of reported.origin.user site.desk.sessions).last
   pub reply : (session_of reported.origin.user site.desk.sessions).reply ≡ Some reported.reply
 
 -- it is that, or that of an earlier request
-abbrev pub IsSettled : SiteState → Given → Type 0
+abbrev pub IsSettled : SiteState → ReportedReply → Type 0
 IsSettled site reported = (reported.origin.number < (session_of reported.origin.user site.desk.sessions).last) ⊎ IsKept site reported
 
 -- the stored replies
@@ -47,14 +47,14 @@ IsKeepable (replies.OldEpoch epoch) = ⊥
 IsKeepable (replies.OldRequest last) = ⊥
 IsKeepable (replies.Gap last) = ⊥
 
-pub record Kept (all : List Event) (site : SiteState) (reports : List Given) (history : List Decided) : Type 0 where
-  pub truly : (k : ℕ) (reported : Given) → slice_get reports k ≡ Some reported → IsGivenTruly all k reported
-  pub syntax_replied : (k position : ℕ) (reported : Given) → slice_get reports k ≡ Some reported → reported.reply ≡ replies.Syntax position → IsNoRequest all reported.origin position
+pub record Kept (all : List Event) (site : SiteState) (reports : List ReportedReply) (history : List Decided) : Type 0 where
+  pub truly : (k : ℕ) (reported : ReportedReply) → slice_get reports k ≡ Some reported → IsGivenTruly all k reported
+  pub syntax_replied : (k position : ℕ) (reported : ReportedReply) → slice_get reports k ≡ Some reported → reported.reply ≡ replies.Syntax position → IsNoRequest all reported.origin position
   pub syntax_kept : (user : List ℕ) (position : ℕ) → (session_of user site.desk.sessions).reply ≡ Some (replies.Syntax position) → IsNoRequest all (last_origin site user) position
   pub keepable : (user : List ℕ) (reply : Reply) → (session_of user site.desk.sessions).reply ≡ Some reply → IsKeepable reply
-  pub settled : (k : ℕ) (reported : Given) → slice_get reports k ≡ Some reported → IsFinal reported.reply → IsSettled site reported
-  pub again : (k l : ℕ) (a b : Given) → slice_get reports k ≡ Some a → slice_get reports l ≡ Some b → a.origin ≡ b.origin → IsFinal a.reply → IsFinal b.reply → a.reply ≡ b.reply
-  pub entered_replied : (k : ℕ) (reported : Given) → slice_get reports k ≡ Some reported → IsCommitted reported.reply → IsEntered history reported.origin
+  pub settled : (k : ℕ) (reported : ReportedReply) → slice_get reports k ≡ Some reported → IsFinal reported.reply → IsSettled site reported
+  pub again : (k l : ℕ) (a b : ReportedReply) → slice_get reports k ≡ Some a → slice_get reports l ≡ Some b → a.origin ≡ b.origin → IsFinal a.reply → IsFinal b.reply → a.reply ≡ b.reply
+  pub entered_replied : (k : ℕ) (reported : ReportedReply) → slice_get reports k ≡ Some reported → IsCommitted reported.reply → IsEntered history reported.origin
   pub entered_kept : (user : List ℕ) (reply : Reply) → (session_of user site.desk.sessions).reply ≡ Some reply → IsCommitted reply → IsEntered history (last_origin site user)
 
 pub same_origin : (a b : Origin) → a.site ≡ b.site → a.user ≡ b.user → a.epoch ≡ b.epoch → a.number ≡ b.number → a ≡ b
@@ -71,11 +71,11 @@ entered_more history more request at = record { position = at.position; entry = 
 
 -- ---- a reply is given
 
-module _ (all : List Event) (site : SiteState) (reports : List Given) (history : List Decided) (holds : Kept all site reports history)
-    (reported : Given) (truly : IsGivenTruly all (length reports) reported)
+module _ (all : List Event) (site : SiteState) (reports : List ReportedReply) (history : List Decided) (holds : Kept all site reports history)
+    (reported : ReportedReply) (truly : IsGivenTruly all (length reports) reported)
     (syntax_is : (position : ℕ) → reported.reply ≡ replies.Syntax position → IsNoRequest all reported.origin position)
     (final : IsFinal reported.reply → IsKept site reported) (entered : IsCommitted reported.reply → IsEntered history reported.origin) where
-  meets : (k : ℕ) (a : Given) → slice_get reports k ≡ Some a → a.origin ≡ reported.origin → IsFinal a.reply → IsFinal reported.reply → a.reply ≡ reported.reply
+  meets : (k : ℕ) (a : ReportedReply) → slice_get reports k ≡ Some a → a.origin ≡ reported.origin → IsFinal a.reply → IsFinal reported.reply → a.reply ≡ reported.reply
   meets k a at same final_a final_replied =
       let now = final final_replied in
       let number : a.origin.number ≡ reported.origin.number = ap (λ (o : Origin). o.number) same in
@@ -85,44 +85,44 @@ module _ (all : List Event) (site : SiteState) (reports : List Given) (history :
         | inr kept ↦ let both : Some a.reply ≡ Some reported.reply = sym kept.reply ∙ ap (λ (s : Session). s.reply) session ∙ now.reply in cc
       ]
 
-  truly_next : (k : ℕ) (g : Given) → slice_get (reports ++ reported ∷ []) k ≡ Some g → IsGivenTruly all k g
+  truly_next : (k : ℕ) (g : ReportedReply) → slice_get (reports ++ reported ∷ []) k ≡ Some g → IsGivenTruly all k g
   truly_next k g at =
       elim (get_push reports reported g k at) [
         | inl p ↦ holds.truly k g p.1
-        | inr p ↦ subst (λ (n : ℕ). IsGivenTruly all n g) (sym p.0) (subst (λ (x : Given). IsGivenTruly all (length reports) x) p.1 truly)
+        | inr p ↦ subst (λ (n : ℕ). IsGivenTruly all n g) (sym p.0) (subst (λ (x : ReportedReply). IsGivenTruly all (length reports) x) p.1 truly)
       ]
 
-  syntax_next : (k position : ℕ) (g : Given) → slice_get (reports ++ reported ∷ []) k ≡ Some g → g.reply ≡ replies.Syntax position → IsNoRequest all g.origin position
+  syntax_next : (k position : ℕ) (g : ReportedReply) → slice_get (reports ++ reported ∷ []) k ≡ Some g → g.reply ≡ replies.Syntax position → IsNoRequest all g.origin position
   syntax_next k position g at =
       elim (get_push reports reported g k at) [
         | inl p ↦ holds.syntax_replied k position g p.1
-        | inr p ↦ subst (λ (x : Given). x.reply ≡ replies.Syntax position → IsNoRequest all x.origin position) p.1 (syntax_is position)
+        | inr p ↦ subst (λ (x : ReportedReply). x.reply ≡ replies.Syntax position → IsNoRequest all x.origin position) p.1 (syntax_is position)
       ]
 
-  settled_next : (k : ℕ) (g : Given) → slice_get (reports ++ reported ∷ []) k ≡ Some g → IsFinal g.reply → IsSettled site g
+  settled_next : (k : ℕ) (g : ReportedReply) → slice_get (reports ++ reported ∷ []) k ≡ Some g → IsFinal g.reply → IsSettled site g
   settled_next k g at =
       elim (get_push reports reported g k at) [
         | inl p ↦ holds.settled k g p.1
-        | inr p ↦ subst (λ (x : Given). IsFinal x.reply → IsSettled site x) p.1 (λ f. inr (final f))
+        | inr p ↦ subst (λ (x : ReportedReply). IsFinal x.reply → IsSettled site x) p.1 (λ f. inr (final f))
       ]
 
-  entered_next : (k : ℕ) (g : Given) → slice_get (reports ++ reported ∷ []) k ≡ Some g → IsCommitted g.reply → IsEntered history g.origin
+  entered_next : (k : ℕ) (g : ReportedReply) → slice_get (reports ++ reported ∷ []) k ≡ Some g → IsCommitted g.reply → IsEntered history g.origin
   entered_next k g at =
       elim (get_push reports reported g k at) [
         | inl p ↦ holds.entered_replied k g p.1
-        | inr p ↦ subst (λ (x : Given). IsCommitted x.reply → IsEntered history x.origin) p.1 entered
+        | inr p ↦ subst (λ (x : ReportedReply). IsCommitted x.reply → IsEntered history x.origin) p.1 entered
       ]
 
-  again_next : (k l : ℕ) (a b : Given) → slice_get (reports ++ reported ∷ []) k ≡ Some a → slice_get (reports ++ reported ∷ []) l ≡ Some b → a.origin ≡ b.origin → IsFinal a.reply → IsFinal b.reply → a.reply ≡ b.reply
+  again_next : (k l : ℕ) (a b : ReportedReply) → slice_get (reports ++ reported ∷ []) k ≡ Some a → slice_get (reports ++ reported ∷ []) l ≡ Some b → a.origin ≡ b.origin → IsFinal a.reply → IsFinal b.reply → a.reply ≡ b.reply
   again_next k l a b at_a at_b =
       elim (get_push reports reported a k at_a) [
         | inl p ↦ elim (get_push reports reported b l at_b) [
           | inl q ↦ holds.again k l a b p.1 q.1
-          | inr q ↦ subst (λ (x : Given). a.origin ≡ x.origin → IsFinal a.reply → IsFinal x.reply → a.reply ≡ x.reply) q.1 (meets k a p.1)
+          | inr q ↦ subst (λ (x : ReportedReply). a.origin ≡ x.origin → IsFinal a.reply → IsFinal x.reply → a.reply ≡ x.reply) q.1 (meets k a p.1)
         ]
         | inr p ↦ elim (get_push reports reported b l at_b) [
-          | inl q ↦ subst (λ (x : Given). x.origin ≡ b.origin → IsFinal x.reply → IsFinal b.reply → x.reply ≡ b.reply) p.1 (λ same final_replied final_b. sym (meets l b q.1 (sym same) final_b final_replied))
-          | inr q ↦ λ same final_a final_b. ap (λ (x : Given). x.reply) (sym p.1 ∙ q.1)
+          | inl q ↦ subst (λ (x : ReportedReply). x.origin ≡ b.origin → IsFinal x.reply → IsFinal b.reply → x.reply ≡ b.reply) p.1 (λ same final_replied final_b. sym (meets l b q.1 (sym same) final_b final_replied))
+          | inr q ↦ λ same final_a final_b. ap (λ (x : ReportedReply). x.reply) (sym p.1 ∙ q.1)
         ]
       ]
 
@@ -140,7 +140,7 @@ module _ (all : List Event) (site : SiteState) (reports : List Given) (history :
 
 ---- a request is accepted, and its reply stored
 
-module _ (all : List Event) (site : SiteState) (reports : List Given) (history : List Decided) (holds : Kept all site reports history)
+module _ (all : List Event) (site : SiteState) (reports : List ReportedReply) (history : List Decided) (holds : Kept all site reports history)
     (origin : Origin) (home : origin.site ≡ site.who.me) (next : IsNext site origin) (reply : Reply) (after : SiteState) (who : after.who ≡ site.who)
     (sessions : after.desk.sessions ≡ with_session origin.user (record { last = origin.number; reply = Some reply }) site.desk.sessions) (more : List Decided)
     (may_be : IsKeepable reply) (syntax_is : (position : ℕ) → reply ≡ replies.Syntax position → IsNoRequest all origin position) (entered : IsCommitted reply → IsEntered (history ++ more) origin) where
@@ -198,7 +198,7 @@ module _ (all : List Event) (site : SiteState) (reports : List Given) (history :
       ]
 
   -- the numbers of earlier replies are below
-  settled_after : (k : ℕ) (reported : Given) → slice_get reports k ≡ Some reported → IsFinal reported.reply → IsSettled after reported
+  settled_after : (k : ℕ) (reported : ReportedReply) → slice_get reports k ≡ Some reported → IsFinal reported.reply → IsSettled after reported
   settled_after k reported at final =
       let old = holds.settled k reported at final in
       elim (user_is reported.origin.user origin.user) [

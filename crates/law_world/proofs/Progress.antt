@@ -19,11 +19,11 @@ use Rattle.rs_site.specs.Planned.{Planned}
 use Rattle.rs_site.specs.State.{SiteState}
 use Rattle.rs_site.proofs.Asked.{Asked, Refused, RepliedAgain, Silent, NoRequest, Spent, Executed, asked}
 use Rattle.rs_session.proofs.PutSessions.{session_put, session_beside, user_is}
-use Rattle.rs_course.specs.declared.report.Given.{Given}
+use Rattle.rs_course.specs.declared.report.ReportedReply.{ReportedReply}
 use Rattle.rs_course.specs.declared.datagram.Datagram.{Datagram}
 use Rattle.rs_site.specs.World.{World}
 use Rattle.law_world.specs.Answered.{numbered, requests_answered}
-use Rattle.rs_course.specs.Course.{Action, Open, Post, Give, GiveNext, Lose, Tick, Stop, Arm, Restart, Noise, given_of, ask_datagram}
+use Rattle.rs_course.specs.Course.{Action, Open, Post, Give, GiveNext, Lose, Tick, Stop, Arm, Restart, Noise, reported_reply, ask_datagram}
 use Rattle.rs_site.specs.Course.{act}
 use Rattle.rs_site.proofs.Pending.{none_next}
 use Rattle.law_world.proofs.AtEach.{IsLaw, StateAt, at_each}
@@ -68,7 +68,7 @@ go_on_received site origin text came (NoRequest next none e) go = subst (λ (p :
 go_on_received site origin text came (Spent next stmt reads spent e) go = subst (λ (p : Planned). GoOn p.after) (sym e) go
 go_on_received site origin text came (Executed next stmt reads room e) go = subst (λ (p : Planned). GoOn p.after) (sym e) (go_on_remembering site origin _ go)
 
-abbrev pub Works : List Event → List Action → SiteState → List Given → List Decided → Type 0
+abbrev pub Works : List Event → List Action → SiteState → List ReportedReply → List Decided → Type 0
 Works given before site givens history = GoOn site × Entered given site givens history
 
 pub works_law : (given : List Event) → IsLaw given (Works given)
@@ -96,7 +96,7 @@ not_numbered origin none = ap (λ (n : ℕ). cond (n == 0) [] (origin ∷ [])) n
 
 module _ (site : SiteState) (origin : Origin) (text : List ℕ) (go : GoOn site) (room : site.desk.begun < last_number) where
   abbrev IsReplied : Planned → Type 0
-  IsReplied came = (requests_answered (map given_of came.outs.replies) ≡ numbered origin) × (length came.outs.decided ≤ 1)
+  IsReplied came = (requests_answered (map reported_reply came.outs.replies) ≡ numbered origin) × (length came.outs.decided ≤ 1)
 
   pub reported_once : (came : Planned) → Asked site (peers.Client 0) origin text came → IsReplied came
   reported_once came (Refused reply refusal is e) = subst IsReplied (sym e) (append-nil (numbered origin), omega arith)
@@ -174,15 +174,15 @@ module _ (done : List Action) (world : World) (now : Progress done world) where
 
   -- an ask that waited is received
   on_received : (site : SiteState) (post : Posting) → slice_get (posts_of done) (gone_count world) ≡ Some post → (came : Planned)
-      → requests_answered (map given_of came.outs.replies) ≡ numbered post.0 → length came.outs.decided ≤ 1 → (w : ℕ) → waiting done ≡ suc w
-      → Progress (done ++ GiveNext ∷ []) (onward world came.after (map given_of came.outs.replies) came.outs.decided)
+      → requests_answered (map reported_reply came.outs.replies) ≡ numbered post.0 → length came.outs.decided ≤ 1 → (w : ℕ) → waiting done ≡ suc w
+      → Progress (done ++ GiveNext ∷ []) (onward world came.after (map reported_reply came.outs.replies) came.outs.decided)
   on_received site post at came reported few w some = record {
     sent = now.sent ∙ ap (λ (ps : List Posting). map datagram_of ps) (sym posts_same);
     posts = λ i other there. now.posts i other (ap (λ (ps : List Posting). slice_get ps i) (sym posts_same) ∙ there);
     waits_for = omega (arith, now.waits_for, some, waiting_push done GiveNext, one_more);
     answered =
-        flat_map-append (λ (given : Given). numbered given.origin) world.replies (map given_of came.outs.replies)
-        ∙ ap (λ (os : List Origin). os ++ requests_answered (map given_of came.outs.replies)) now.answered
+        flat_map-append (λ (given : ReportedReply). numbered given.origin) world.replies (map reported_reply came.outs.replies)
+        ∙ ap (λ (os : List Origin). os ++ requests_answered (map reported_reply came.outs.replies)) now.answered
         ∙ ap (λ (os : List Origin). numbered_of (take (gone_count world) (posts_of done)) ++ os) (reported ∙ sym (append-nil (numbered post.0)))
         ∙ sym (flat_map-append (λ (p : Posting). numbered p.0) (take (gone_count world) (posts_of done)) (post ∷ []))
         ∙ ap numbered_of (sym (take-get (posts_of done) (gone_count world) post at))

@@ -15,9 +15,9 @@ use Rattle.rs_site.specs.Asking.{execution_of, reply_of, executed}
 use Rattle.rs_site.specs.Planned.{Planned}
 use Rattle.rs_site.specs.State.{SiteState, next_txn}
 use Rattle.rs_site.proofs.Asked.{Asked, Refused, RepliedAgain, Silent, NoRequest, Spent, Executed}
-use Rattle.rs_course.specs.declared.report.Given.{Given}
+use Rattle.rs_course.specs.declared.report.ReportedReply.{ReportedReply}
 use Rattle.rs_site.specs.World.{World}
-use Rattle.rs_course.specs.Course.{given_of}
+use Rattle.rs_course.specs.Course.{reported_reply}
 use Rattle.rs_site.specs.Course.{course}
 use Rattle.rs_mean.proofs.Meanings.{done_or_denied}
 use Rattle.law_world.specs.Answered.{IsReplied}
@@ -30,23 +30,23 @@ use Rattle.law_world.proofs.Kept.{get_prefix}
 use Rattle.law_world.proofs.Played.{Playable}
 use Rattle.law_world.proofs.Reports.{get_last}
 
-abbrev pub AreReported : List Given → List Decided → Type 0
+abbrev pub AreReported : List ReportedReply → List Decided → Type 0
 AreReported givens history = (i : ℕ) (entry : Decided) → slice_get history i ≡ Some entry → IsReplied givens entry
 
 nothing_at : {X : Type 0} (i : ℕ) (x : X) → slice_get [] i ≡ Some x → ⊥
 nothing_at i x e = cc
 
-reported_more : (givens more : List Given) (entry : Decided) → IsReplied givens entry → IsReplied (givens ++ more) entry
+reported_more : (givens more : List ReportedReply) (entry : Decided) → IsReplied givens entry → IsReplied (givens ++ more) entry
 reported_more givens more entry is = record { position = is.position; given = is.given; there = get_prefix givens more is.given is.position is.there; origin = is.origin; committed = is.committed }
 
 is_committed : (db : Database) (execution : Execution) → IsCommitted (reply_of (meaning db execution).1)
 is_committed db execution = done_or_denied db execution (λ outcome. IsCommitted (reply_of outcome)) (λ given. tt) (λ cause. tt)
 
-module _ (site : SiteState) (origin : Origin) (text : List ℕ) (givens : List Given) (history : List Decided) (holds : AreReported givens history) where
+module _ (site : SiteState) (origin : Origin) (text : List ℕ) (givens : List ReportedReply) (history : List Decided) (holds : AreReported givens history) where
   abbrev After : Planned → Type 0
-  After came = AreReported (givens ++ map given_of came.outs.replies) (history ++ came.outs.decided)
+  After came = AreReported (givens ++ map reported_reply came.outs.replies) (history ++ came.outs.decided)
 
-  no_entry : (more : List Given) → AreReported (givens ++ more) (history ++ [])
+  no_entry : (more : List ReportedReply) → AreReported (givens ++ more) (history ++ [])
   no_entry more i entry at = reported_more givens more entry (holds i entry (subst (λ (h : List Decided). slice_get h i ≡ Some entry) (append-nil history) at))
 
   on_executed : (stmt : Stmt) → After (executed site (peers.Client 0) origin text stmt)
@@ -62,7 +62,7 @@ module _ (site : SiteState) (origin : Origin) (text : List ℕ) (givens : List G
       new : Decided
       new = record { txn = next_txn site.who site.desk; origin = origin; text = text }
 
-      reported : Given
+      reported : ReportedReply
       reported = record { origin = origin; reply = reply_of outcome }
 
       new_replied : IsReplied (givens ++ reported ∷ []) new

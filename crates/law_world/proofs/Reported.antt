@@ -6,7 +6,7 @@ use Rattle.rs_base.specs.declared.txn.Origin.{Origin}
 use Rattle.rs_sched.specs.declared.event.Event.{Event}
 use Rattle.rs_sched.specs.Schedule.{IsValid}
 use Rattle.rs_course.specs.declared.outs.Decided.{Decided}
-use Rattle.rs_course.specs.declared.report.Given.{Given}
+use Rattle.rs_course.specs.declared.report.ReportedReply.{ReportedReply}
 use Rattle.rs_course.specs.Played.{are_accepted}
 use Rattle.rs_course.specs.Course.{Action, Post}
 use Rattle.rs_site.specs.Course.{course}
@@ -49,7 +49,7 @@ module _ (before : List Action) (prefix more : List Decided) (posted : ArePosted
         | inr le ↦ omega (arith, same, low, le)
       ]
 
-nothing_replied : (before : List Action) → before ≡ [] → (k : ℕ) (given : Given) → slice_get (world_after before).replies k ≡ Some given → ⊥
+nothing_replied : (before : List Action) → before ≡ [] → (k : ℕ) (given : ReportedReply) → slice_get (world_after before).replies k ≡ Some given → ⊥
 nothing_replied before none k given at = nothing (subst (λ (hs : List Action). slice_get (world_after hs).replies k ≡ Some given) none at)
   where
     nothing : slice_get [] k ≡ Some given → ⊥
@@ -58,7 +58,7 @@ nothing_replied before none k given at = nothing (subst (λ (hs : List Action). 
 -- since no two entries have one request, and the history in each state is a prefix of the last
 pub after_what_was_reported : (all : List Event) → IsValid all → IsTrue (are_accepted false all) → AreDistinct (report_of (course all)).history
     → ((before suffix : List Action) → actions all ≡ before ++ suffix → (more : List Decided) × ((report_of (course all)).history ≡ (world_after before).history ++ more))
-    → (before suffix : List Action) (k i j : ℕ) (given : Given) (a b : Decided)
+    → (before suffix : List Action) (k i j : ℕ) (given : ReportedReply) (a b : Decided)
     → actions all ≡ before ++ suffix
     → slice_get (world_after before).replies k ≡ Some given → IsCommitted given.reply
     → slice_get (report_of (course all)).history i ≡ Some a → a.origin ≡ given.origin

@@ -21,8 +21,8 @@ use Rattle.rs_site.specs.State.{SiteState, next_txn}
 use Rattle.rs_site.specs.Asking.{reply_of, execution_of, executed, remembering, with_reply}
 use Rattle.rs_site.specs.Truth.{IsTrueReply}
 use Rattle.rs_site.proofs.Asked.{Asked, Refused, RepliedAgain, Silent, NoRequest, Spent, Executed, IsRefusal, IsLast, IsNext}
-use Rattle.rs_course.specs.declared.report.Given.{Given}
-use Rattle.rs_course.specs.Course.{Action, given_of}
+use Rattle.rs_course.specs.declared.report.ReportedReply.{ReportedReply}
+use Rattle.rs_course.specs.Course.{Action, reported_reply}
 use Rattle.rs_course.specs.Moments.{ask_input}
 use Rattle.rs_site.specs.Moments.{world_after, Receives}
 use Rattle.law_world.specs.Explains.{IsFinal, IsCommitted, IsGivenTruly, IsNoRequest}
@@ -80,17 +80,17 @@ get_last (y ∷ ys) x = get_last ys x
 ---- an ask is received
 
 module _ (all : List Event) (before : List Action) (action : Action) (site : SiteState) (from : Peer) (origin : Origin) (text : List ℕ) (receives : Receives all before action site origin text)
-    (short : length text ≤ 8192) (home : origin.site ≡ site.who.me) (reports : List Given) (history : List Decided) (number : length (world_after before).replies ≡ length reports)
+    (short : length text ≤ 8192) (home : origin.site ≡ site.who.me) (reports : List ReportedReply) (history : List Decided) (number : length (world_after before).replies ≡ length reports)
     (holds : Kept all site reports history) where
-  abbrev replied_as : Reply → Given
+  abbrev replied_as : Reply → ReportedReply
   replied_as reply = record { origin = origin; reply = reply }
 
   -- the action by which it is received gives these replies
-  abbrev Gives : List Given → Type 0
+  abbrev Gives : List ReportedReply → Type 0
   Gives more = (world_after (before ++ action ∷ [])).replies ≡ reports ++ more
 
   abbrev After : Planned → Type 0
-  After came = Gives (map given_of came.outs.replies) → Kept all came.after (reports ++ map given_of came.outs.replies) (history ++ came.outs.decided)
+  After came = Gives (map reported_reply came.outs.replies) → Kept all came.after (reports ++ map reported_reply came.outs.replies) (history ++ came.outs.decided)
 
   truly_as : (reply : Reply) → Gives (replied_as reply ∷ []) → IsTrueReply site origin reply → IsGivenTruly all (length reports) (replied_as reply)
   truly_as reply gives is = record {
@@ -101,15 +101,15 @@ module _ (all : List Event) (before : List Action) (action : Action) (site : Sit
     step = receives.step;
     home = receives.home;
     first = omega (arith, number);
-    gives = ap (λ (gs : List Given). slice_get gs (length reports)) gives ∙ get_last reports (replied_as reply);
+    gives = ap (λ (gs : List ReportedReply). slice_get gs (length reports)) gives ∙ get_last reports (replied_as reply);
     true = is;
   }
 
-  without_entry : (more : List Given) → Kept all site (reports ++ more) history → Kept all site (reports ++ more) (history ++ [])
+  without_entry : (more : List ReportedReply) → Kept all site (reports ++ more) history → Kept all site (reports ++ more) (history ++ [])
   without_entry more kept = subst (λ (h : List Decided). Kept all site (reports ++ more) h) (sym (append-nil history)) kept
 
   on_nothing : Gives [] → Kept all site (reports ++ []) (history ++ [])
-  on_nothing gives = without_entry [] (subst (λ (t : List Given). Kept all site t history) (sym (append-nil reports)) holds)
+  on_nothing gives = without_entry [] (subst (λ (t : List ReportedReply). Kept all site t history) (sym (append-nil reports)) holds)
 
   on_refusal : (reply : Reply) → IsRefusal reply → IsTrueReply site origin reply → Gives (replied_as reply ∷ []) → Kept all site (reports ++ replied_as reply ∷ []) (history ++ [])
   on_refusal reply refusal is gives = without_entry (replied_as reply ∷ []) (said all site reports history holds (replied_as reply) (truly_as reply gives is)

@@ -10,7 +10,7 @@ use Rattle.rs_site.specs.declared.who.Who.{Who}
 use Rattle.rs_site.specs.Planned.{Planned}
 use Rattle.rs_site.specs.State.{SiteState, opened}
 use Rattle.rs_site.proofs.Asked.{Asked, Refused, RepliedAgain, Silent, NoRequest, Spent, Executed}
-use Rattle.rs_course.specs.declared.report.Given.{Given}
+use Rattle.rs_course.specs.declared.report.ReportedReply.{ReportedReply}
 use Rattle.rs_course.specs.declared.datagram.Datagram.{Datagram}
 use Rattle.rs_site.specs.World.{World}
 use Rattle.rs_course.specs.Course.{Action, Open, Post, ask_datagram}
@@ -69,7 +69,7 @@ module _ (before : List Action) (world : World) (site : SiteState) (stands : Sta
             | inr p ↦ subst (λ (d : Datagram). IsAsked (before ++ action ∷ []) d) p.1 new
           ]
 
-  pub stands_received : (next : SiteState) (givens : List Given) (entries : List Decided) → next.who ≡ site.who → AreBelow next (world.history ++ entries) → Stands (before ++ action ∷ []) (onward world next givens entries) next
+  pub stands_received : (next : SiteState) (givens : List ReportedReply) (entries : List Decided) → next.who ≡ site.who → AreBelow next (world.history ++ entries) → Stands (before ++ action ∷ []) (onward world next givens entries) next
   stands_received next givens entries same below = record {
     one = record {
       sites = refl;

@@ -12,9 +12,9 @@ use Rattle.rs_site.specs.Asking.{on_first}
 use Rattle.rs_site.specs.Planned.{Planned}
 use Rattle.rs_site.specs.State.{SiteState}
 use Rattle.rs_site.proofs.Asked.{Asked, Refused, RepliedAgain, Silent, NoRequest, Spent, Executed, asked}
-use Rattle.rs_course.specs.declared.report.Given.{Given}
+use Rattle.rs_course.specs.declared.report.ReportedReply.{ReportedReply}
 use Rattle.rs_course.specs.declared.datagram.Datagram.{Datagram}
-use Rattle.rs_course.specs.Course.{Action, Post, GiveNext, sent_by, given_of, ask_datagram}
+use Rattle.rs_course.specs.Course.{Action, Post, GiveNext, sent_by, reported_reply, ask_datagram}
 use Rattle.rs_site.specs.Course.{act}
 use Rattle.rs_course.specs.History.{with_entries}
 use Rattle.rs_site.specs.World.{World}
@@ -30,7 +30,7 @@ pub record IsReceived (before : List Action) (world : World) (action : Action) (
   pub next : slice_get world.sent (gone_count world) ≡ Some (ask_datagram origin text)
 
 -- the world after a delivery: its site is this one now, and it gave these replies and committed these executions
-abbrev pub onward : World → SiteState → List Given → List Decided → World
+abbrev pub onward : World → SiteState → List ReportedReply → List Decided → World
 onward world site givens entries = record {
   sites = place_of site ∷ [];
   sent = world.sent;
@@ -44,7 +44,7 @@ pub data Turns (before : List Action) (world : World) (site : SiteState) (action
   Posted : (origin : Origin) → (text : List ℕ) → IsPost origin text → action ≡ Post origin text → next ≡ record world { sent = world.sent ++ ask_datagram origin text ∷ [] } → Turns before world site action next
   Stayed : next ≡ world → Turns before world site action next
   Received : (origin : Origin) → (text : List ℕ) → IsReceived before world action origin text → (came : Planned) → Asked site (peers.Client 0) origin text came
-      → next ≡ onward world came.after (map given_of came.outs.replies) came.outs.decided → Turns before world site action next
+      → next ≡ onward world came.after (map reported_reply came.outs.replies) came.outs.decided → Turns before world site action next
 
 no_sends : (site : SiteState) (from : Peer) (origin : Origin) (text : List ℕ) (came : Planned) → Asked site from origin text came → came.outs.sends ≡ []
 no_sends site from origin text came (Refused reply is true e) = ap (λ (p : Planned). p.outs.sends) e
@@ -63,18 +63,18 @@ no_runs site from origin text came (Spent next stmt reads spent e) = ap (λ (p :
 no_runs site from origin text came (Executed next stmt reads room e) = ap (λ (p : Planned). p.outs.runs) e
 
 receives_on : (world : World) (came : Planned) → came.outs.sends ≡ [] → came.outs.runs ≡ [] → with_entries world.history came.outs.decided ≡ world.history ++ came.outs.decided
-    → receiving world came ≡ onward world came.after (map given_of came.outs.replies) came.outs.decided
+    → receiving world came ≡ onward world came.after (map reported_reply came.outs.replies) came.outs.decided
 receives_on world came none unrun fresh =
     let runs : world.runs ++ came.outs.runs ≡ world.runs = ap (λ (more : List RunOf). world.runs ++ more) unrun ∙ append-nil world.runs in
     let sent : world.sent ++ flat_map (sent_by 1) came.outs.sends ≡ world.sent = ap (λ (sends : List (Peer × List ℕ)). world.sent ++ flat_map (sent_by 1) sends) none ∙ append-nil world.sent in
-    ap (λ (all : List Datagram). record (onward world came.after (map given_of came.outs.replies) []) { sent = all; history = with_entries world.history came.outs.decided; runs = world.runs ++ came.outs.runs }) sent
-    ∙ ap (λ (history : List Decided). record (onward world came.after (map given_of came.outs.replies) []) { history = history; runs = world.runs ++ came.outs.runs }) fresh
-    ∙ ap (λ (all : List RunOf). record (onward world came.after (map given_of came.outs.replies) came.outs.decided) { runs = all }) runs
+    ap (λ (all : List Datagram). record (onward world came.after (map reported_reply came.outs.replies) []) { sent = all; history = with_entries world.history came.outs.decided; runs = world.runs ++ came.outs.runs }) sent
+    ∙ ap (λ (history : List Decided). record (onward world came.after (map reported_reply came.outs.replies) []) { history = history; runs = world.runs ++ came.outs.runs }) fresh
+    ∙ ap (λ (all : List RunOf). record (onward world came.after (map reported_reply came.outs.replies) came.outs.decided) { runs = all }) runs
 
 -- the world after the delivery of the ask that waits longest
 pub turns_received : (before : List Action) (world : World) (site : SiteState) → IsOf world site → AreBelow site world.history → (origin : Origin) (text : List ℕ) → IsPost origin text
     → slice_get world.sent (gone_count world) ≡ Some (ask_datagram origin text)
-    → act world GiveNext ≡ onward world (on_first site (peers.Client 0) origin text).after (map given_of (on_first site (peers.Client 0) origin text).outs.replies) (on_first site (peers.Client 0) origin text).outs.decided
+    → act world GiveNext ≡ onward world (on_first site (peers.Client 0) origin text).after (map reported_reply (on_first site (peers.Client 0) origin text).outs.replies) (on_first site (peers.Client 0) origin text).outs.decided
 turns_received before world site one below origin text post there =
     let from = peers.Client 0 in
     let came = on_first site from origin text in

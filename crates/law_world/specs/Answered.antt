@@ -10,7 +10,7 @@ use Rattle.rs_sched.specs.declared.event.Event.TheVariants as events
 use Rattle.rs_site.specs.Asking.{last_number}
 use Rattle.rs_site.specs.Statement.{statement_of, offset_replied}
 use Rattle.rs_course.specs.declared.outs.Decided.{Decided}
-use Rattle.rs_course.specs.declared.report.Given.{Given}
+use Rattle.rs_course.specs.declared.report.ReportedReply.{ReportedReply}
 use Rattle.rs_course.specs.declared.report.Report.{Report}
 use Rattle.rs_site.specs.Course.{course}
 use Rattle.rs_site.specs.History.{database_of}
@@ -41,7 +41,7 @@ abbrev pub requests_asked : List Event → List Origin
 requests_asked given = flat_map asked_by given
 
 -- the requests that are answered, in the order of the replies, as often as they are
-abbrev pub requests_answered : List Given → List Origin
+abbrev pub requests_answered : List ReportedReply → List Origin
 requests_answered givens = flat_map (λ given. numbered given.origin) givens
 
 -- the history has an entry of this request, with this text
@@ -53,9 +53,9 @@ pub record IsEntered (history : List Decided) (origin : Origin) (text : List ℕ
   pub text_is : entry.text ≡ text
 
 -- A reply reports to the request of this entry that it is committed.
-pub record IsReplied (givens : List Given) (entry : Decided) : Type 0 where
+pub record IsReplied (givens : List ReportedReply) (entry : Decided) : Type 0 where
   pub position : ℕ
-  pub given : Given
+  pub given : ReportedReply
   pub there : slice_get givens position ≡ Some given
   pub origin : given.origin ≡ entry.origin
   pub committed : IsCommitted given.reply
@@ -64,13 +64,17 @@ pub record EachAskIsAnswered (given : List Event) (report : Report) : Type 0 whe
   -- the replies answer the requests that are asked, each ask once, in their order
   pub in_order : requests_answered report.replies ≡ requests_asked given
   -- so do the replies after each settle, of what was asked before it
-  pub settled : (before suffix : List Event) → given ≡ before ++ events.Settle None ∷ suffix → requests_answered (course (before ++ events.Settle None ∷ [])).replies ≡ requests_asked before
+  pub settled : (before suffix : List Event) → given ≡ before ++ events.Settle None ∷ suffix
+      → requests_answered (course (before ++ events.Settle None ∷ [])).replies ≡ requests_asked before
   -- each entry has its reply
   pub entries_replied : (i : ℕ) (entry : Decided) → slice_get report.history i ≡ Some entry → IsReplied report.replies entry
   -- a request that its site accepts is entered
-  pub entered : (origin : Origin) (text : List ℕ) (stmt : Stmt) → Contains given (events.Ask origin text) → Accepts given origin text → statement_of text ≡ Some stmt → IsEntered report.history origin text
+  pub entered : (origin : Origin) (text : List ℕ) (stmt : Stmt) → Contains given (events.Ask origin text)
+      → Accepts given origin text → statement_of text ≡ Some stmt → IsEntered report.history origin text
   -- a text without a supported statement is answered so
-  pub no_request_replied : (origin : Origin) (text : List ℕ) → Contains given (events.Ask origin text) → Accepts given origin text → statement_of text ≡ None → Contains report.replies (record { origin = origin; reply = replies.Syntax (offset_replied text) })
+  pub no_request_replied : (origin : Origin) (text : List ℕ) → Contains given (events.Ask origin text)
+      → Accepts given origin text → statement_of text ≡ None
+      → Contains report.replies (record { origin = origin; reply = replies.Syntax (offset_replied text) })
   -- each site is up, in its first epoch, and shows the tables of the whole history that it stores
   pub sites_are_up : report.sites ≡ map (λ number. record { site = number; up = Some 1; tables = tables_at number (database_of (sites_of given) report.history) }) (range_with_len 1 (sites_of given))
 

@@ -12,12 +12,14 @@ ghost use Rattle.law_world.specs.Explains.{Explains};
 
 /// The report of the course of each valid and accepted list of events explains them.
 pub fn explained()
-    ensures { (events : List Event) → IsValid events → IsTrue (are_accepted false events) → Explains events (report_of (course events)) }
+    ensures { (events : List Event) → IsValid events → IsTrue (are_accepted false events)
+        → Explains events (report_of (course events)) }
 {}
 
 /// By the report of the course of each valid, accepted and calm list of fewer than 2 ^ 64 - 1 events each ask is answered.
 pub fn answered()
-    ensures { (events : List Event) → IsValid events → IsTrue (are_accepted false events) → IsTrue (is_calm false events) → HaveTransactions events → EachAskIsAnswered events (report_of (course events)) }
+    ensures { (events : List Event) → IsValid events → IsTrue (are_accepted false events) → IsTrue (is_calm false events)
+        → HaveTransactions events → EachAskIsAnswered events (report_of (course events)) }
 {}
 
 /// Each accepted list of events is calm, so far.

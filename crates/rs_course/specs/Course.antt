@@ -19,7 +19,7 @@ use Rattle.rs_course.specs.declared.input.Input.{Input}
 use Rattle.rs_course.specs.declared.input.Input.TheVariants as inputs
 use Rattle.rs_course.specs.declared.outs.Decided.{Decided}
 use Rattle.rs_course.specs.declared.outs.Outs.{Outs}
-use Rattle.rs_course.specs.declared.report.Given.{Given}
+use Rattle.rs_course.specs.declared.report.ReportedReply.{ReportedReply}
 use Rattle.rs_course.specs.History.{with_entries}
 use Rattle.rs_course.specs.Rules.{Rules}
 use Rattle.rs_course.specs.World.{World, start, site_at}
@@ -113,14 +113,14 @@ abbrev pub sent_by : ℕ → Peer × List ℕ → List Datagram
 sent_by site (peers.Site to, bytes) = (record { from = peers.Site site; to = to; bytes = bytes }) ∷ []
 sent_by site (peers.Client port, bytes) = []
 
-abbrev pub given_of : Told → Given
-given_of reported = record { origin = reported.origin; reply = reported.reply }
+abbrev pub reported_reply : Told → ReportedReply
+reported_reply reported = record { origin = reported.origin; reply = reported.reply }
 
 -- the output of a step of this site
 abbrev pub after_outs : {Site : Type 0} → World Site → ℕ → Outs → World Site
 after_outs world site outs = record world {
   sent = world.sent ++ flat_map (sent_by site) outs.sends;
-  replies = world.replies ++ map given_of outs.replies;
+  replies = world.replies ++ map reported_reply outs.replies;
   history = with_entries world.history outs.decided;
   runs = world.runs ++ outs.runs;
 }

@@ -5,7 +5,7 @@ use Rattle.rs_base.specs.Reading.{◌>>=◌}
 use Rattle.rs_course.specs.declared.datagram.Datagram.{Datagram}
 use Rattle.rs_course.specs.declared.outs.Decided.{Decided}
 use Rattle.rs_course.specs.declared.outs.RunOf.{RunOf}
-use Rattle.rs_course.specs.declared.report.Given.{Given}
+use Rattle.rs_course.specs.declared.report.ReportedReply.{ReportedReply}
 
 -- the place of a site, and the site's state while it is up
 pub record Place (Site : Type 0) : Type 0 where
@@ -17,7 +17,7 @@ pub record World (Site : Type 0) : Type 0 where
   pub sites : List (Place Site)
   pub sent : List Datagram
   pub gone : List ℕ
-  pub replies : List Given
+  pub replies : List ReportedReply
   pub history : List Decided
   pub runs : List RunOf
 

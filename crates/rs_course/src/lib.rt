@@ -10,4 +10,4 @@ mod report;
 pub use datagram::Datagram;
 pub use input::Input;
 pub use outs::{Decided, Decideds, Outs, RunOf, Runs};
-pub use report::{Given, ReplyList, Report, SiteView, SiteViews, TableView, TableViews};
+pub use report::{ReplyList, Report, ReportedReply, SiteView, SiteViews, TableView, TableViews};

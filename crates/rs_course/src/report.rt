@@ -7,13 +7,13 @@ use sqlite_items::Items;
 
 /// A reply, and the request that it answers, as it was asked.
 #[derive(Drop)]
-pub struct Given {
+pub struct ReportedReply {
     pub origin: Origin,
     pub reply: Reply,
 }
 
 /// Replies in the order in which they were given.
-pub type ReplyList = Items<Given>;
+pub type ReplyList = Items<ReportedReply>;
 
 /// A table that a site stores: its name, the transaction that created it, and its rows in order of insertion.
 #[derive(Drop)]

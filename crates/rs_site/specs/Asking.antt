@@ -27,7 +27,9 @@ use Rattle.rs_session.specs.Parts.{has_part}
 
 -- one part of a reply is sent to a peer
 abbrev pub reply_with : Peer → Origin → ℕ → Reply → Outs
-reply_with to origin part reply = record no_outs { replies = (record { peer = to; origin = origin; part = part; reply = reply }) ∷ [] }
+reply_with to origin part reply = record no_outs {
+  replies = (record { peer = to; origin = origin; part = part; reply = reply }) ∷ [];
+}
 
 -- the site stays, and this part of a reply goes out
 abbrev pub replying : Peer → Origin → ℕ → Reply → SiteState → Planned

@@ -33,17 +33,21 @@ last_of user desk = (session_of user desk.sessions).last
 
 -- each user's last number, and the count of transactions, never fall
 abbrev pub NumbersRise : Type 0
-NumbersRise = (site : SiteState) (input : Input) → ((user : List ℕ) → last_of user site.desk ≤ last_of user (after site input).desk) × (site.desk.begun ≤ (after site input).desk.begun)
+NumbersRise = (site : SiteState) (input : Input) → ((user : List ℕ) → last_of user site.desk ≤ last_of user (after site input).desk)
+    × (site.desk.begun ≤ (after site input).desk.begun)
 
 -- an ask whose number isn't above the user's last changes nothing, and nothing is committed
 abbrev pub RepeatsRunNothing : Type 0
-RepeatsRunNothing = (site : SiteState) (from : Peer) (bytes : List ℕ) (ask : Ask) → IsMessage bytes (messages.Ask ask) → ask.number ≤ last_of ask.user site.desk
+RepeatsRunNothing = (site : SiteState) (from : Peer) (bytes : List ℕ) (ask : Ask) → IsMessage bytes (messages.Ask ask)
+    → ask.number ≤ last_of ask.user site.desk
     → (after site (inputs.Datagram from bytes) ≡ site) × ((outs_of site (inputs.Datagram from bytes)).decided ≡ [])
 
 -- an ask of the user's last request, in the site's epoch, gets the stored reply, and changes nothing
 abbrev pub KeptReplyIsRepeated : Type 0
-KeptReplyIsRepeated = (site : SiteState) (from : Peer) (bytes : List ℕ) (ask : Ask) (reply : Reply) → IsMessage bytes (messages.Ask ask)
-    → ask.part ≡ 0 → ask.epoch ≡ site.who.epoch → ask.number ≡ last_of ask.user site.desk → (session_of ask.user site.desk.sessions).reply ≡ Some reply
+KeptReplyIsRepeated = (site : SiteState) (from : Peer) (bytes : List ℕ) (ask : Ask) (reply : Reply)
+    → IsMessage bytes (messages.Ask ask)
+    → ask.part ≡ 0 → ask.epoch ≡ site.who.epoch → ask.number ≡ last_of ask.user site.desk
+    → (session_of ask.user site.desk.sessions).reply ≡ Some reply
     → site_step site (inputs.Datagram from bytes) ≡ (site, reply_with from (origin_of site.who ask) 0 reply)
 
 -- The entry is of the site's next transaction, and the site's database is the meaning of its statement.
@@ -87,12 +91,14 @@ pub record IsAnswered (site : SiteState) (from : Peer) (ask : Ask) (reply : Repl
 
 -- A text without a supported statement is answered so, and nothing is committed. A statement is committed, and its reply is its outcome.
 abbrev pub IsAcceptedAs : SiteState → Peer → Ask → Option Stmt → SiteState → Outs → Type 0
-IsAcceptedAs site from ask None new outs = IsAnswered site from ask (replies.Syntax (offset_replied ask.text)) new outs × (outs.decided ≡ [])
+IsAcceptedAs site from ask None new outs = IsAnswered site from ask (replies.Syntax (offset_replied ask.text)) new outs
+    × (outs.decided ≡ [])
 IsAcceptedAs site from ask (Some stmt) new outs =
     IsAnswered site from ask (reply_of (meaning site.held.database (execution_of (next_txn site.who site.desk) (origin_of site.who ask) stmt)).1) new outs
     × (outs.decided ≡ (record { txn = next_txn site.who site.desk; origin = origin_of site.who ask; text = ask.text }) ∷ [])
 
 -- the next ask of a user is accepted, while the epoch has a transaction left
 abbrev pub NextIsAccepted : Type 0
-NextIsAccepted = (site : SiteState) (from : Peer) (bytes : List ℕ) (ask : Ask) → IsMessage bytes (messages.Ask ask) → IsNextAsk site ask → site.desk.begun < last_number
+NextIsAccepted = (site : SiteState) (from : Peer) (bytes : List ℕ) (ask : Ask) → IsMessage bytes (messages.Ask ask)
+    → IsNextAsk site ask → site.desk.begun < last_number
     → IsAcceptedAs site from ask (statement_of ask.text) (after site (inputs.Datagram from bytes)) (outs_of site (inputs.Datagram from bytes))

@@ -19,5 +19,8 @@ IsTrueReply site origin (replies.Failed reason) = ⊥
 IsTrueReply site origin (replies.Shown lines) = ⊥
 IsTrueReply site origin (replies.Syntax offset) = Unit {0}
 IsTrueReply site origin (replies.OldEpoch epoch) = (epoch ≡ site.who.epoch) × (origin.epoch ≢ site.who.epoch)
-IsTrueReply site origin (replies.OldRequest last) = (origin.epoch ≡ site.who.epoch) × (last ≡ (session_of origin.user site.desk.sessions).last) × (origin.number < last)
-IsTrueReply site origin (replies.Gap last) = (origin.epoch ≡ site.who.epoch) × (last ≡ (session_of origin.user site.desk.sessions).last) × IsAhead (session_of origin.user site.desk.sessions) origin.number
+IsTrueReply site origin (replies.OldRequest last) = (origin.epoch ≡ site.who.epoch)
+    × (last ≡ (session_of origin.user site.desk.sessions).last) × (origin.number < last)
+IsTrueReply site origin (replies.Gap last) = (origin.epoch ≡ site.who.epoch)
+    × (last ≡ (session_of origin.user site.desk.sessions).last)
+    × IsAhead (session_of origin.user site.desk.sessions) origin.number

@@ -36,7 +36,8 @@ fn report_of(
     txn: Txn,
     answer: Result<Answer, Denial>,
 ) -> Result<(Outs, Reply), NoMemory>
-    ensures outs { IfOk result (λ made. made.0 ≡ spec.reported from.now origin.now text txn (spec.reply_of (outcome_of answer))) }
+    ensures outs { IfOk result (λ made. made.0
+        ≡ spec.reported from.now origin.now text txn (spec.reply_of (outcome_of answer))) }
     ensures reply { IfOk result (λ made. made.1 ≡ spec.reply_of (outcome_of answer)) }
 {
     let reply = reply_of(alloc, answer)?;
@@ -69,7 +70,8 @@ impl Site {
     /// Applies the change as the next transaction, and stores that the request was accepted, and its reply.
     fn commit(&mut self, change: Change, origin: &Origin, reply: Reply) -> Result<(), NoMemory>
         requires { self.old.desk.begun < spec.last_number }
-        ensures ok { OnOk result (self.new ≡ spec.with_reply origin.now reply (spec.with_change (changed change self.old.held.database) self.old)) }
+        ensures ok { OnOk result (self.new
+            ≡ spec.with_reply origin.now reply (spec.with_change (changed change self.old.held.database) self.old)) }
         ensures err { OnErr result (self.new ≡ self.old) }
     {
         let before = self.desk.remember(origin, reply)?;

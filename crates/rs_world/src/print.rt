@@ -6,16 +6,16 @@ ghost use Rattle.rs_print.specs.Replies.{printed_row};
 ghost use Rattle.rs_world.specs.ReportText as spec;
 
 use rs_base::{Bytes, NoMemory};
-use rs_course::{Decided, Given, Report, RunOf, SiteView, TableView};
+use rs_course::{Decided, Report, ReportedReply, RunOf, SiteView, TableView};
 use rs_print::append;
 use rs_rows::RowRun;
 use std::alloc::Global;
 
-fn print_givens(givens: &[Given], out: &mut Bytes) -> Result<(), NoMemory>
-    ensures { OnOk result (out.new ≡ out.old ++ flat_map spec.printed_given givens.now) }
+fn print_replies(replies: &[ReportedReply], out: &mut Bytes) -> Result<(), NoMemory>
+    ensures { OnOk result (out.new ≡ out.old ++ flat_map spec.printed_reported replies.now) }
 {
-    for given in givens {
-        append::reply(out, &given.origin, &given.reply)?;
+    for reply in replies {
+        append::reply(out, &reply.origin, &reply.reply)?;
     }
     Ok(())
 }
@@ -135,7 +135,7 @@ fn print_runs(runs: &[RunOf], out: &mut Bytes) -> Result<(), NoMemory>
 fn print_parts(report: &Report, out: &mut Bytes) -> Result<(), NoMemory>
     ensures { OnOk result (out.new ≡ out.old ++ spec.printed_report report.now) }
 {
-    print_givens(report.replies.as_slice(), out)?;
+    print_replies(report.replies.as_slice(), out)?;
     print_history(report.history.as_slice(), out)?;
     print_runs(report.runs.as_slice(), out)?;
     print_sites(report.sites.as_slice(), out)

@@ -62,7 +62,8 @@ impl Sites {
         number: SiteNo,
         input: &Input,
     ) -> Result<Option<Outs>, NoMemory>
-        ensures sites { IfOk result (λ _. self.new ≡ spec.sites_after self.old (number - 1) input.now (slice_get self.old (number - 1))) }
+        ensures sites { IfOk result (λ _. self.new
+            ≡ spec.sites_after self.old (number - 1) input.now (slice_get self.old (number - 1))) }
         ensures outs { IfOk result (λ outs. outs ≡ spec.outs_of input.now (slice_get self.old (number - 1))) }
         ensures err { OnErr result (self.new ≡ self.old) }
     {

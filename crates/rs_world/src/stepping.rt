@@ -7,7 +7,7 @@ ghost use Rattle.rs_site.specs.Course.{stepped_by};
 use crate::queue::reversed;
 use crate::world::World;
 use rs_base::{Bytes, Datagrams, NoMemory, Peer, SiteNo};
-use rs_course::{Datagram, Given, Input, Outs, ReplyList};
+use rs_course::{Datagram, Input, Outs, ReplyList, ReportedReply};
 use rs_session::Tolds;
 use sqlite_items::Items;
 use std::alloc::Global;
@@ -47,11 +47,11 @@ fn send_all(
 }
 
 fn give_all(alloc: Global, replies: &mut ReplyList, reported: Tolds) -> Result<(), NoMemory>
-    ensures { OnOk result (replies.new ≡ replies.old ++ map spec.given_of reported) }
+    ensures { OnOk result (replies.new ≡ replies.old ++ map spec.reported_reply reported) }
 {
     let mut left = reversed(alloc, reported)?;
     while let Some(reported) = left.pop() {
-        replies.push(Given {
+        replies.push(ReportedReply {
             origin: reported.origin,
             reply: reported.reply,
         })?;
