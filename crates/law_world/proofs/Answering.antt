@@ -32,7 +32,8 @@ use Rattle.rs_site.specs.History.{database_of}
 use Rattle.rs_course.specs.Moments.{actions, ask_input}
 use Rattle.rs_site.specs.Moments.{world_after, Receives, Accepts}
 use Rattle.rs_course.specs.Played.{are_accepted}
-use Rattle.rs_site.specs.Report.{report_of, tables_at}
+use Rattle.rs_site.specs.Report.{report_of}
+use Rattle.rs_site.specs.Tables.{tables_at}
 use Rattle.rs_site.specs.World.{World}
 use Rattle.rs_course.proofs.Pending.{gives_next}
 use Rattle.law_world.specs.Answered.{asked_by, requests_asked, requests_answered, IsEntered, EachAskIsAnswered, HaveTransactions}

@@ -10,7 +10,8 @@ use Rattle.rs_site.specs.History.{database_of, outcome_after}
 use Rattle.rs_course.specs.Moments.{actions, sites_of}
 use Rattle.rs_site.specs.Moments.{world_after}
 use Rattle.rs_course.specs.Played.{are_accepted}
-use Rattle.rs_site.specs.Report.{report_of, tables_at}
+use Rattle.rs_site.specs.Report.{report_of}
+use Rattle.rs_site.specs.Tables.{tables_at}
 use Rattle.rs_site.specs.World.{World}
 use Rattle.rs_mean.specs.Database.{Database, IsInOrder}
 use Rattle.rs_mean.specs.Expected.{expected}

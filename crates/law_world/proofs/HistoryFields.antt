@@ -23,7 +23,8 @@ use Rattle.law_world.specs.Explains.{IsCommitted, IsMeaningAt}
 use Rattle.rs_site.specs.History.{effect_of, database_of, outcome_after}
 use Rattle.rs_course.specs.Moments.{actions}
 use Rattle.rs_site.specs.Moments.{world_after, Accepts}
-use Rattle.rs_site.specs.Report.{report_of, tables_at, view_of}
+use Rattle.rs_site.specs.Report.{report_of, view_of}
+use Rattle.rs_site.specs.Tables.{tables_at}
 use Rattle.rs_course.specs.World.{site_at}
 use Rattle.rs_site.specs.World.{World, Place}
 use Rattle.law_world.proofs.AtEach.{StateAt, at_each}

@@ -16,7 +16,7 @@ use Rattle.rs_site.specs.Course.{course}
 use Rattle.rs_site.specs.History.{database_of}
 use Rattle.rs_course.specs.Moments.{sites_of}
 use Rattle.rs_site.specs.Moments.{Accepts}
-use Rattle.rs_site.specs.Report.{tables_at}
+use Rattle.rs_site.specs.Tables.{tables_at}
 use Rattle.law_world.specs.Explains.{IsCommitted}
 
 -- Requests are numbered from 1: none is named by the number 0.

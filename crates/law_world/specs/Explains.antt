@@ -26,7 +26,8 @@ use Rattle.rs_course.specs.History.{with_entries}
 use Rattle.rs_site.specs.History.{database_of, outcome_after}
 use Rattle.rs_course.specs.Moments.{actions, sites_of}
 use Rattle.rs_site.specs.Moments.{IsStep, Accepts, world_after}
-use Rattle.rs_site.specs.Report.{report_of, tables_at}
+use Rattle.rs_site.specs.Report.{report_of}
+use Rattle.rs_site.specs.Tables.{tables_at}
 use Rattle.rs_course.specs.World.{site_at}
 use Rattle.law_mean.specs.Laws.{EachTable, IsAtSite, IsTyped}
 use Rattle.law_world.specs.Stores.{IsApplied, content_of}

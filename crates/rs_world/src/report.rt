@@ -1,7 +1,8 @@
 //! What a site shows in a report.
 
 ghost use Rattle.std.specs.Prelude.{◌≡◌, [], ◌∷◌, ◌++◌, map, filter, Some, IfOk, OnOk};
-ghost use Rattle.rs_site.specs.Report.{is_at_site, table_view, tables_at, view_when};
+ghost use Rattle.rs_site.specs.Report.{view_when};
+ghost use Rattle.rs_site.specs.Tables.{is_at_site, table_view, tables_at};
 
 use rs_base::{NoMemory, SiteNo, Swn};
 use rs_course::{SiteView, TableView, TableViews};

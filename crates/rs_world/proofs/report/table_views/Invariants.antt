@@ -1,5 +1,5 @@
 use Rattle.std.proofs.Common.{◌≡◌, map, filter}
-use Rattle.rs_site.specs.Report.{is_at_site, table_view}
+use Rattle.rs_site.specs.Tables.{is_at_site, table_view}
 use Rattle.rs_world.proofs.report.table_views.Given as goal
 
 abbrev pub invariant-loop-name : goal.invariant-loop-name
