@@ -1,6 +1,7 @@
 //! Reads files of cases, and reports each case that does not hold.
 #![tactic(auto)]
 
+mod calls;
 mod fields;
 mod messages;
 mod names;
@@ -46,6 +47,7 @@ impl TextCases<'_> {
 impl Cases for TextCases<'_> {
     fn answer(&mut self, words: &mut Words<'_>, out: &mut Output) -> Result<(), NoMemory> {
         match self.kind {
+            "calls" => calls::append_taken(words, out),
             "encoded" => messages::append_encoded(words, out),
             "values" => values::append_value(words, out),
             "replies" => replies::append_reply(words, out),

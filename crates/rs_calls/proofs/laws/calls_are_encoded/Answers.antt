@@ -1,0 +1,5 @@
+use Rattle.rs_calls.proofs.Calls.{call_is}
+use Rattle.rs_calls.proofs.laws.calls_are_encoded.Goals as goal
+
+pub returns : goal.returns
+returns c = call_is

@@ -1,0 +1,5 @@
+pub mod Sections
+pub mod Programs
+pub mod Calls
+pub mod Replies
+pub mod Changes

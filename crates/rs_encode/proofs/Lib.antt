@@ -1,0 +1,5 @@
+pub mod Cases
+pub mod Forms
+pub mod Lists
+pub mod Numbers
+pub mod Values

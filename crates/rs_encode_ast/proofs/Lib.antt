@@ -1,0 +1,5 @@
+pub mod Clauses
+pub mod Queries
+pub mod Statements
+pub mod Entries
+pub mod Bound
