@@ -1,7 +1,7 @@
 -- The form of a value of several variants is a form.
-use Rattle.std.proofs.Common.{◌≡◌, ◌<◌, ◌≤◌, ℕ, suc, Bool, cond, true, false, ◌&&◌, eqb, List, [], ◌∷◌, ◌++◌, Option, Some, None, refl, sym, ap, subst, ◌∙◌, ◌⊎◌, inl, inr, arith}
+use Rattle.std.proofs.Common.{◌≡◌, ◌<◌, ◌≤◌, ℕ, suc, false, eqb, List, ◌∷◌, ◌++◌, Option, Some, refl, sym, ap, subst, ◌∙◌, ◌⊎◌, inl, inr, arith}
 use Rattle.std.specs.Prelude.{IsTrue}
-use Rattle.std.proofs.lemmas.Bool.{and_parts, and_from, eqb-true, eq-eqb, ne_eqb, lt-ltb}
+use Rattle.std.proofs.lemmas.Bool.{eqb-true, eq-eqb, ne_eqb, lt-ltb}
 use Rattle.std.proofs.lemmas.Option.{same_Some}
 use Rattle.rs_base.specs.Reading.{◌>>=◌}
 use Rattle.rs_base.proofs.Steps.{bind_some, chosen, held}
@@ -25,7 +25,7 @@ module _ {A : Type 0} {form : Form A} (kind : ℕ) (is : IsForm form) (below : k
   last_is = record { again = last_again; only = last_only; above = λ x. omega arith; below = λ x. below }
 
 module _ {A B : Type 0} (kind : ℕ) (form : Form A) (others : Variants B) (is : IsForm form) (are : AreVariants (suc kind) others) (below : kind < 256) where
-  Found : ℕ → List ℕ → (A ⊎ B) × List ℕ → Type 0
+  abbrev Found : ℕ → List ℕ → (A ⊎ B) × List ℕ → Type 0
   Found n bytes x = IsTrue (fits_either form.fits others.fits x.0) × (n ≡ kind_either kind others.kind x.0) × (bytes ≡ bytes_either form.bytes others.bytes x.0 ++ x.1)
 
   left_only : (n : ℕ) (bytes rest : List ℕ) (x : A ⊎ B) → n ≡ kind → (form.at bytes >>= left) ≡ Some (x, rest) → Found n bytes (x, rest)
@@ -69,7 +69,7 @@ module _ {A T : Type 0} (of : A → T) (parts : T → A) (lowest : ℕ) (variant
   abbrev fields_at : ℕ × List ℕ → Option (T × List ℕ)
   fields_at kind = variants.at kind.0 kind.1 >>= λ x. Some (of x.0, x.1)
 
-  Encoded : List ℕ → T × List ℕ → Type 0
+  abbrev Encoded : List ℕ → T × List ℕ → Type 0
   Encoded bytes x = IsTrue (variants.fits (parts x.0)) × (bytes ≡ variants.kind (parts x.0) ∷ variants.bytes (parts x.0) ++ x.1)
 
   fields_only : (n : ℕ) (tail rest : List ℕ) (x : T) → fields_at (n, tail) ≡ Some (x, rest) → Encoded (n ∷ tail) (x, rest)

@@ -1,5 +1,5 @@
 -- The forms made of others are forms.
-use Rattle.std.proofs.Common.{◌≡◌, ℕ, Bool, cond, true, false, ◌&&◌, List, [], ◌∷◌, ◌++◌, Option, Some, None, refl, sym, ap, subst, ◌∙◌, append_assoc}
+use Rattle.std.proofs.Common.{◌≡◌, ℕ, Bool, ◌&&◌, List, ◌++◌, Option, Some, refl, sym, ap, subst, ◌∙◌, append_assoc}
 use Rattle.std.specs.Prelude.{IsTrue}
 use Rattle.std.proofs.lemmas.Bool.{and_parts, and_from}
 use Rattle.std.proofs.lemmas.Option.{same_Some, cond_some}
@@ -70,4 +70,4 @@ module _ {A B : Type 0} {form : Form A} (of : A → B) (parts : B → A) (is : I
   via_is = record { again = via_again; only = via_only }
 
 pub bare_is : IsForm bare
-bare_is = record { again = λ x rest fits. refl; only = λ bytes rest x e. ? }
+bare_is = record { again = λ x rest fits. refl; only = λ bytes rest x e. (refl, ap (λ p. p.1) (same_Some {A = Unit {0} × List ℕ} (tt, bytes) (x, rest) e)) }

@@ -1,6 +1,6 @@
 -- The forms of options and lists are forms.
-use Rattle.std.proofs.Common.{◌≡◌, ℕ, zero, suc, ◌^◌, Bool, cond, true, false, ◌&&◌, ltb, eqb, List, [], ◌∷◌, ◌++◌, length, Option, Some, None, refl, sym, ap, subst, ◌∙◌, append_assoc, ◌⊎◌, inl, inr}
-use Rattle.std.specs.Prelude.{IsTrue, flat_map}
+use Rattle.std.proofs.Common.{◌≡◌, ℕ, zero, suc, ◌^◌, cond, ◌&&◌, ltb, eqb, List, [], ◌∷◌, ◌++◌, length, Option, Some, None, refl, sym, ap, subst, ◌∙◌, append_assoc, inl, inr}
+use Rattle.std.specs.Prelude.{IsTrue}
 use Rattle.std.specs.List.{list_all}
 use Rattle.std.proofs.lemmas.Bool.{and_parts, and_from, eqb-true}
 use Rattle.std.proofs.lemmas.Option.{same_Some}
@@ -15,7 +15,7 @@ use Rattle.rs_encode.proofs.Numbers.{byte_only, count_only, count_again}
 module _ {T : Type 0} {form : Form T} (is : IsForm form) where
   -- ---- options
 
-  Optional : List ℕ → Option T × List ℕ → Type 0
+  abbrev Optional : List ℕ → Option T × List ℕ → Type 0
   Optional bytes x = IsTrue (option_fits form x.0) × (bytes ≡ option_bytes form x.0 ++ x.1)
 
   none_only : (n : ℕ) (tail rest : List ℕ) (x : Option T) → n ≡ 0 → ◌≡◌ {A = Option (Option T × List ℕ)} (Some (None, tail)) (Some (x, rest)) → Optional (n ∷ tail) (x, rest)

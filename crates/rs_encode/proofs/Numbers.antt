@@ -1,6 +1,6 @@
 -- The forms of bytes, numbers, integers and texts are forms: they are read as they are encoded, and encoded once.
-use Rattle.std.proofs.Common.{◌≡◌, ℕ, ◌^◌, ◌<◌, ℤ, pos, negsuc, Bool, cond, true, false, ◌&&◌, leb, ltb, List, [], ◌∷◌, ◌++◌, length, Option, Some, None, refl, sym, ap, subst, ◌∙◌, arith}
-use Rattle.std.specs.Prelude.{IsTrue, FitsSigned}
+use Rattle.std.proofs.Common.{◌≡◌, ℕ, ◌^◌, ℤ, pos, negsuc, Bool, ltb, List, [], ◌∷◌, ◌++◌, length, Option, Some, refl, sym, ap, ◌∙◌, arith}
+use Rattle.std.specs.Prelude.{IsTrue}
 use Rattle.std.specs.Int.{w32, w64, to_be_bytes}
 use Rattle.std.proofs.lemmas.Bool.{lt-ltb, ltb-true}
 use Rattle.rs_base.specs.Ident.{is_ident}
@@ -11,7 +11,7 @@ use Rattle.rs_codec.specs.Reader.{byte_at, u32_at, u64_at, count_at, int_at, tex
 use Rattle.rs_codec.specs.Written.{count_bytes, int_bytes, text_bytes}
 use Rattle.rs_codec.proofs.Readers.{read_again, byte_read, u32_read, u64_read, count_read, int_read, text_read}
 use Rattle.rs_codec.proofs.Writers.{once_count, once_int, once_text, written_count, written_int, written_text}
-use Rattle.rs_encode.specs.Form.{Form, IsForm}
+use Rattle.rs_encode.specs.Form.{IsForm}
 use Rattle.rs_encode.specs.Values.{byte, four_bytes, eight_bytes, count, count_below, is_int, int, text, ident, txt}
 use Rattle.rs_encode.proofs.Forms.{tested_is}
 
@@ -54,7 +54,8 @@ unfolding count_below
 count_below_is limit = tested_is (λ n. ltb n limit) count_is
 
 int_written : (z : ℤ) → IsTrue (is_int z) → IsInt (int_bytes z) z
-int_written z fits = written_int z ?
+int_written (pos n) fits = written_int (pos n) (let b = ltb-true n (2 ^ 63) fits in omega arith)
+int_written (negsuc n) fits = written_int (negsuc n) (let b = ltb-true n (2 ^ 63) fits in omega arith)
 
 int_within : (bytes : List ℕ) (z : ℤ) → IsInt bytes z → IsTrue (is_int z)
 int_within bytes (pos n) is = lt-ltb n (2 ^ 63) (let b = is.below in omega arith)

@@ -14,7 +14,7 @@ use Rattle.rs_encode.proofs.Cases.{enum_is, first_is, last_is}
 use Rattle.rs_encode.proofs.Forms.{bare_is, both_is, tested_is, via_is}
 use Rattle.rs_encode.proofs.Lists.{option_is}
 use Rattle.rs_encode.proofs.Numbers.{byte_is, eight_bytes_is, four_bytes_is, ident_is, int_is, txt_is}
-use Rattle.rs_encode.specs.Form.{IsForm, bare}
+use Rattle.rs_encode.specs.Form.{IsForm}
 use Rattle.rs_encode.specs.Values.{bool, bool_of, bool_parts, denial, denial_of, denial_parts, enlist, enlist_of, enlist_parts, is_site, kind, kind_of, kind_parts, mode, mode_of, mode_parts, name_text, name_text_of, name_text_parts, resource, resource_of, resource_parts, site, swn, swn_of, swn_parts, txn, txn_of, txn_parts, value, value_of, value_parts}
 use Rattle.std.proofs.Common.{Bool, List, arith, false, inl, inr, refl, true, ℕ, ℤ, ◌≡◌, ◌⊎◌}
 

@@ -17,10 +17,10 @@ use Rattle.rs_base.specs.declared.value.Value.{Value}
 use Rattle.rs_base.specs.declared.value.Value.TheVariants as values
 use Rattle.rs_codec.specs.Reader.{byte_at, count_at, int_at, text_at, u32_at, u64_at}
 use Rattle.rs_codec.specs.Written.{count_bytes, int_bytes, text_bytes}
-use Rattle.rs_encode.specs.Form.{Form, bare, both, list, option, tested, via}
+use Rattle.rs_encode.specs.Form.{Form, bare, both, option, tested, via}
 use Rattle.rs_encode.specs.Variants.{enum, last, variant}
 use Rattle.std.specs.Int.{to_be_bytes, w32, w64}
-use Rattle.std.specs.Prelude.{Bool, IsTrue, List, Option, [], false, int_le, length, nat_le, nat_lt, negsuc, pos, true, ℕ, ℤ, ◌&&◌, ◌^◌, ◌∷◌, ◌⊎◌}
+use Rattle.std.specs.Prelude.{Bool, List, Option, [], false, length, nat_le, nat_lt, negsuc, pos, true, ℕ, ℤ, ◌&&◌, ◌^◌, ◌∷◌, ◌⊎◌}
 use mathlib.Core.Logic.{inl, inr}
 
 -- ---- numbers and texts
