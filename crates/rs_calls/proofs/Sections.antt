@@ -10,7 +10,7 @@ use Rattle.rs_encode.proofs.Lists.{list_is}
 use Rattle.rs_encode.proofs.Numbers.{count_below_is, eight_bytes_is, ident_is}
 use Rattle.rs_encode.proofs.Values.{site_is, swn_is, txn_is}
 use Rattle.rs_encode.specs.Form.{IsForm}
-use Rattle.rs_encode_ast.proofs.Bound.{bound_cmp_is, bound_set_is, bound_term_is}
+use Rattle.rs_encode_ast.proofs.BoundParts.{bound_cmp_is, bound_set_is, bound_term_is}
 use Rattle.rs_plan.specs.declared.path.Path.{Path}
 use Rattle.rs_plan.specs.declared.path.Path.TheVariants as paths
 use Rattle.rs_plan.specs.declared.section.SectionKind.{SectionKind}

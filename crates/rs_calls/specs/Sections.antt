@@ -7,7 +7,7 @@ use Rattle.rs_base.specs.declared.txn.Txn.{Txn}
 use Rattle.rs_encode.specs.Form.{Form, bare, both, list, via}
 use Rattle.rs_encode.specs.Values.{count_below, eight_bytes, ident, site, swn, txn}
 use Rattle.rs_encode.specs.Variants.{enum, last, variant}
-use Rattle.rs_encode_ast.specs.Bound.{bound_cmp, bound_set, bound_term}
+use Rattle.rs_encode_ast.specs.BoundParts.{bound_cmp, bound_set, bound_term}
 use Rattle.rs_plan.specs.declared.path.Path.{Path}
 use Rattle.rs_plan.specs.declared.path.Path.TheVariants as paths
 use Rattle.rs_plan.specs.declared.section.Section.{Section}

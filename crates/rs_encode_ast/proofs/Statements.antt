@@ -18,22 +18,22 @@ use Rattle.rs_encode.proofs.Values.{name_text_is, value_is}
 use Rattle.rs_encode.specs.Form.{IsForm}
 use Rattle.rs_encode_ast.proofs.Clauses.{clause_is}
 use Rattle.rs_encode_ast.proofs.Queries.{query_is}
-use Rattle.rs_encode_ast.specs.Statements.{arith, arith_of, arith_parts, assignment, assignment_of, assignment_parts, dml, dml_of, dml_parts, expr, expr_of, expr_parts, term, term_of, term_parts}
+use Rattle.rs_encode_ast.specs.Statements.{arithmetic, arithmetic_of, arithmetic_parts, assignment, assignment_of, assignment_parts, dml, dml_of, dml_parts, expr, expr_of, expr_parts, term, term_of, term_parts}
 use Rattle.std.proofs.Common.{List, arith, inl, inr, refl, ℕ, ◌≡◌, ◌⊎◌}
 
-arith_made : (x : Arith) → arith_of (arith_parts x) ≡ x
-arith_made ariths.Add = refl
-arith_made ariths.Sub = refl
-arith_made ariths.Mul = refl
+arithmetic_made : (x : Arith) → arithmetic_of (arithmetic_parts x) ≡ x
+arithmetic_made ariths.Add = refl
+arithmetic_made ariths.Sub = refl
+arithmetic_made ariths.Mul = refl
 
-arith_kept : (f : (Unit {0}) ⊎ ((Unit {0}) ⊎ (Unit {0}))) → arith_parts (arith_of f) ≡ f
-arith_kept (inl f) = refl
-arith_kept (inr (inl f)) = refl
-arith_kept (inr (inr f)) = refl
+arithmetic_kept : (f : (Unit {0}) ⊎ ((Unit {0}) ⊎ (Unit {0}))) → arithmetic_parts (arithmetic_of f) ≡ f
+arithmetic_kept (inl f) = refl
+arithmetic_kept (inr (inl f)) = refl
+arithmetic_kept (inr (inr f)) = refl
 
-pub arith_is : IsForm arith
-unfolding arith
-arith_is = enum_is arith_of arith_parts arith_made arith_kept
+pub arithmetic_is : IsForm arithmetic
+unfolding arithmetic
+arithmetic_is = enum_is arithmetic_of arithmetic_parts arithmetic_made arithmetic_kept
     (first_is 1 bare_is (omega arith)
     (first_is 2 bare_is (omega arith)
     (last_is 3 bare_is (omega arith))))
@@ -57,7 +57,7 @@ term_is = enum_is term_of term_parts term_made term_kept
 
 pub expr_is : IsForm expr
 unfolding expr
-expr_is = via_is expr_of expr_parts (both_is term_is (option_is (both_is arith_is term_is))) (λ x. refl) (λ f. refl)
+expr_is = via_is expr_of expr_parts (both_is term_is (option_is (both_is arithmetic_is term_is))) (λ x. refl) (λ f. refl)
 
 pub assignment_is : IsForm assignment
 unfolding assignment

@@ -2,4 +2,4 @@ pub mod Clauses
 pub mod Queries
 pub mod Statements
 pub mod Entries
-pub mod Bound
+pub mod BoundParts

@@ -19,19 +19,19 @@ use Rattle.rs_encode_ast.specs.Queries.{query}
 use Rattle.std.specs.Prelude.{List, Option, ℕ, ◌⊎◌}
 use mathlib.Core.Logic.{inl, inr}
 
-abbrev pub arith_of : (Unit {0}) ⊎ ((Unit {0}) ⊎ (Unit {0})) → Arith
-arith_of (inl f) = ariths.Add
-arith_of (inr (inl f)) = ariths.Sub
-arith_of (inr (inr f)) = ariths.Mul
+abbrev pub arithmetic_of : (Unit {0}) ⊎ ((Unit {0}) ⊎ (Unit {0})) → Arith
+arithmetic_of (inl f) = ariths.Add
+arithmetic_of (inr (inl f)) = ariths.Sub
+arithmetic_of (inr (inr f)) = ariths.Mul
 
-abbrev pub arith_parts : Arith → (Unit {0}) ⊎ ((Unit {0}) ⊎ (Unit {0}))
-arith_parts ariths.Add = inl tt
-arith_parts ariths.Sub = inr (inl tt)
-arith_parts ariths.Mul = inr (inr tt)
+abbrev pub arithmetic_parts : Arith → (Unit {0}) ⊎ ((Unit {0}) ⊎ (Unit {0}))
+arithmetic_parts ariths.Add = inl tt
+arithmetic_parts ariths.Sub = inr (inl tt)
+arithmetic_parts ariths.Mul = inr (inr tt)
 
 -- an arithmetic operator
-unfoldable pub arith : Form Arith
-arith = enum arith_of arith_parts
+unfoldable pub arithmetic : Form Arith
+arithmetic = enum arithmetic_of arithmetic_parts
     (variant 1 bare
     (variant 2 bare
     (last 3 bare)))
@@ -61,7 +61,7 @@ expr_parts x = (x.first, x.more)
 
 -- an expression
 unfoldable pub expr : Form Expr
-expr = via expr_of expr_parts (both term (option (both arith term)))
+expr = via expr_of expr_parts (both term (option (both arithmetic term)))
 
 abbrev pub assignment_of : (List ℕ) × Expr → Set
 assignment_of f = record { column = f.0; expr = f.1 }

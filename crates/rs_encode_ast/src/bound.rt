@@ -15,11 +15,11 @@ use std::alloc::Global;
 pub struct BoundSideCodec;
 
 impl Codec<BoundSide> for BoundSideCodec {
-    ghost use Rattle.rs_encode_ast.specs.Bound.{bound_side};
+    ghost use Rattle.rs_encode_ast.specs.BoundParts.{bound_side};
 
     ghost form = { bound_side };
 
-    #[tactic(auto, unfolding(crate::specs::Bound::bound_side))]
+    #[tactic(auto, unfolding(crate::specs::BoundParts::bound_side))]
     fn put(value: &BoundSide, out: &mut Bytes) -> Result<(), NoMemory> {
         match value {
             BoundSide::Place(field) => {
@@ -37,7 +37,7 @@ impl Codec<BoundSide> for BoundSideCodec {
         }
     }
 
-    #[tactic(auto, unfolding(crate::specs::Bound::bound_side))]
+    #[tactic(auto, unfolding(crate::specs::BoundParts::bound_side))]
     fn take(alloc: Global, fields: &mut Fields<'_>) -> Result<BoundSide, ReadFault> {
         match fields.read_byte()? {
             1 => Ok(BoundSide::Place(U16::take(alloc, fields)?)),
@@ -52,18 +52,18 @@ impl Codec<BoundSide> for BoundSideCodec {
 pub struct BoundCmpCodec;
 
 impl Codec<BoundCmp> for BoundCmpCodec {
-    ghost use Rattle.rs_encode_ast.specs.Bound.{bound_cmp};
+    ghost use Rattle.rs_encode_ast.specs.BoundParts.{bound_cmp};
 
     ghost form = { bound_cmp };
 
-    #[tactic(auto, unfolding(crate::specs::Bound::bound_cmp))]
+    #[tactic(auto, unfolding(crate::specs::BoundParts::bound_cmp))]
     fn put(value: &BoundCmp, out: &mut Bytes) -> Result<(), NoMemory> {
         U16::put(&value.left, out)?;
         OpCodec::put(&value.op, out)?;
         BoundSideCodec::put(&value.right, out)
     }
 
-    #[tactic(auto, unfolding(crate::specs::Bound::bound_cmp))]
+    #[tactic(auto, unfolding(crate::specs::BoundParts::bound_cmp))]
     fn take(alloc: Global, fields: &mut Fields<'_>) -> Result<BoundCmp, ReadFault> {
         Ok(BoundCmp {
             left: U16::take(alloc, fields)?,
@@ -77,11 +77,11 @@ impl Codec<BoundCmp> for BoundCmpCodec {
 pub struct BoundTermCodec;
 
 impl Codec<BoundTerm> for BoundTermCodec {
-    ghost use Rattle.rs_encode_ast.specs.Bound.{bound_term};
+    ghost use Rattle.rs_encode_ast.specs.BoundParts.{bound_term};
 
     ghost form = { bound_term };
 
-    #[tactic(auto, unfolding(crate::specs::Bound::bound_term))]
+    #[tactic(auto, unfolding(crate::specs::BoundParts::bound_term))]
     fn put(value: &BoundTerm, out: &mut Bytes) -> Result<(), NoMemory> {
         match value {
             BoundTerm::Place(field) => {
@@ -99,7 +99,7 @@ impl Codec<BoundTerm> for BoundTermCodec {
         }
     }
 
-    #[tactic(auto, unfolding(crate::specs::Bound::bound_term))]
+    #[tactic(auto, unfolding(crate::specs::BoundParts::bound_term))]
     fn take(alloc: Global, fields: &mut Fields<'_>) -> Result<BoundTerm, ReadFault> {
         match fields.read_byte()? {
             1 => Ok(BoundTerm::Place(U16::take(alloc, fields)?)),
@@ -114,18 +114,18 @@ impl Codec<BoundTerm> for BoundTermCodec {
 pub struct BoundSetCodec;
 
 impl Codec<BoundSet> for BoundSetCodec {
-    ghost use Rattle.rs_encode_ast.specs.Bound.{bound_set};
+    ghost use Rattle.rs_encode_ast.specs.BoundParts.{bound_set};
 
     ghost form = { bound_set };
 
-    #[tactic(auto, unfolding(crate::specs::Bound::bound_set))]
+    #[tactic(auto, unfolding(crate::specs::BoundParts::bound_set))]
     fn put(value: &BoundSet, out: &mut Bytes) -> Result<(), NoMemory> {
         U8::put(&value.column, out)?;
         BoundTermCodec::put(&value.first, out)?;
         OptionOf::<Pair<ArithCodec, BoundTermCodec>>::put(&value.more, out)
     }
 
-    #[tactic(auto, unfolding(crate::specs::Bound::bound_set))]
+    #[tactic(auto, unfolding(crate::specs::BoundParts::bound_set))]
     fn take(alloc: Global, fields: &mut Fields<'_>) -> Result<BoundSet, ReadFault> {
         Ok(BoundSet {
             column: U8::take(alloc, fields)?,

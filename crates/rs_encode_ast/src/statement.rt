@@ -15,11 +15,11 @@ use std::alloc::Global;
 pub struct ArithCodec;
 
 impl Codec<Arith> for ArithCodec {
-    ghost use Rattle.rs_encode_ast.specs.Statements.{arith};
+    ghost use Rattle.rs_encode_ast.specs.Statements.{arithmetic};
 
-    ghost form = { arith };
+    ghost form = { arithmetic };
 
-    #[tactic(auto, unfolding(crate::specs::Statements::arith))]
+    #[tactic(auto, unfolding(crate::specs::Statements::arithmetic))]
     fn put(value: &Arith, out: &mut Bytes) -> Result<(), NoMemory> {
         match value {
             Arith::Add => put_byte(out, 1),
@@ -28,7 +28,7 @@ impl Codec<Arith> for ArithCodec {
         }
     }
 
-    #[tactic(auto, unfolding(crate::specs::Statements::arith))]
+    #[tactic(auto, unfolding(crate::specs::Statements::arithmetic))]
     fn take(_alloc: Global, fields: &mut Fields<'_>) -> Result<Arith, ReadFault> {
         match fields.read_byte()? {
             1 => Ok(Arith::Add),

@@ -12,7 +12,7 @@ use Rattle.rs_encode.specs.Form.{Form, both, option, via}
 use Rattle.rs_encode.specs.Values.{count_below, value}
 use Rattle.rs_encode.specs.Variants.{enum, last, variant}
 use Rattle.rs_encode_ast.specs.Clauses.{op}
-use Rattle.rs_encode_ast.specs.Statements.{arith}
+use Rattle.rs_encode_ast.specs.Statements.{arithmetic}
 use Rattle.std.specs.Prelude.{Option, ℕ, ◌⊎◌}
 use mathlib.Core.Logic.{inl, inr}
 
@@ -68,4 +68,4 @@ bound_set_parts x = (x.column, (x.first, x.more))
 
 -- a bound assignment
 unfoldable pub bound_set : Form BoundSet
-bound_set = via bound_set_of bound_set_parts (both (count_below 256) (both bound_term (option (both arith bound_term))))
+bound_set = via bound_set_of bound_set_parts (both (count_below 256) (both bound_term (option (both arithmetic bound_term))))

@@ -11,8 +11,8 @@ use Rattle.rs_encode.proofs.Numbers.{count_below_is}
 use Rattle.rs_encode.proofs.Values.{value_is}
 use Rattle.rs_encode.specs.Form.{IsForm}
 use Rattle.rs_encode_ast.proofs.Clauses.{op_is}
-use Rattle.rs_encode_ast.proofs.Statements.{arith_is}
-use Rattle.rs_encode_ast.specs.Bound.{bound_cmp, bound_cmp_of, bound_cmp_parts, bound_set, bound_set_of, bound_set_parts, bound_side, bound_side_of, bound_side_parts, bound_term, bound_term_of, bound_term_parts}
+use Rattle.rs_encode_ast.proofs.Statements.{arithmetic_is}
+use Rattle.rs_encode_ast.specs.BoundParts.{bound_cmp, bound_cmp_of, bound_cmp_parts, bound_set, bound_set_of, bound_set_parts, bound_side, bound_side_of, bound_side_parts, bound_term, bound_term_of, bound_term_parts}
 use Rattle.std.proofs.Common.{arith, inl, inr, refl, ℕ, ◌≡◌, ◌⊎◌}
 
 bound_side_made : (x : BoundSide) → bound_side_of (bound_side_parts x) ≡ x
@@ -57,5 +57,5 @@ bound_term_is = enum_is bound_term_of bound_term_parts bound_term_made bound_ter
 pub bound_set_is : IsForm bound_set
 unfolding bound_set
 bound_set_is =
-    via_is bound_set_of bound_set_parts (both_is (count_below_is 256) (both_is bound_term_is (option_is (both_is arith_is
-    bound_term_is)))) (λ x. refl) (λ f. refl)
+    via_is bound_set_of bound_set_parts (both_is (count_below_is 256) (both_is bound_term_is (option_is (both_is
+    arithmetic_is bound_term_is)))) (λ x. refl) (λ f. refl)
