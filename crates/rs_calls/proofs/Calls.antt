@@ -7,7 +7,7 @@ use Rattle.rs_base.specs.declared.txn.Txn.{Txn}
 use Rattle.rs_base.specs.declared.value.Value.{Value}
 use Rattle.rs_calls.proofs.Programs.{body_is, head_is}
 use Rattle.rs_calls.proofs.Sections.{section_id_is, section_is}
-use Rattle.rs_calls.specs.Calls.{call, call_of, call_parts}
+use Rattle.rs_calls.specs.Calls.{any_call, any_call_of, any_call_parts}
 use Rattle.rs_encode.proofs.Cases.{enum_is, first_is, last_is}
 use Rattle.rs_encode.proofs.Forms.{both_is}
 use Rattle.rs_encode.proofs.Lists.{list_is, option_is}
@@ -23,55 +23,55 @@ use Rattle.rs_plan.specs.declared.section.Section.{Section}
 use Rattle.rs_plan.specs.declared.section_id.SectionId.{SectionId}
 use Rattle.std.proofs.Common.{List, Option, arith, inl, inr, refl, ℕ, ◌≡◌, ◌⊎◌}
 
-call_made : (x : Call) → call_of (call_parts x) ≡ x
-call_made (calls.Synonym user name) = refl
-call_made (calls.SetSynonym user name to) = refl
-call_made (calls.Locate name mode) = refl
-call_made (calls.SetBirth name to) = refl
-call_made (calls.Describe name mode) = refl
-call_made (calls.Run section values fetch from_) = refl
-call_made (calls.RunStored id name mode values fetch from_) = refl
-call_made (calls.MakeTable name made columns indexes) = refl
-call_made (calls.PutRows name rows) = refl
-call_made (calls.Dump name from_) = refl
-call_made (calls.DropTable name) = refl
-call_made (calls.MakeIndex name made index column) = refl
-call_made (calls.DropIndex name made index) = refl
-call_made (calls.Program user name mode) = refl
-call_made (calls.Step user name i) = refl
-call_made (calls.SetProgram user name head) = refl
-call_made (calls.SetStep user name i body) = refl
-call_made (calls.KeepSection id section) = refl
+any_call_made : (x : Call) → any_call_of (any_call_parts x) ≡ x
+any_call_made (calls.Synonym user name) = refl
+any_call_made (calls.SetSynonym user name to) = refl
+any_call_made (calls.Locate name mode) = refl
+any_call_made (calls.SetBirth name to) = refl
+any_call_made (calls.Describe name mode) = refl
+any_call_made (calls.Run section values fetch from_) = refl
+any_call_made (calls.RunStored id name mode values fetch from_) = refl
+any_call_made (calls.MakeTable name made columns indexes) = refl
+any_call_made (calls.PutRows name rows) = refl
+any_call_made (calls.Dump name from_) = refl
+any_call_made (calls.DropTable name) = refl
+any_call_made (calls.MakeIndex name made index column) = refl
+any_call_made (calls.DropIndex name made index) = refl
+any_call_made (calls.Program user name mode) = refl
+any_call_made (calls.Step user name i) = refl
+any_call_made (calls.SetProgram user name head) = refl
+any_call_made (calls.SetStep user name i body) = refl
+any_call_made (calls.KeepSection id section) = refl
 
-call_kept : (f : ((List ℕ) × (List ℕ)) ⊎ (((List ℕ) × ((List ℕ) × (Option Swn))) ⊎ ((Swn × Mode) ⊎ ((Swn × (Option ℕ)) ⊎ ((Swn
+any_call_kept : (f : ((List ℕ) × (List ℕ)) ⊎ (((List ℕ) × ((List ℕ) × (Option Swn))) ⊎ ((Swn × Mode) ⊎ ((Swn × (Option ℕ)) ⊎ ((Swn
     × Mode) ⊎ ((Section × ((List Value) × ((Option Value) × ℕ))) ⊎ ((SectionId × (Swn × (Mode × ((List
     Value) × ((Option Value) × ℕ))))) ⊎ ((Swn × (Txn × ((List ColDef) × (List IndexOf)))) ⊎ ((Swn × (List
     (List Value))) ⊎ ((Swn × ℕ) ⊎ (Swn ⊎ ((Swn × (Txn × ((List ℕ) × ℕ))) ⊎ ((Swn × (Txn × (List ℕ))) ⊎
     (((List ℕ) × ((List ℕ) × Mode)) ⊎ (((List ℕ) × ((List ℕ) × ℕ)) ⊎ (((List ℕ) × ((List ℕ) × (Option
     Head))) ⊎ (((List ℕ) × ((List ℕ) × (ℕ × Body))) ⊎ (SectionId × Section))))))))))))))))))
-    → call_parts (call_of f) ≡ f
-call_kept (inl f) = refl
-call_kept (inr (inl f)) = refl
-call_kept (inr (inr (inl f))) = refl
-call_kept (inr (inr (inr (inl f)))) = refl
-call_kept (inr (inr (inr (inr (inl f))))) = refl
-call_kept (inr (inr (inr (inr (inr (inl f)))))) = refl
-call_kept (inr (inr (inr (inr (inr (inr (inl f))))))) = refl
-call_kept (inr (inr (inr (inr (inr (inr (inr (inl f)))))))) = refl
-call_kept (inr (inr (inr (inr (inr (inr (inr (inr (inl f))))))))) = refl
-call_kept (inr (inr (inr (inr (inr (inr (inr (inr (inr (inl f)))))))))) = refl
-call_kept (inr (inr (inr (inr (inr (inr (inr (inr (inr (inr (inl f))))))))))) = refl
-call_kept (inr (inr (inr (inr (inr (inr (inr (inr (inr (inr (inr (inl f)))))))))))) = refl
-call_kept (inr (inr (inr (inr (inr (inr (inr (inr (inr (inr (inr (inr (inl f))))))))))))) = refl
-call_kept (inr (inr (inr (inr (inr (inr (inr (inr (inr (inr (inr (inr (inr (inl f)))))))))))))) = refl
-call_kept (inr (inr (inr (inr (inr (inr (inr (inr (inr (inr (inr (inr (inr (inr (inl f))))))))))))))) = refl
-call_kept (inr (inr (inr (inr (inr (inr (inr (inr (inr (inr (inr (inr (inr (inr (inr (inl f)))))))))))))))) = refl
-call_kept (inr (inr (inr (inr (inr (inr (inr (inr (inr (inr (inr (inr (inr (inr (inr (inr (inl f))))))))))))))))) = refl
-call_kept (inr (inr (inr (inr (inr (inr (inr (inr (inr (inr (inr (inr (inr (inr (inr (inr (inr f))))))))))))))))) = refl
+    → any_call_parts (any_call_of f) ≡ f
+any_call_kept (inl f) = refl
+any_call_kept (inr (inl f)) = refl
+any_call_kept (inr (inr (inl f))) = refl
+any_call_kept (inr (inr (inr (inl f)))) = refl
+any_call_kept (inr (inr (inr (inr (inl f))))) = refl
+any_call_kept (inr (inr (inr (inr (inr (inl f)))))) = refl
+any_call_kept (inr (inr (inr (inr (inr (inr (inl f))))))) = refl
+any_call_kept (inr (inr (inr (inr (inr (inr (inr (inl f)))))))) = refl
+any_call_kept (inr (inr (inr (inr (inr (inr (inr (inr (inl f))))))))) = refl
+any_call_kept (inr (inr (inr (inr (inr (inr (inr (inr (inr (inl f)))))))))) = refl
+any_call_kept (inr (inr (inr (inr (inr (inr (inr (inr (inr (inr (inl f))))))))))) = refl
+any_call_kept (inr (inr (inr (inr (inr (inr (inr (inr (inr (inr (inr (inl f)))))))))))) = refl
+any_call_kept (inr (inr (inr (inr (inr (inr (inr (inr (inr (inr (inr (inr (inl f))))))))))))) = refl
+any_call_kept (inr (inr (inr (inr (inr (inr (inr (inr (inr (inr (inr (inr (inr (inl f)))))))))))))) = refl
+any_call_kept (inr (inr (inr (inr (inr (inr (inr (inr (inr (inr (inr (inr (inr (inr (inl f))))))))))))))) = refl
+any_call_kept (inr (inr (inr (inr (inr (inr (inr (inr (inr (inr (inr (inr (inr (inr (inr (inl f)))))))))))))))) = refl
+any_call_kept (inr (inr (inr (inr (inr (inr (inr (inr (inr (inr (inr (inr (inr (inr (inr (inr (inl f))))))))))))))))) = refl
+any_call_kept (inr (inr (inr (inr (inr (inr (inr (inr (inr (inr (inr (inr (inr (inr (inr (inr (inr f))))))))))))))))) = refl
 
-pub call_is : IsForm call
-unfolding call
-call_is = enum_is call_of call_parts call_made call_kept
+pub any_call_is : IsForm any_call
+unfolding any_call
+any_call_is = enum_is any_call_of any_call_parts any_call_made any_call_kept
     (first_is 1 (both_is ident_is ident_is) (omega arith)
     (first_is 2 (both_is ident_is (both_is ident_is (option_is swn_is))) (omega arith)
     (first_is 3 (both_is swn_is mode_is) (omega arith)

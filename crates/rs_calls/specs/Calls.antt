@@ -20,67 +20,69 @@ use Rattle.rs_plan.specs.declared.section_id.SectionId.{SectionId}
 use Rattle.std.specs.Prelude.{List, Option, ℕ, ◌⊎◌}
 use mathlib.Core.Logic.{inl, inr}
 
-abbrev pub call_of :
+abbrev pub any_call_of :
     ((List ℕ) × (List ℕ)) ⊎ (((List ℕ) × ((List ℕ) × (Option Swn))) ⊎ ((Swn × Mode) ⊎ ((Swn × (Option ℕ)) ⊎ ((Swn × Mode)
     ⊎ ((Section × ((List Value) × ((Option Value) × ℕ))) ⊎ ((SectionId × (Swn × (Mode × ((List Value) × ((Option
     Value) × ℕ))))) ⊎ ((Swn × (Txn × ((List ColDef) × (List IndexOf)))) ⊎ ((Swn × (List (List Value))) ⊎ ((Swn ×
     ℕ) ⊎ (Swn ⊎ ((Swn × (Txn × ((List ℕ) × ℕ))) ⊎ ((Swn × (Txn × (List ℕ))) ⊎ (((List ℕ) × ((List ℕ) × Mode)) ⊎
     (((List ℕ) × ((List ℕ) × ℕ)) ⊎ (((List ℕ) × ((List ℕ) × (Option Head))) ⊎ (((List ℕ) × ((List ℕ) × (ℕ ×
     Body))) ⊎ (SectionId × Section))))))))))))))))) → Call
-call_of (inl f) = calls.Synonym f.0 f.1
-call_of (inr (inl f)) = calls.SetSynonym f.0 f.1.0 f.1.1
-call_of (inr (inr (inl f))) = calls.Locate f.0 f.1
-call_of (inr (inr (inr (inl f)))) = calls.SetBirth f.0 f.1
-call_of (inr (inr (inr (inr (inl f))))) = calls.Describe f.0 f.1
-call_of (inr (inr (inr (inr (inr (inl f)))))) = calls.Run f.0 f.1.0 f.1.1.0 f.1.1.1
-call_of (inr (inr (inr (inr (inr (inr (inl f))))))) = calls.RunStored f.0 f.1.0 f.1.1.0 f.1.1.1.0 f.1.1.1.1.0 f.1.1.1.1.1
-call_of (inr (inr (inr (inr (inr (inr (inr (inl f)))))))) = calls.MakeTable f.0 f.1.0 f.1.1.0 f.1.1.1
-call_of (inr (inr (inr (inr (inr (inr (inr (inr (inl f))))))))) = calls.PutRows f.0 f.1
-call_of (inr (inr (inr (inr (inr (inr (inr (inr (inr (inl f)))))))))) = calls.Dump f.0 f.1
-call_of (inr (inr (inr (inr (inr (inr (inr (inr (inr (inr (inl f))))))))))) = calls.DropTable f
-call_of (inr (inr (inr (inr (inr (inr (inr (inr (inr (inr (inr (inl f)))))))))))) = calls.MakeIndex f.0 f.1.0 f.1.1.0 f.1.1.1
-call_of (inr (inr (inr (inr (inr (inr (inr (inr (inr (inr (inr (inr (inl f))))))))))))) = calls.DropIndex f.0 f.1.0 f.1.1
-call_of (inr (inr (inr (inr (inr (inr (inr (inr (inr (inr (inr (inr (inr (inl f)))))))))))))) = calls.Program f.0 f.1.0 f.1.1
-call_of (inr (inr (inr (inr (inr (inr (inr (inr (inr (inr (inr (inr (inr (inr (inl f))))))))))))))) =
+any_call_of (inl f) = calls.Synonym f.0 f.1
+any_call_of (inr (inl f)) = calls.SetSynonym f.0 f.1.0 f.1.1
+any_call_of (inr (inr (inl f))) = calls.Locate f.0 f.1
+any_call_of (inr (inr (inr (inl f)))) = calls.SetBirth f.0 f.1
+any_call_of (inr (inr (inr (inr (inl f))))) = calls.Describe f.0 f.1
+any_call_of (inr (inr (inr (inr (inr (inl f)))))) = calls.Run f.0 f.1.0 f.1.1.0 f.1.1.1
+any_call_of (inr (inr (inr (inr (inr (inr (inl f))))))) = calls.RunStored f.0 f.1.0 f.1.1.0 f.1.1.1.0 f.1.1.1.1.0 f.1.1.1.1.1
+any_call_of (inr (inr (inr (inr (inr (inr (inr (inl f)))))))) = calls.MakeTable f.0 f.1.0 f.1.1.0 f.1.1.1
+any_call_of (inr (inr (inr (inr (inr (inr (inr (inr (inl f))))))))) = calls.PutRows f.0 f.1
+any_call_of (inr (inr (inr (inr (inr (inr (inr (inr (inr (inl f)))))))))) = calls.Dump f.0 f.1
+any_call_of (inr (inr (inr (inr (inr (inr (inr (inr (inr (inr (inl f))))))))))) = calls.DropTable f
+any_call_of (inr (inr (inr (inr (inr (inr (inr (inr (inr (inr (inr (inl f)))))))))))) =
+    calls.MakeIndex f.0 f.1.0 f.1.1.0 f.1.1.1
+any_call_of (inr (inr (inr (inr (inr (inr (inr (inr (inr (inr (inr (inr (inl f))))))))))))) = calls.DropIndex f.0 f.1.0 f.1.1
+any_call_of (inr (inr (inr (inr (inr (inr (inr (inr (inr (inr (inr (inr (inr (inl f)))))))))))))) =
+    calls.Program f.0 f.1.0 f.1.1
+any_call_of (inr (inr (inr (inr (inr (inr (inr (inr (inr (inr (inr (inr (inr (inr (inl f))))))))))))))) =
     calls.Step f.0 f.1.0 f.1.1
-call_of (inr (inr (inr (inr (inr (inr (inr (inr (inr (inr (inr (inr (inr (inr (inr (inl f)))))))))))))))) =
+any_call_of (inr (inr (inr (inr (inr (inr (inr (inr (inr (inr (inr (inr (inr (inr (inr (inl f)))))))))))))))) =
     calls.SetProgram f.0 f.1.0 f.1.1
-call_of (inr (inr (inr (inr (inr (inr (inr (inr (inr (inr (inr (inr (inr (inr (inr (inr (inl f))))))))))))))))) =
+any_call_of (inr (inr (inr (inr (inr (inr (inr (inr (inr (inr (inr (inr (inr (inr (inr (inr (inl f))))))))))))))))) =
     calls.SetStep f.0 f.1.0 f.1.1.0 f.1.1.1
-call_of (inr (inr (inr (inr (inr (inr (inr (inr (inr (inr (inr (inr (inr (inr (inr (inr (inr f))))))))))))))))) =
+any_call_of (inr (inr (inr (inr (inr (inr (inr (inr (inr (inr (inr (inr (inr (inr (inr (inr (inr f))))))))))))))))) =
     calls.KeepSection f.0 f.1
 
-abbrev pub call_parts : Call →
+abbrev pub any_call_parts : Call →
     ((List ℕ) × (List ℕ)) ⊎ (((List ℕ) × ((List ℕ) × (Option Swn))) ⊎ ((Swn × Mode) ⊎ ((Swn × (Option ℕ)) ⊎ ((Swn × Mode)
     ⊎ ((Section × ((List Value) × ((Option Value) × ℕ))) ⊎ ((SectionId × (Swn × (Mode × ((List Value) × ((Option
     Value) × ℕ))))) ⊎ ((Swn × (Txn × ((List ColDef) × (List IndexOf)))) ⊎ ((Swn × (List (List Value))) ⊎ ((Swn ×
     ℕ) ⊎ (Swn ⊎ ((Swn × (Txn × ((List ℕ) × ℕ))) ⊎ ((Swn × (Txn × (List ℕ))) ⊎ (((List ℕ) × ((List ℕ) × Mode)) ⊎
     (((List ℕ) × ((List ℕ) × ℕ)) ⊎ (((List ℕ) × ((List ℕ) × (Option Head))) ⊎ (((List ℕ) × ((List ℕ) × (ℕ ×
     Body))) ⊎ (SectionId × Section)))))))))))))))))
-call_parts (calls.Synonym user name) = inl (user, name)
-call_parts (calls.SetSynonym user name to) = inr (inl (user, (name, to)))
-call_parts (calls.Locate name mode) = inr (inr (inl (name, mode)))
-call_parts (calls.SetBirth name to) = inr (inr (inr (inl (name, to))))
-call_parts (calls.Describe name mode) = inr (inr (inr (inr (inl (name, mode)))))
-call_parts (calls.Run section values fetch from_) = inr (inr (inr (inr (inr (inl (section, (values, (fetch, from_))))))))
-call_parts (calls.RunStored id name mode values fetch from_) =
+any_call_parts (calls.Synonym user name) = inl (user, name)
+any_call_parts (calls.SetSynonym user name to) = inr (inl (user, (name, to)))
+any_call_parts (calls.Locate name mode) = inr (inr (inl (name, mode)))
+any_call_parts (calls.SetBirth name to) = inr (inr (inr (inl (name, to))))
+any_call_parts (calls.Describe name mode) = inr (inr (inr (inr (inl (name, mode)))))
+any_call_parts (calls.Run section values fetch from_) = inr (inr (inr (inr (inr (inl (section, (values, (fetch, from_))))))))
+any_call_parts (calls.RunStored id name mode values fetch from_) =
     inr (inr (inr (inr (inr (inr (inl (id, (name, (mode, (values, (fetch, from_)))))))))))
-call_parts (calls.MakeTable name made columns indexes) =
+any_call_parts (calls.MakeTable name made columns indexes) =
     inr (inr (inr (inr (inr (inr (inr (inl (name, (made, (columns, indexes))))))))))
-call_parts (calls.PutRows name rows) = inr (inr (inr (inr (inr (inr (inr (inr (inl (name, rows)))))))))
-call_parts (calls.Dump name from_) = inr (inr (inr (inr (inr (inr (inr (inr (inr (inl (name, from_))))))))))
-call_parts (calls.DropTable name) = inr (inr (inr (inr (inr (inr (inr (inr (inr (inr (inl name))))))))))
-call_parts (calls.MakeIndex name made index column) =
+any_call_parts (calls.PutRows name rows) = inr (inr (inr (inr (inr (inr (inr (inr (inl (name, rows)))))))))
+any_call_parts (calls.Dump name from_) = inr (inr (inr (inr (inr (inr (inr (inr (inr (inl (name, from_))))))))))
+any_call_parts (calls.DropTable name) = inr (inr (inr (inr (inr (inr (inr (inr (inr (inr (inl name))))))))))
+any_call_parts (calls.MakeIndex name made index column) =
     inr (inr (inr (inr (inr (inr (inr (inr (inr (inr (inr (inl (name, (made, (index, column))))))))))))))
-call_parts (calls.DropIndex name made index) =
+any_call_parts (calls.DropIndex name made index) =
     inr (inr (inr (inr (inr (inr (inr (inr (inr (inr (inr (inr (inl (name, (made, index))))))))))))))
-call_parts (calls.Program user name mode) =
+any_call_parts (calls.Program user name mode) =
     inr (inr (inr (inr (inr (inr (inr (inr (inr (inr (inr (inr (inr (inl (user, (name, mode)))))))))))))))
-call_parts (calls.Step user name i) =
+any_call_parts (calls.Step user name i) =
     inr (inr (inr (inr (inr (inr (inr (inr (inr (inr (inr (inr (inr (inr (inl (user, (name, i))))))))))))))))
-call_parts (calls.SetProgram user name head) =
+any_call_parts (calls.SetProgram user name head) =
     inr (inr (inr (inr (inr (inr (inr (inr (inr (inr (inr (inr (inr (inr (inr (inl (user, (name, head)))))))))))))))))
-call_parts (calls.SetStep user name i body) =
+any_call_parts (calls.SetStep user name i body) =
     inr (inr (inr (inr (inr (inr (inr (inr (inr (inr (inr (inr (inr (inr (inr (inr (inl (
       user,
       (
@@ -91,12 +93,12 @@ call_parts (calls.SetStep user name i body) =
         ),
       ),
     )))))))))))))))))
-call_parts (calls.KeepSection id section) =
+any_call_parts (calls.KeepSection id section) =
     inr (inr (inr (inr (inr (inr (inr (inr (inr (inr (inr (inr (inr (inr (inr (inr (inr (id, section)))))))))))))))))
 
--- a call
-unfoldable pub call : Form Call
-call = enum call_of call_parts
+-- a call, also one that inserts columns
+unfoldable pub any_call : Form Call
+any_call = enum any_call_of any_call_parts
     (variant 1 (both ident ident)
     (variant 2 (both ident (both ident (option swn)))
     (variant 3 (both swn mode)

@@ -20,49 +20,49 @@ use Rattle.rs_plan.specs.declared.section_id.SectionId.{SectionId}
 use Rattle.std.specs.Prelude.{List, Option, ℕ, ◌⊎◌}
 use mathlib.Core.Logic.{inl, inr}
 
-abbrev pub change_of :
+abbrev pub any_change_of :
     ((List ℕ) × ((List ℕ) × (Option Swn))) ⊎ ((Swn × (Option ℕ)) ⊎ (((List ℕ) × ((List ℕ) × (Option Head))) ⊎ (((List ℕ)
     × ((List ℕ) × (ℕ × Body))) ⊎ ((SectionId × (Section × Path)) ⊎ ((Swn × (Txn × ((List ColDef) × (List
     IndexOf)))) ⊎ ((Swn × (List (List Value))) ⊎ ((Swn × (List ℕ)) ⊎ ((Swn × (List (ℕ × (List Value)))) ⊎ (Swn ⊎
     ((Swn × (Txn × ((List ℕ) × (ℕ × Txn)))) ⊎ (Swn × (Txn × (List ℕ))))))))))))) → Change
-change_of (inl f) = changes.Synonym f.0 f.1.0 f.1.1
-change_of (inr (inl f)) = changes.Birth f.0 f.1
-change_of (inr (inr (inl f))) = changes.Head f.0 f.1.0 f.1.1
-change_of (inr (inr (inr (inl f)))) = changes.Body f.0 f.1.0 f.1.1.0 f.1.1.1
-change_of (inr (inr (inr (inr (inl f))))) = changes.Keep f.0 f.1.0 f.1.1
-change_of (inr (inr (inr (inr (inr (inl f)))))) = changes.MakeTable f.0 f.1.0 f.1.1.0 f.1.1.1
-change_of (inr (inr (inr (inr (inr (inr (inl f))))))) = changes.PutRows f.0 f.1
-change_of (inr (inr (inr (inr (inr (inr (inr (inl f)))))))) = changes.Remove f.0 f.1
-change_of (inr (inr (inr (inr (inr (inr (inr (inr (inl f))))))))) = changes.Replace f.0 f.1
-change_of (inr (inr (inr (inr (inr (inr (inr (inr (inr (inl f)))))))))) = changes.DropTable f
-change_of (inr (inr (inr (inr (inr (inr (inr (inr (inr (inr (inl f))))))))))) =
+any_change_of (inl f) = changes.Synonym f.0 f.1.0 f.1.1
+any_change_of (inr (inl f)) = changes.Birth f.0 f.1
+any_change_of (inr (inr (inl f))) = changes.Head f.0 f.1.0 f.1.1
+any_change_of (inr (inr (inr (inl f)))) = changes.Body f.0 f.1.0 f.1.1.0 f.1.1.1
+any_change_of (inr (inr (inr (inr (inl f))))) = changes.Keep f.0 f.1.0 f.1.1
+any_change_of (inr (inr (inr (inr (inr (inl f)))))) = changes.MakeTable f.0 f.1.0 f.1.1.0 f.1.1.1
+any_change_of (inr (inr (inr (inr (inr (inr (inl f))))))) = changes.PutRows f.0 f.1
+any_change_of (inr (inr (inr (inr (inr (inr (inr (inl f)))))))) = changes.Remove f.0 f.1
+any_change_of (inr (inr (inr (inr (inr (inr (inr (inr (inl f))))))))) = changes.Replace f.0 f.1
+any_change_of (inr (inr (inr (inr (inr (inr (inr (inr (inr (inl f)))))))))) = changes.DropTable f
+any_change_of (inr (inr (inr (inr (inr (inr (inr (inr (inr (inr (inl f))))))))))) =
     changes.MakeIndex f.0 f.1.0 f.1.1.0 f.1.1.1.0 f.1.1.1.1
-change_of (inr (inr (inr (inr (inr (inr (inr (inr (inr (inr (inr f))))))))))) = changes.DropIndex f.0 f.1.0 f.1.1
+any_change_of (inr (inr (inr (inr (inr (inr (inr (inr (inr (inr (inr f))))))))))) = changes.DropIndex f.0 f.1.0 f.1.1
 
-abbrev pub change_parts : Change →
+abbrev pub any_change_parts : Change →
     ((List ℕ) × ((List ℕ) × (Option Swn))) ⊎ ((Swn × (Option ℕ)) ⊎ (((List ℕ) × ((List ℕ) × (Option Head))) ⊎ (((List ℕ)
     × ((List ℕ) × (ℕ × Body))) ⊎ ((SectionId × (Section × Path)) ⊎ ((Swn × (Txn × ((List ColDef) × (List
     IndexOf)))) ⊎ ((Swn × (List (List Value))) ⊎ ((Swn × (List ℕ)) ⊎ ((Swn × (List (ℕ × (List Value)))) ⊎ (Swn ⊎
     ((Swn × (Txn × ((List ℕ) × (ℕ × Txn)))) ⊎ (Swn × (Txn × (List ℕ)))))))))))))
-change_parts (changes.Synonym user name to) = inl (user, (name, to))
-change_parts (changes.Birth name to) = inr (inl (name, to))
-change_parts (changes.Head user name head) = inr (inr (inl (user, (name, head))))
-change_parts (changes.Body user name i body) = inr (inr (inr (inl (user, (name, (i, body))))))
-change_parts (changes.Keep id section path) = inr (inr (inr (inr (inl (id, (section, path))))))
-change_parts (changes.MakeTable name made columns indexes) =
+any_change_parts (changes.Synonym user name to) = inl (user, (name, to))
+any_change_parts (changes.Birth name to) = inr (inl (name, to))
+any_change_parts (changes.Head user name head) = inr (inr (inl (user, (name, head))))
+any_change_parts (changes.Body user name i body) = inr (inr (inr (inl (user, (name, (i, body))))))
+any_change_parts (changes.Keep id section path) = inr (inr (inr (inr (inl (id, (section, path))))))
+any_change_parts (changes.MakeTable name made columns indexes) =
     inr (inr (inr (inr (inr (inl (name, (made, (columns, indexes))))))))
-change_parts (changes.PutRows name rows) = inr (inr (inr (inr (inr (inr (inl (name, rows)))))))
-change_parts (changes.Remove name numbers) = inr (inr (inr (inr (inr (inr (inr (inl (name, numbers))))))))
-change_parts (changes.Replace name rows) = inr (inr (inr (inr (inr (inr (inr (inr (inl (name, rows)))))))))
-change_parts (changes.DropTable name) = inr (inr (inr (inr (inr (inr (inr (inr (inr (inl name)))))))))
-change_parts (changes.MakeIndex name made index column index_made) =
+any_change_parts (changes.PutRows name rows) = inr (inr (inr (inr (inr (inr (inl (name, rows)))))))
+any_change_parts (changes.Remove name numbers) = inr (inr (inr (inr (inr (inr (inr (inl (name, numbers))))))))
+any_change_parts (changes.Replace name rows) = inr (inr (inr (inr (inr (inr (inr (inr (inl (name, rows)))))))))
+any_change_parts (changes.DropTable name) = inr (inr (inr (inr (inr (inr (inr (inr (inr (inl name)))))))))
+any_change_parts (changes.MakeIndex name made index column index_made) =
     inr (inr (inr (inr (inr (inr (inr (inr (inr (inr (inl (name, (made, (index, (column, index_made))))))))))))))
-change_parts (changes.DropIndex name made index) =
+any_change_parts (changes.DropIndex name made index) =
     inr (inr (inr (inr (inr (inr (inr (inr (inr (inr (inr (name, (made, index))))))))))))
 
--- a change of what a site stores
-unfoldable pub change : Form Change
-change = enum change_of change_parts
+-- a change of what a site stores, also one of a section that inserts columns
+unfoldable pub any_change : Form Change
+any_change = enum any_change_of any_change_parts
     (variant 1 (both ident (both ident (option swn)))
     (variant 2 (both swn (option site))
     (variant 3 (both ident (both ident (option head)))

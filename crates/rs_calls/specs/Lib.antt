@@ -1,5 +1,6 @@
-pub mod Sections
-pub mod Programs
 pub mod Calls
-pub mod Replies
 pub mod Changes
+pub mod Limits
+pub mod Programs
+pub mod Replies
+pub mod Sections

@@ -15,15 +15,15 @@ use rs_encode_ast::{ColDefCodec, IndexOfCodec};
 use rs_plan::Call;
 use std::alloc::Global;
 
-/// The codec of a call.
+/// The codec of a call, also one that inserts columns.
 pub struct CallCodec;
 
 impl Codec<Call> for CallCodec {
-    ghost use Rattle.rs_calls.specs.Calls.{call};
+    ghost use Rattle.rs_calls.specs.Calls.{any_call};
 
-    ghost form = { call };
+    ghost form = { any_call };
 
-    #[tactic(auto, unfolding(crate::specs::Calls::call))]
+    #[tactic(auto, unfolding(crate::specs::Calls::any_call))]
     fn put(value: &Call, out: &mut Bytes) -> Result<(), NoMemory> {
         match value {
             Call::Synonym { user, name } => {
@@ -162,7 +162,7 @@ impl Codec<Call> for CallCodec {
         }
     }
 
-    #[tactic(auto, unfolding(crate::specs::Calls::call))]
+    #[tactic(auto, unfolding(crate::specs::Calls::any_call))]
     fn take(alloc: Global, fields: &mut Fields<'_>) -> Result<Call, ReadFault> {
         match fields.read_byte()? {
             1 => Ok(Call::Synonym {

@@ -15,15 +15,15 @@ use rs_encode_ast::{ColDefCodec, IndexOfCodec};
 use rs_plan::Change;
 use std::alloc::Global;
 
-/// The codec of a change of what a site stores.
+/// The codec of a change of what a site stores, also one of a section that inserts columns.
 pub struct ChangeCodec;
 
 impl Codec<Change> for ChangeCodec {
-    ghost use Rattle.rs_calls.specs.Changes.{change};
+    ghost use Rattle.rs_calls.specs.Changes.{any_change};
 
-    ghost form = { change };
+    ghost form = { any_change };
 
-    #[tactic(auto, unfolding(crate::specs::Changes::change))]
+    #[tactic(auto, unfolding(crate::specs::Changes::any_change))]
     fn put(value: &Change, out: &mut Bytes) -> Result<(), NoMemory> {
         match value {
             Change::Synonym { user, name, to } => {
@@ -115,7 +115,7 @@ impl Codec<Change> for ChangeCodec {
         }
     }
 
-    #[tactic(auto, unfolding(crate::specs::Changes::change))]
+    #[tactic(auto, unfolding(crate::specs::Changes::any_change))]
     fn take(alloc: Global, fields: &mut Fields<'_>) -> Result<Change, ReadFault> {
         match fields.read_byte()? {
             1 => Ok(Change::Synonym {

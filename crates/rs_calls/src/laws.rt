@@ -1,9 +1,8 @@
 //! Laws of the encodings of calls, replies and changes. A law's claim is its contract, and its body is empty.
 
 ghost use Rattle.rs_encode.specs.Form.{IsForm};
-ghost use Rattle.rs_calls.specs.Calls.{call};
+ghost use Rattle.rs_calls.specs.Limits.{call, change};
 ghost use Rattle.rs_calls.specs.Replies.{call_reply};
-ghost use Rattle.rs_calls.specs.Changes.{change};
 
 /// Proves that what is encoded as a call is read as the same call, whatever follows it, and that nothing else is read as a
 /// call: so a call has one encoding, and none begins another one.

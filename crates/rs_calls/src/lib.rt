@@ -4,6 +4,7 @@
 mod call;
 mod change;
 mod laws;
+mod limits;
 mod program;
 mod reply;
 mod section;

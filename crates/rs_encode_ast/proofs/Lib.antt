@@ -1,5 +1,5 @@
+pub mod BoundParts
 pub mod Clauses
+pub mod Entries
 pub mod Queries
 pub mod Statements
-pub mod Entries
-pub mod BoundParts

@@ -1,4 +1,4 @@
-use Rattle.rs_calls.proofs.Calls.{call_is}
+use Rattle.rs_calls.proofs.Within.{call_is}
 use Rattle.rs_calls.proofs.laws.calls_are_encoded.Goals as goal
 
 pub returns : goal.returns
