@@ -1,0 +1,4 @@
+pub mod Fit
+pub mod Pages
+pub mod Reads
+pub mod Running
