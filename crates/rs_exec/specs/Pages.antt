@@ -24,4 +24,6 @@ first_page (row ∷ rows) = row ∷ rows_within (max_page_bytes - encoded_size r
 
 -- the page of the rows after the first `from`, and whether any are left after it
 unfoldable pub page : ℕ → RowList → RowList × Bool
-page from rows = (first_page (drop from rows), nat_lt (from + length (first_page (drop from rows))) (length rows))
+page from rows =
+    let left = drop from rows in
+    (first_page left, nat_lt (length (first_page left)) (length left))

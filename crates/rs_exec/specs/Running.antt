@@ -63,11 +63,13 @@ plain rows = map (λ entry. entry.1) rows
 abbrev pub projected : List ℕ → List Value → List Value
 projected columns row = filter_map (λ column. slice_get row column) columns
 
+-- the rows in these columns alone
+abbrev pub shipped : List ℕ → RowsByNumber → RowList
+shipped columns rows = map (λ entry. projected columns entry.1) rows
+
 -- the page after the first `from` of the matching rows, in these columns alone
 abbrev pub queried : List ℕ → ℕ → RowsByNumber → Ran
-queried columns from rows =
-    let shipped = page from (map (projected columns) (plain rows)) in
-    results.Rows shipped.0 shipped.1
+queried columns from rows = results.Rows (page from (shipped columns rows)).0 (page from (shipped columns rows)).1
 
 -- ---- changes
 
