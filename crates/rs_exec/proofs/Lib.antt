@@ -1,0 +1,3 @@
+pub mod PageLaws
+pub mod PathLaws
+pub mod Rising
