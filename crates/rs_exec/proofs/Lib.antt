@@ -1,3 +1,1 @@
-pub mod PageLaws
-pub mod PathLaws
-pub mod Rising
+pub mod Changing
