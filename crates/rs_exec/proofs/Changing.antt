@@ -1,7 +1,7 @@
 -- The room for new rows beside the others of a table, and rows after assignments, one after the other.
 use Rattle.std.proofs.Common.{◌≡◌, ℕ, ◌+◌, ◌-◌, ◌<◌, ◌≤◌, Bool, true, false, cond, not, ◌&&◌, List, [], ◌∷◌, ◌++◌, map, filter, fold, take, drop, get_or, length, Option, Some, Result, Ok, Err, refl, sym, ap, ap₂, ◌∙◌, arith, append_assoc, append-nil, length-append, length-map}
 use Rattle.std.specs.List.{list_all}
-use Rattle.std.proofs.lemmas.List.{at_drop_more, at_drop_all}
+use Rattle.std.proofs.lemmas.List.{at_drop_more, at_drop_all, map-id}
 use Rattle.std.proofs.lemmas.List.Filters.{length-filter_both, sum_by-filter_both}
 use Rattle.std.proofs.lemmas.List.Folds.{fold-map}
 use Rattle.std.proofs.lemmas.List.Sums.{sum_by-append}
@@ -13,12 +13,13 @@ use Rattle.rs_base.specs.declared.reply.Denial.TheVariants as denials
 use Rattle.rs_base.specs.declared.value.Value.{Value}
 use Rattle.rs_ast.specs.declared.bound.BoundCmp.{BoundCmp}
 use Rattle.rs_ast.specs.declared.bound.BoundSet.{BoundSet}
+use Rattle.rs_ast.specs.declared.bound.BoundTerm.{BoundTerm}
 use Rattle.rs_plan.specs.declared.change.Change.TheVariants as changes
 use Rattle.rs_rows.specs.Limits.{fits_row}
 use Rattle.rs_rows.specs.Sizes.{rows_size}
 use Rattle.rs_rows.specs.TableRows.{RowsByNumber, bytes_of}
 use Rattle.rs_eval.specs.Clauses.{holds}
-use Rattle.rs_eval.specs.RowChanges.{has_room, and_others, with_first}
+use Rattle.rs_eval.specs.RowChanges.{given_rows, has_room, inserted, and_others, with_first}
 use Rattle.rs_eval.specs.Setting.{row_set}
 use Rattle.rs_exec.specs.declared.ran.Ran.{Ran}
 use Rattle.rs_exec.specs.declared.ran.Ran.TheVariants as results
@@ -51,6 +52,22 @@ module _ (clauses : List (List BoundCmp)) (rows : RowsByNumber) where
   -- beside the other rows: as many as there are fewer matching rows
   pub room_beside_others : (new : RowList) → has_room (plain (others (Some clauses) rows)) new ≡ has_room_beside (length rows - length (matching (Some clauses) rows)) (bytes_of rows - bytes_of (matching (Some clauses) rows)) new
   room_beside_others new = room_beside (plain (others (Some clauses) rows)) new ∙ ap₂ (λ (count bytes : ℕ). has_room_beside count bytes new) others_count others_bytes
+
+-- ---- an INSERT
+
+module _ (values : List Value) (given : List (List BoundTerm)) (rows : RowsByNumber) where
+  new_room : has_room (plain rows) (given_rows values given) ≡ has_room_beside (length rows) (bytes_of rows) (map (λ (row : List Value). row) (given_rows values given))
+  new_room =
+      room_beside (plain rows) (given_rows values given)
+      ∙ ap₂ (λ (count : ℕ) (new : RowList). has_room_beside count (bytes_of rows) new) (length-map rows (λ (entry : ℕ × List Value). entry.1)) (sym (map-id (given_rows values given)))
+
+  -- there is room for the new rows
+  pub insert_fits : has_room_beside (length rows) (bytes_of rows) (map (λ (row : List Value). row) (given_rows values given)) ≡ true → inserted values given (plain rows) ≡ Ok (given_rows values given)
+  insert_fits fits = rw (new_room ∙ fits) refl
+
+  -- there is none
+  pub insert_full : has_room_beside (length rows) (bytes_of rows) (map (λ (row : List Value). row) (given_rows values given)) ≡ false → inserted values given (plain rows) ≡ Err denials.TableFull
+  insert_full full = rw (new_room ∙ full) refl
 
 -- ---- rows after assignments
 
