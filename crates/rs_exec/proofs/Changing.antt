@@ -1,7 +1,7 @@
 -- The room for new rows beside the others of a table, and rows after assignments, one after the other.
-use Rattle.std.proofs.Common.{◌≡◌, ℕ, ◌+◌, ◌-◌, ◌<◌, ◌≤◌, Bool, true, false, cond, not, ◌&&◌, List, [], ◌∷◌, ◌++◌, map, filter, fold, take, drop, get_or, length, Option, Some, Result, Ok, Err, refl, sym, ap, ap₂, ◌∙◌, arith, append_assoc, append-nil, length-append, length-map}
+use Rattle.std.proofs.Common.{◌≡◌, ℕ, ◌+◌, ◌-◌, ◌<◌, ◌≤◌, Bool, true, false, cond, not, ◌&&◌, List, [], ◌∷◌, ◌++◌, map, filter, fold, take, drop, get_or, length, Option, Some, Result, Ok, Err, refl, sym, ap, ap₂, ◌∙◌, arith, append_assoc, append-nil, length-append}
 use Rattle.std.specs.List.{list_all}
-use Rattle.std.proofs.lemmas.List.{at_drop_more, at_drop_all, map-id}
+use Rattle.std.proofs.lemmas.List.{at_drop_more, at_drop_all, length-map, map-id}
 use Rattle.std.proofs.lemmas.List.Filters.{length-filter_both, sum_by-filter_both}
 use Rattle.std.proofs.lemmas.List.Folds.{fold-map}
 use Rattle.std.proofs.lemmas.List.Sums.{sum_by-append}
@@ -61,13 +61,14 @@ module _ (values : List Value) (given : List (List BoundTerm)) (rows : RowsByNum
       room_beside (plain rows) (given_rows values given)
       ∙ ap₂ (λ (count : ℕ) (new : RowList). has_room_beside count (bytes_of rows) new) (length-map rows (λ (entry : ℕ × List Value). entry.1)) (sym (map-id (given_rows values given)))
 
-  -- there is room for the new rows
-  pub insert_fits : has_room_beside (length rows) (bytes_of rows) (map (λ (row : List Value). row) (given_rows values given)) ≡ true → inserted values given (plain rows) ≡ Ok (given_rows values given)
-  insert_fits fits = rw (new_room ∙ fits) refl
+  by_new_room : (new : RowList) → new ≡ given_rows values given → inserted values given (plain rows) ≡ cond (has_room_beside (length rows) (bytes_of rows) (map (λ (row : List Value). row) new)) (Ok new) (Err denials.TableFull)
+  by_new_room new is =
+      ap (λ (b : Bool). cond b (Ok (given_rows values given)) (Err denials.TableFull)) new_room
+      ∙ ap (λ (made : RowList). cond (has_room_beside (length rows) (bytes_of rows) (map (λ (row : List Value). row) made)) (Ok made) (Err denials.TableFull)) (sym is)
 
-  -- there is none
-  pub insert_full : has_room_beside (length rows) (bytes_of rows) (map (λ (row : List Value). row) (given_rows values given)) ≡ false → inserted values given (plain rows) ≡ Err denials.TableFull
-  insert_full full = rw (new_room ∙ full) refl
+  -- there is room for the new rows
+  pub insert_fits : (new : RowList) → new ≡ given_rows values given → has_room_beside (length rows) (bytes_of rows) (map (λ (row : List Value). row) new) ≡ true → Ok new ≡ inserted values given (plain rows)
+  insert_fits new is fits = sym (by_new_room new is ∙ ap (λ (b : Bool). cond b (Ok new) (Err denials.TableFull)) fits)
 
 -- ---- rows after assignments
 

@@ -47,11 +47,18 @@ impl<'t> HasRow for NumberedRow<'t> {
     }
 }
 
+/// Returns whether a table may hold the row.
+fn fits<T: HasRow>(row: &T) -> bool
+    ensures { result ≡ fits_row (T.values row.now) }
+{
+    fits_row(row.as_values())
+}
+
 /// Returns whether a table may hold each of the rows.
 fn each_fits<T: HasRow>(rows: &[T]) -> bool
-    ensures { result ≡ list_all fits_row (map T.values rows.now) }
+    ensures { result ≡ list_all (λ row. fits_row (T.values row)) rows.now }
 {
-    rows.iter().all(|row| fits_row(row.as_values()))
+    rows.iter().all(|row| fits(row))
 }
 
 /// Returns the encoded size of the rows in bytes, at most 2 ^ 64 - 1.

@@ -56,7 +56,7 @@ pub(crate) fn run_update<'t, R: ReadRows<'t>>(
 ) -> Result<Ran, NoMemory>
     ensures { (clauses : List (List BoundCmp)) → matching.now ≡ spec.matching (Some clauses) (R.rows rows.now)
         → IfOk result (λ ran. ran ≡ spec.updated name (spec.others (Some clauses) (R.rows rows.now))
-            (spec.set_rows sets.now values.now matching.now)) }
+        (spec.set_rows sets.now values.now matching.now)) }
 {
     match set_rows(alloc, sets, values, matching)? {
         Ok(new) if has_room_in_place(rows, matching, new.as_slice()) => replace(alloc, name, new),
