@@ -1,5 +1,5 @@
 -- What a section gives over the rows of a table.
-use Rattle.std.specs.Prelude.{ℕ, Bool, not, List, [], ◌∷◌, map, filter, length, Option, Some, None, Result, Ok, Err, slice_get, if◌then◌else◌}
+use Rattle.std.specs.Prelude.{ℕ, ◌==◌, Bool, not, List, [], ◌∷◌, map, filter, length, Option, Some, None, Result, Ok, Err, slice_get, if◌then◌else◌}
 use Rattle.std.specs.List.{filter_map}
 use Rattle.rs_base.specs.declared.name.Swn.{Swn}
 use Rattle.rs_base.specs.declared.reply.Denial.{Denial}
@@ -73,10 +73,9 @@ queried columns from rows = results.Rows (page from (shipped columns rows)).0 (p
 
 -- ---- changes
 
--- no change if there is no row to change
-abbrev pub change_of : {A : Type 0} → List A → Change → List Change
-change_of [] change = []
-change_of (row ∷ rows) change = change ∷ []
+-- no change if this number of rows to change is 0
+abbrev pub change_of : ℕ → Change → List Change
+change_of count change = if count == 0 then [] else change ∷ []
 
 -- the rows are appended, unless a row or the table would be too large
 abbrev pub appended : Swn → Result RowList Denial → Ran
@@ -85,7 +84,7 @@ appended name (Err cause) = results.Denied cause
 
 -- the matching rows are removed
 abbrev pub deleted : Swn → RowsByNumber → Ran
-deleted name rows = results.Changes (change_of rows (changes.Remove name (numbers rows))) (length rows)
+deleted name rows = results.Changes (change_of (length rows) (changes.Remove name (numbers rows))) (length rows)
 
 -- the row after the assignments, with its number, or Overflow
 abbrev pub set_entry : ℕ → Result (List Value) Denial → Result (ℕ × List Value) Denial
@@ -103,7 +102,7 @@ set_rows sets values ((number, row) ∷ rows) =
 -- them and its other rows
 abbrev pub updated : Swn → RowsByNumber → Result RowsByNumber Denial → Ran
 updated name other_rows (Ok rows) =
-    if has_room (plain other_rows) (plain rows) then results.Changes (change_of rows (changes.Replace name rows)) (length rows)
+    if has_room (plain other_rows) (plain rows) then results.Changes (change_of (length rows) (changes.Replace name rows)) (length rows)
     else results.Denied denials.TableFull
 updated name other_rows (Err cause) = results.Denied cause
 
