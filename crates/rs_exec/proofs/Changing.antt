@@ -1,9 +1,10 @@
 -- The room for new rows beside the others of a table, and rows after assignments, one after the other.
-use Rattle.std.proofs.Common.{◌≡◌, ℕ, ◌+◌, ◌-◌, ◌<◌, ◌≤◌, Bool, true, false, cond, not, ◌&&◌, List, [], ◌∷◌, ◌++◌, map, filter, fold, take, drop, get_or, length, Option, Some, Result, Ok, Err, refl, sym, ap, ap₂, ◌∙◌, arith, append_assoc, append-nil, length-append}
+use Rattle.std.proofs.Common.{◌≡◌, ℕ, ◌+◌, ◌-◌, ◌<◌, ◌≤◌, Bool, true, false, cond, not, ◌&&◌, List, [], ◌∷◌, ◌++◌, map, filter, fold, min, nat_le, leb-true, take, drop, get_or, length, Option, Some, Result, Ok, Err, refl, sym, ap, ap₂, ◌∙◌, arith, append_assoc, append-nil, length-append}
 use Rattle.std.specs.List.{list_all}
+use Rattle.std.proofs.lemmas.Bool.{leb-false, lt-leb}
 use Rattle.std.proofs.lemmas.List.{at_drop_more, at_drop_all, length-map, map-id}
 use Rattle.std.proofs.lemmas.List.Filters.{length-filter_both, sum_by-filter_both}
-use Rattle.std.proofs.lemmas.List.Folds.{fold-map}
+use Rattle.std.proofs.lemmas.List.Folds.{fold-map, list_all-map}
 use Rattle.std.proofs.lemmas.List.Sums.{sum_by-append}
 use Rattle.rs_base.specs.Sizes.{row_size}
 use Rattle.rs_base.specs.Value.{RowList}
@@ -27,6 +28,23 @@ use Rattle.rs_exec.specs.Room.{fits_table, has_room_beside}
 use Rattle.rs_exec.specs.Running.{matching, others, plain, change_of, set_entry, set_rows, updated}
 
 -- ---- room
+
+-- a number that stays at 2 ^ 64 - 1 is at most a smaller one exactly if it is so without that bound
+capped : (count whole top : ℕ) → count ≡ min whole (2 ^ 64 - 1) → top < 2 ^ 64 - 1 → nat_le count top ≡ nat_le whole top
+capped count whole top is large = by (nat_le whole top) refl
+  where
+    by : (b : Bool) → nat_le whole top ≡ b → nat_le count top ≡ nat_le whole top
+    by true within = let at_most = leb-true whole top within in ap (λ (n : ℕ). nat_le n top) (let same : count ≡ whole = omega arith in same)
+    by false past = let above = leb-false whole top past in lt-leb count top (omega arith) ∙ sym past
+
+-- the test of the room for new rows, by its parts
+pub room_by_parts : {T : Type 0} (values : T → List Value) (new : List T) (count bytes size all_count all_bytes : ℕ) → size ≡ min (rows_size (map values new)) (2 ^ 64 - 1) → all_count ≡ min (count + length new) (2 ^ 64 - 1) → all_bytes ≡ min (bytes + size) (2 ^ 64 - 1)
+    → (list_all (λ (row : T). fits_row (values row)) new && fits_table all_count all_bytes) ≡ has_room_beside count bytes (map values new)
+room_by_parts {T} values new count bytes size all_count all_bytes is_size is_count is_bytes =
+    let rows = map values new in
+    let counted : nat_le all_count 65536 ≡ nat_le (count + length rows) 65536 = capped all_count (count + length rows) 65536 (omega (arith, is_count, length-map new values)) (omega arith) in
+    let sized : nat_le all_bytes 8388608 ≡ nat_le (bytes + rows_size rows) 8388608 = capped all_bytes (bytes + rows_size rows) 8388608 (omega (arith, is_size, is_bytes)) (omega arith) in
+    ap₂ (λ (each table : Bool). each && table) (sym (list_all-map fits_row values new)) (ap₂ (λ (few small : Bool). few && small) counted sized)
 
 -- rows that are counted, and their bytes
 pub room_beside : (rows new : RowList) → has_room rows new ≡ has_room_beside (length rows) (rows_size rows) new

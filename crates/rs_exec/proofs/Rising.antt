@@ -37,7 +37,7 @@ same_rising (x ∷ xs) (y ∷ ys) r s from to =
       | inr x_later ↦ elim (to y (inl refl)) [
         | inl own ↦ own
         | inr y_later ↦ absurd (let one : y < x = above_y x x_later in let other : x < y = above_x y y_later in omega arith)
-        ]
+      ]
     ]
 
     later : (n : ℕ) → In n xs → In n ys

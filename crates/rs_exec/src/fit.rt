@@ -8,9 +8,7 @@ ghost use Rattle.rs_plan.specs.Over as over;
 ghost use Rattle.rs_exec.specs.Fit.{column_kinds, value_kinds};
 ghost use Rattle.rs_exec.specs.Fit as spec;
 
-use rs_ast::{
-    Arith, BoundClause, BoundCmp, BoundRow, BoundSet, BoundSide, BoundTerm, ColDef,
-};
+use rs_ast::{Arith, BoundClause, BoundCmp, BoundRow, BoundSet, BoundSide, BoundTerm, ColDef};
 use rs_base::{Kind, Value};
 use rs_plan::{Section, SectionKind};
 
@@ -54,9 +52,7 @@ fn param_kind(values: Option<&[Value]>, param: u8) -> Option<Kind>
     ensures { result ≡ over.param_kind (value_kinds (option_copied values.entry)) param }
 {
     match values {
-        Some(values) => values
-            .get(usize::from(param))
-            .map(|value| value.kind()),
+        Some(values) => values.get(usize::from(param)).map(|value| value.kind()),
         None => None,
     }
 }
@@ -172,17 +168,11 @@ fn term_is_there(columns: &[ColDef], values: Option<&[Value]>, term: &BoundTerm)
     }
 }
 
-fn term_fits(
-    columns: &[ColDef],
-    values: Option<&[Value]>,
-    kind: Kind,
-    term: &BoundTerm,
-) -> bool
+fn term_fits(columns: &[ColDef], values: Option<&[Value]>, kind: Kind, term: &BoundTerm) -> bool
     ensures { result
         ≡ over.term_fits (column_kinds columns.now) (value_kinds (option_copied values.entry)) kind term.now }
 {
-    term_is_there(columns, values, term)
-        && kinds_fit(Some(kind), term_kind(columns, values, term))
+    term_is_there(columns, values, term) && kinds_fit(Some(kind), term_kind(columns, values, term))
 }
 
 fn more_fits(

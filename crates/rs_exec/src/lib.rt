@@ -3,10 +3,13 @@
 
 mod changes;
 mod delete;
+mod fit;
 mod insert;
 mod numbered_row;
+mod predicate;
 mod ran;
 mod room;
 mod update;
 
+pub use fit::fits;
 pub use ran::Ran;
