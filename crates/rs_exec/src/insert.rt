@@ -15,7 +15,7 @@ use rs_rows::ReadRows;
 use std::alloc::Global;
 
 /// Makes an inserted row, with values for its parameters.
-fn given_row(alloc: Global, values: &[Value], terms: &[BoundTerm]) -> Result<Row, NoMemory>
+fn inserted_row(alloc: Global, values: &[Value], terms: &[BoundTerm]) -> Result<Row, NoMemory>
     ensures { IfOk result (λ row. row ≡ map (term_value values.now []) terms.now) }
 {
     let mut row = with_room(alloc, terms.len())?;
@@ -26,12 +26,12 @@ fn given_row(alloc: Global, values: &[Value], terms: &[BoundTerm]) -> Result<Row
 }
 
 /// Makes the inserted rows, with values for their parameters.
-fn given_rows(alloc: Global, values: &[Value], given: &[BoundRow]) -> Result<Rows, NoMemory>
-    ensures { IfOk result (λ rows. rows ≡ row_changes.given_rows values.now given.now) }
+fn inserted_rows(alloc: Global, values: &[Value], bound: &[BoundRow]) -> Result<Rows, NoMemory>
+    ensures { IfOk result (λ rows. rows ≡ row_changes.given_rows values.now bound.now) }
 {
-    let mut rows = with_room(alloc, given.len())?;
-    for terms in given {
-        rows.push(given_row(alloc, values, terms.as_slice())?)?;
+    let mut rows = with_room(alloc, bound.len())?;
+    for terms in bound {
+        rows.push(inserted_row(alloc, values, terms.as_slice())?)?;
     }
     Ok(rows)
 }
@@ -51,13 +51,13 @@ pub(crate) fn run_insert<'t, R: ReadRows<'t>>(
     alloc: Global,
     name: Swn,
     values: &[Value],
-    given: &[BoundRow],
+    bound: &[BoundRow],
     rows: &R,
 ) -> Result<Ran, NoMemory>
     ensures { IfOk result (λ ran. ran
-        ≡ appended name (row_changes.inserted values.now given.now (plain (R.rows rows.now)))) }
+        ≡ appended name (row_changes.inserted values.now bound.now (plain (R.rows rows.now)))) }
 {
-    let new = given_rows(alloc, values, given)?;
+    let new = inserted_rows(alloc, values, bound)?;
     if has_room_beside(rows.count(), rows.bytes(), new.as_slice()) {
         append(alloc, name, new)
     } else {

@@ -11,8 +11,8 @@ use crate::numbered_row::NumberedRow;
 use rs_base::{Row, Value, row_size};
 use rs_rows::{MAX_ROWS, MAX_TABLE_BYTES, ReadRows, fits_row};
 
-/// Something that has a row.
-pub(crate) trait HasRow {
+/// A row, in whatever form it is held.
+pub(crate) trait AsValues {
     ghost use Rattle.std.specs.Prelude.{List};
     ghost use Rattle.rs_base.specs.declared.value.Value.{Value};
 
@@ -23,7 +23,7 @@ pub(crate) trait HasRow {
         ensures { result.now ≡ values self.now };
 }
 
-impl HasRow for Row {
+impl AsValues for Row {
     ghost values = { λ row. row };
 
     fn as_values(&self) -> &[Value] {
@@ -31,7 +31,7 @@ impl HasRow for Row {
     }
 }
 
-impl HasRow for (u64, Row) {
+impl AsValues for (u64, Row) {
     ghost values = { λ entry. entry.1 };
 
     fn as_values(&self) -> &[Value] {
@@ -39,7 +39,7 @@ impl HasRow for (u64, Row) {
     }
 }
 
-impl<'t> HasRow for NumberedRow<'t> {
+impl<'t> AsValues for NumberedRow<'t> {
     ghost values = { λ entry. entry.1 };
 
     fn as_values(&self) -> &[Value] {
@@ -48,21 +48,21 @@ impl<'t> HasRow for NumberedRow<'t> {
 }
 
 /// Returns whether a table may hold the row.
-fn fits<T: HasRow>(row: &T) -> bool
+fn is_small<T: AsValues>(row: &T) -> bool
     ensures { result ≡ fits_row (T.values row.now) }
 {
     fits_row(row.as_values())
 }
 
 /// Returns whether a table may hold each of the rows.
-fn each_fits<T: HasRow>(rows: &[T]) -> bool
+fn each_fits<T: AsValues>(rows: &[T]) -> bool
     ensures { result ≡ list_all (λ row. fits_row (T.values row)) rows.now }
 {
-    rows.iter().all(|row| fits(row))
+    rows.iter().all(|row| is_small(row))
 }
 
 /// Returns the encoded size of the rows in bytes, at most 2 ^ 64 - 1.
-fn size_of_rows<T: HasRow>(rows: &[T]) -> u64
+fn size_of_rows<T: AsValues>(rows: &[T]) -> u64
     ensures { result ≡ min (rows_size (map T.values rows.now)) (2 ^ 64 - 1) }
 {
     let mut size = 0u64;
@@ -81,7 +81,7 @@ fn fits_table(count: u64, bytes: u64) -> bool
 
 /// Returns whether each of the rows may be stored, and there is room for them beside this number of rows of this number
 /// of bytes.
-pub(crate) fn has_room_beside<T: HasRow>(count: u64, bytes: u64, new: &[T]) -> bool
+pub(crate) fn has_room_beside<T: AsValues>(count: u64, bytes: u64, new: &[T]) -> bool
     ensures { result ≡ spec.has_room_beside count bytes (map T.values new.now) }
 {
     let count = count.saturating_add(new.len() as u64);

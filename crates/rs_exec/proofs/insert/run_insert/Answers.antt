@@ -10,4 +10,4 @@ pub returns-then-has_room_beside : goal.returns-then-has_room_beside
 returns-then-has_room_beside g c =
     let rows = g.R.ReadRows.rows c.args.rows.now in
     let fits : has_room_beside (length rows) (bytes_of rows) (map (λ row. row) c.in_ok-new.new) ≡ true = cc in
-    IfOk-weaker c.append.result _ _ (λ ran same. same ∙ ap (appended c.args.name) (insert_fits c.args.values.now c.args.given.now rows c.in_ok-new.new c.in_ok-new.ensures fits)) c.append.ensures
+    IfOk-weaker c.append.result _ _ (λ ran same. same ∙ ap (appended c.args.name) (insert_fits c.args.values.now c.args.bound.now rows c.in_ok-new.new c.in_ok-new.ensures fits)) c.append.ensures

@@ -7,7 +7,7 @@ use Rattle.rs_exec.proofs.room.has_room_beside.Goals as goal
 
 pub returns-then-each_fits : goal.returns-then-each_fits
 returns-then-each_fits g c =
-    let values = g.T.HasRow.values in
+    let values = g.T.AsValues.values in
     let new = c.args.new.now in
     let all : list_all (λ row. fits_row (values row)) new ≡ true = sym c.each_fits.ensures ∙ c.if-each_fits.true in
     c.fits_table.ensures
@@ -16,7 +16,7 @@ returns-then-each_fits g c =
 
 pub returns-else-each_fits : goal.returns-else-each_fits
 returns-else-each_fits g c =
-    let values = g.T.HasRow.values in
+    let values = g.T.AsValues.values in
     let new = c.args.new.now in
     let all : list_all (λ row. fits_row (values row)) new ≡ false = sym c.each_fits.ensures ∙ c.if-each_fits.false in
     c.if-each_fits.false
