@@ -2,9 +2,13 @@
 #![tactic(auto)]
 
 mod fit;
+mod matching;
 mod numbered_row;
+mod page;
+mod path;
 mod predicate;
 mod ran;
+mod run;
 
 pub use fit::fits;
 pub use ran::Ran;
