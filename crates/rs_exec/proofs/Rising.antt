@@ -1,12 +1,16 @@
 -- Numbers that rise: a list of them is known by its members; the numbers of some of a table's rows.
 use Rattle.std.proofs.Common.{◌≡◌, ◌⊎◌, inl, inr, ℕ, ◌<◌, Bool, true, false, cond, List, [], ◌∷◌, map, filter, Option, Some, None, refl, sym, ap, ap₂, ◌∙◌, subst, arith, nat_cmp, Less}
-use Rattle.std.specs.List.{AllByRecursion}
-use Rattle.std.specs.List.Sorted.{IsStrictlySortedBy}
+use Rattle.std.specs.Prelude.{Contains, eqb}
+use Rattle.std.specs.List.{AllByRecursion, dedup}
+use Rattle.std.specs.List.Sorted.{IsPermutation, IsSorted, IsStrictlySortedBy}
+use Rattle.std.proofs.lemmas.List.Kept.{Contains-dedup_nat, Contains-from_dedup}
+use Rattle.std.proofs.lemmas.List.Sorted.{Contains-permutation, IsPermutation-sym}
 use Rattle.std.proofs.lemmas.Cmp.{ranked}
-use Rattle.std.proofs.lemmas.Map.Keys.{sorted_head, sorted_tail}
+use Rattle.std.proofs.lemmas.Map.Keys.{sorted_head, sorted_tail, sorted_from_strictly_increasing, IsStrictlyIncreasing-dedup}
 use Rattle.rs_base.specs.declared.value.Value.{Value}
 use Rattle.rs_rows.specs.TableRows.{RowsByNumber, numbers}
 use Rattle.rs_index.proofs.LawLemmas.{In}
+use Rattle.rs_exec.specs.Paths.{IsRisingOf}
 
 -- ---- members
 
@@ -104,3 +108,11 @@ module _ (test : ℕ × List Value → Bool) where
       later : (b : Bool) → test e ≡ b → In number (numbers (filter test rows)) → In number (numbers (filter test (e ∷ rows)))
       later false is more = rw is more
       later true is more = rw is (inr more)
+
+-- numbers that were sorted, each then left once
+pub rising_of : (all sorted left : List ℕ) → IsPermutation all sorted → IsSorted nat_cmp sorted → left ≡ dedup eqb sorted → IsRisingOf all left
+rising_of all sorted left moved ordered is = record {
+  rising = subst (IsStrictlySortedBy nat_cmp) (sym is) (sorted_from_strictly_increasing (dedup eqb sorted) (IsStrictlyIncreasing-dedup sorted ordered));
+  from = λ n has. Contains-permutation sorted all n (IsPermutation-sym all sorted moved) (Contains-from_dedup eqb sorted n (subst (λ (ns : List ℕ). Contains ns n) is has));
+  to = λ n has. subst (λ (ns : List ℕ). Contains ns n) (sym is) (Contains-dedup_nat sorted n (Contains-permutation all sorted n moved has));
+}

@@ -1,6 +1,7 @@
 //! Whether a section fits the columns of its table and the values for its parameters.
 
 ghost use Rattle.std.specs.Prelude.{◌≡◌, map, Some, slice_get};
+ghost use Rattle.std.specs.Cmp.Lexicographic.{pointwise};
 ghost use Rattle.std.specs.List.{list_all, zip};
 ghost use Rattle.std.specs.Option.{option_copied};
 ghost use Rattle.rs_ast.specs.Kinds as kinds;
@@ -37,6 +38,14 @@ fn is_column_index(columns: &[ColDef], column_index: u16) -> bool
     ensures { result ≡ over.is_column_index (column_kinds columns.now) column_index }
 {
     usize::from(column_index) < columns.len()
+}
+
+fn are_column_indexes(columns: &[ColDef], column_indexes: &[u16]) -> bool
+    ensures { result ≡ list_all (over.is_column_index (column_kinds columns.now)) column_indexes.now }
+{
+    column_indexes
+        .iter()
+        .all(|column_index| is_column_index(columns, *column_index))
 }
 
 /// Returns whether there is such a column, of this kind.
@@ -128,10 +137,7 @@ fn query_fits(
     ensures { result ≡ spec.query_fits (column_kinds columns.now) (value_kinds (option_copied values.entry))
         clauses.now shipped.now }
 {
-    clauses_fit(columns, values, clauses)
-        && shipped
-            .iter()
-            .all(|column_index| is_column_index(columns, *column_index))
+    clauses_fit(columns, values, clauses) && are_column_indexes(columns, shipped)
 }
 
 /// Returns whether the column of a fetch is there, and has the kind of the fetched value, if there is one.
@@ -254,12 +260,21 @@ fn each_is_of(columns: &[ColDef], values: Option<&[Value]>, row: &[BoundTerm]) -
         .all(|(term, column)| term_is_of(columns, values, term, column))
 }
 
+/// Returns whether there is a term for each column, of its kind.
+fn are_of(columns: &[ColDef], values: Option<&[Value]>, row: &[BoundTerm]) -> bool
+    ensures { result ≡ pointwise (λ term kind. kinds.kinds_fit (Some kind)
+        (over.term_kind (column_kinds columns.now) (value_kinds (option_copied values.entry)) term))
+        row.now (column_kinds columns.now) }
+{
+    row.len() == columns.len() && each_is_of(columns, values, row)
+}
+
 /// Returns whether the row has a value for each column, of its kind.
 fn row_fits(columns: &[ColDef], values: Option<&[Value]>, row: &[BoundTerm]) -> bool
     ensures { result
         ≡ over.row_fits (column_kinds columns.now) (value_kinds (option_copied values.entry)) row.now }
 {
-    are_given(values, row) && row.len() == columns.len() && each_is_of(columns, values, row)
+    are_given(values, row) && are_of(columns, values, row)
 }
 
 fn rows_fit(columns: &[ColDef], values: Option<&[Value]>, rows: &[BoundRow]) -> bool

@@ -5,10 +5,14 @@ mod changes;
 mod delete;
 mod fit;
 mod insert;
+mod matching;
 mod numbered_row;
+mod page;
+mod path;
 mod predicate;
 mod ran;
 mod room;
+mod run;
 mod update;
 
 pub use fit::fits;
