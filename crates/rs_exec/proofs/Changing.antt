@@ -1,5 +1,5 @@
 -- The room for new rows beside the others of a table, and rows after assignments, one after the other.
-use Rattle.std.proofs.Common.{◌≡◌, ℕ, ◌+◌, ◌-◌, ◌^◌, ◌<◌, ◌≤◌, Bool, true, false, cond, not, ◌&&◌, List, [], ◌∷◌, ◌++◌, map, filter, fold, min, nat_le, leb-true, take, drop, get_or, length, Option, Some, Result, Ok, Err, refl, sym, ap, ap₂, ◌∙◌, arith, append_assoc, append-nil, length-append}
+use Rattle.std.proofs.Common.{◌≡◌, ℕ, ◌+◌, ◌-◌, ◌^◌, ◌<◌, ◌≤◌, Bool, true, false, cond, not, ◌&&◌, List, [], ◌∷◌, ◌++◌, map, fold, min, nat_le, leb-true, drop, get_or, length, Some, Result, Ok, Err, refl, sym, ap, ap₂, ◌∙◌, arith, append_assoc, append-nil, length-append}
 use Rattle.std.specs.List.{list_all}
 use Rattle.std.proofs.lemmas.Bool.{leb-false, lt-leb}
 use Rattle.std.proofs.lemmas.List.{at_drop_more, at_drop_all, length-map, map-id}
@@ -22,7 +22,6 @@ use Rattle.rs_rows.specs.TableRows.{RowsByNumber, bytes_of}
 use Rattle.rs_eval.specs.Clauses.{holds}
 use Rattle.rs_eval.specs.RowChanges.{given_rows, has_room, inserted, and_others, with_first}
 use Rattle.rs_eval.specs.Setting.{row_set}
-use Rattle.rs_exec.specs.declared.ran.Ran.{Ran}
 use Rattle.rs_exec.specs.declared.ran.Ran.TheVariants as results
 use Rattle.rs_exec.specs.Room.{fits_table, has_room_beside}
 use Rattle.rs_exec.specs.Running.{matching, others, plain, change_of, set_entry, set_rows, updated}

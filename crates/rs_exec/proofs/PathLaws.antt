@@ -1,5 +1,5 @@
 -- A path gives the rows that satisfy its clause, and these are all that a predicate needs.
-use Rattle.std.proofs.Common.{◌≡◌, ◌⊎◌, inl, inr, ℕ, ◌==◌, ◌&&◌, ◌||◌, Bool, true, false, cond, List, [], ◌∷◌, ◌++◌, ◌+◌, ◌<◌, map, filter, length, take, get_or, find, Option, Some, None, All, IsTrue, refl, sym, ap, ◌∙◌, subst, arith, nat_cmp}
+use Rattle.std.proofs.Common.{◌≡◌, inl, inr, ℕ, ◌==◌, ◌&&◌, ◌||◌, Bool, true, false, List, [], ◌∷◌, ◌++◌, ◌+◌, ◌<◌, filter, length, take, get_or, find, Option, Some, None, All, IsTrue, refl, sym, ap, ◌∙◌, subst, arith, nat_cmp}
 use Rattle.std.specs.Prelude.{slice_get, Contains, option_map, filter_map}
 use Rattle.std.specs.List.{AllByRecursion, list_all}
 use Rattle.std.specs.List.Sorted.{IsStrictlySortedBy}
@@ -11,7 +11,6 @@ use Rattle.rs_base.specs.declared.value.Value.{Value}
 use Rattle.rs_base.specs.Value.{value_cmp}
 use Rattle.rs_ast.specs.Allows.{allows}
 use Rattle.rs_ast.specs.declared.bound.BoundCmp.{BoundCmp}
-use Rattle.rs_ast.specs.declared.bound.BoundSide.{BoundSide}
 use Rattle.rs_ast.specs.declared.bound.BoundSide.TheVariants as sides
 use Rattle.rs_ast.specs.declared.clause.Op.{Op}
 use Rattle.rs_eval.specs.Clauses.{comparison_holds, cmp_holds, clause_holds, holds}

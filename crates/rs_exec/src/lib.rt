@@ -17,3 +17,4 @@ mod update;
 
 pub use fit::fits;
 pub use ran::Ran;
+pub use run::run_section;

@@ -1,5 +1,4 @@
 use Rattle.std.proofs.Common.{◌∙◌, arith}
-use Rattle.rs_ast.specs.Kinds as kinds
 use Rattle.rs_exec.proofs.Pairs.{all_pairs_pointwise}
 use Rattle.rs_exec.proofs.fit.are_of.Goals as goal
 

@@ -1,4 +1,4 @@
-use Rattle.std.proofs.Common.{rules, ◌≡◌, true, length, map, ap, ◌∙◌}
+use Rattle.std.proofs.Common.{◌≡◌, true, length, map, ap, ◌∙◌}
 use Rattle.std.proofs.lemmas.Result.{IfOk-weaker}
 use Rattle.rs_rows.specs.TableRows.{bytes_of}
 use Rattle.rs_exec.specs.Room.{has_room_beside}

@@ -1,4 +1,4 @@
-use Rattle.std.proofs.Common.{◌≡◌, ℕ, List, ◌++◌, ◌∷◌, [], filter, get_or, take, sym, ap, ◌∙◌, arith}
+use Rattle.std.proofs.Common.{ℕ, List, ◌++◌, ◌∷◌, [], filter, get_or, take, sym, ap, ◌∙◌, arith}
 use Rattle.rs_base.specs.declared.value.Value.{Value}
 use Rattle.rs_rows.specs.TableRows.{RowsByNumber}
 use Rattle.rs_eval.specs.Clauses.{holds}

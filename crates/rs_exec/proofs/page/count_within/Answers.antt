@@ -1,7 +1,7 @@
-use Rattle.std.proofs.Common.{◌≡◌, ◌-◌, ◌+◌, ◌^◌, min, length, ap, ◌∙◌, arith}
+use Rattle.std.proofs.Common.{◌≡◌, ◌-◌, ◌^◌, min, length, ap, ◌∙◌, arith}
 use Rattle.rs_exec.specs.Pages.{encoded_size, rows_within}
 use Rattle.rs_exec.specs.Running.{projected, shipped}
-use Rattle.rs_exec.proofs.PageLaws.{count_more, count_stops, count_ends}
+use Rattle.rs_exec.proofs.PageLaws.{count_more}
 use Rattle.rs_exec.proofs.page.count_within.Goals as goal
 
 pub loop-row-preserved : goal.loop-row-preserved

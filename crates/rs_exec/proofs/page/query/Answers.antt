@@ -1,6 +1,5 @@
 use Rattle.std.proofs.Common.{Bool, ltb, length, ap, ◌∙◌}
 use Rattle.rs_base.specs.Value.{RowList}
-use Rattle.rs_exec.specs.Running.{shipped}
 use Rattle.rs_exec.specs.declared.ran.Ran.TheVariants as results
 use Rattle.rs_exec.proofs.PageLaws.{page_is}
 use Rattle.rs_exec.proofs.page.query.Goals as goal

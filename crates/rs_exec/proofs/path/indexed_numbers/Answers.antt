@@ -1,4 +1,4 @@
-use Rattle.std.proofs.Common.{◌≡◌, ℕ, inl, inr, length, List, subst, sym, ◌∙◌, arith}
+use Rattle.std.proofs.Common.{◌≡◌, ℕ, inl, inr, length, List, subst, ◌∙◌, arith}
 use Rattle.rs_index.specs.Pairs.{range_of}
 use Rattle.rs_exec.specs.Paths.{IsRisingOf}
 use Rattle.rs_exec.proofs.PathLaws.{clause_indexed, clause_unindexed, no_place}

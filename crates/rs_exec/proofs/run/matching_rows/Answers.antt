@@ -1,4 +1,4 @@
-use Rattle.std.proofs.Common.{List, ℕ, subst, ◌∙◌}
+use Rattle.std.proofs.Common.{◌∙◌}
 use Rattle.std.proofs.lemmas.Result.{IfOk-weaker}
 use Rattle.rs_exec.proofs.PathLaws.{matching_read}
 use Rattle.rs_exec.proofs.run.matching_rows.Goals as goal

@@ -1,4 +1,4 @@
-use Rattle.std.proofs.Common.{rules, ◌≡◌, true, false, length, map, sym, ap, ◌∙◌, ◌-◌, Ok}
+use Rattle.std.proofs.Common.{◌≡◌, true, false, length, sym, ◌∙◌, ◌-◌, Ok}
 use Rattle.std.proofs.lemmas.Result.{IfOk-weaker}
 use Rattle.rs_rows.specs.TableRows.{bytes_of}
 use Rattle.rs_exec.specs.Room.{has_room_beside}
