@@ -459,8 +459,10 @@ ENTRIES = [
     (FAR, LAST_MADE, 16, [], [], 0),
 ]
 MODES = ["Read", "Write"]
+NEW_TABLES = [(T, MADE, COLUMNS, INDEXES), (FAR, LAST_MADE, [], []), (T, MADE, COLUMNS[:1] * 130, [])]
 
-# a whole value of each kind of Run and RunStored beside its section: values, fetch, from
+# what Run and RunStored have beside their section: values, fetch, from; and RunStored in its place
+STORED = [(ID, T, "Read"), (LAST_ID, FAR, "Write"), (ID, T, "Write")]
 RUNS = [(MIXED_ROW, int_of(300), 0), ([], None, 2**64 - 1), (EDGES, text_of("ab"), 65536)]
 
 CALLS = [
@@ -470,8 +472,8 @@ CALLS = [
     [("SetBirth", T, 3), ("SetBirth", T, None), ("SetBirth", FAR, 16)],
     [("Describe", name, mode) for name in (T, FAR) for mode in MODES],
     [("Run", section, *RUNS[at % 3]) for at, section in enumerate(SECTIONS)],
-    [("RunStored", ID, T, "Read", *RUNS[0]), ("RunStored", LAST_ID, FAR, "Write", *RUNS[1]), ("RunStored", ID, T, "Write", *RUNS[2])],
-    [("MakeTable", T, MADE, COLUMNS, INDEXES), ("MakeTable", FAR, LAST_MADE, [], []), ("MakeTable", T, MADE, COLUMNS[:1] * 130, [])],
+    [("RunStored", *stored, *run) for stored, run in zip(STORED, RUNS)],
+    [("MakeTable", *table) for table in NEW_TABLES],
     [("PutRows", T, rows) for rows in reversed(ALL_ROWS)],
     [("Dump", T, 0), ("Dump", FAR, 2**64 - 1)],
     [("DropTable", T), ("DropTable", FAR)],
@@ -508,7 +510,7 @@ CHANGES = [
     [("Body", "ann", "p", at + 1, body) for at, body in enumerate(BODIES)],
     [("Keep", ID, section, ("Index", "i", MADE)) for section in SECTIONS]
     + [("Keep", LAST_ID, SECTIONS[1], ("Scan",)), ("Keep", ID, SECTIONS[0], ("Index", LONG, LAST_MADE))],
-    [("MakeTable", T, MADE, COLUMNS, INDEXES), ("MakeTable", FAR, LAST_MADE, [], []), ("MakeTable", T, MADE, COLUMNS[:1] * 130, [])],
+    [("MakeTable", *table) for table in NEW_TABLES],
     [("PutRows", T, rows) for rows in reversed(ALL_ROWS)],
     [("Remove", T, [0, 127, 128, 65535, 2**63, 2**64 - 1]), ("Remove", FAR, []), ("Remove", T, list(range(130)))],
     [("Replace", T, [(0, MIXED_ROW), (2**64 - 1, EDGES), (128, [])]), ("Replace", FAR, [])],
