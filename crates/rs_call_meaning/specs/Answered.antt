@@ -1,5 +1,5 @@
 -- The reply to a call, and the changes that the call makes.
-use Rattle.std.specs.Prelude.{List, [], ◌∷◌, Option}
+use Rattle.std.specs.Prelude.{List, [], ◌∷◌}
 use Rattle.std.specs.Option.{option_map_or}
 use Rattle.rs_plan.specs.declared.call_reply.CallReply.{CallReply}
 use Rattle.rs_plan.specs.declared.call_reply.CallReply.TheVariants as replies

@@ -1,5 +1,5 @@
 -- Stored sections: which are kept, which fit their table, and what the call that stores one is answered.
-use Rattle.std.specs.Prelude.{ℕ, Bool, true, false, not, ◌&&◌, ◌==◌, List, Option, None, find, bytes_eq, if◌then◌else◌}
+use Rattle.std.specs.Prelude.{Bool, false, not, ◌&&◌, ◌==◌, List, Option, None, find, bytes_eq, if◌then◌else◌}
 use Rattle.std.specs.List.{list_any}
 use Rattle.std.specs.Ordering.{is_eq}
 use Rattle.rs_base.specs.declared.lock.Mode.{Mode}
