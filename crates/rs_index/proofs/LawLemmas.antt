@@ -189,6 +189,30 @@ range_in test number value (p ∷ ps) there passes =
     later false is more = rw is more
     later true is more = rw is (inr more)
 
+-- ---- the rows of a range
+
+-- the row of this number has a value in the column, and that satisfies the comparison
+pub record HasSatisfying (column : ℕ) (op : Op) (value : Value) (number : ℕ) (rows : List (ℕ × List Value)) : Type 0 where
+  pub row : List Value
+  pub there : In (number, row) rows
+  pub own : Value
+  pub has : slice_get row column ≡ Some own
+  pub holds : allows op (value_cmp own value) ≡ true
+
+-- a number of a range is that of such a row
+pub row_of_range : (column : ℕ) (op : Op) (value : Value) (number : ℕ) (rows : List (ℕ × List Value)) → In number (range_of op value (pairs_of column rows)) → HasSatisfying column op value number rows
+row_of_range column op value number rows has =
+    let pair : HasPair (λ p. allows op (value_cmp p.0 value)) number (pairs_of column rows) = in_range (λ p. allows op (value_cmp p.0 value)) number (pairs_of column rows) has in
+    let made : In {A = Value × ℕ} (pair.value, number) [] ⊎ In (pair.value, number) (filter_map (pair_of column) rows) = in_all (pair.value, number) (filter_map (pair_of column) rows) [] pair.there in
+    let row : HasRow column (pair.value, number) rows = in_rows column (pair.value, number) rows (elim made [ inl none ↦ absurd none | inr it ↦ it ]) in
+    record { row = row.row; there = row.there; own = pair.value; has = row.value; holds = pair.passes }
+
+-- and the number of such a row is in the range
+pub range_of_row : (column : ℕ) (op : Op) (value : Value) (number : ℕ) (rows : List (ℕ × List Value)) → HasSatisfying column op value number rows → In number (range_of op value (pairs_of column rows))
+range_of_row column op value number rows it =
+    let there : In (it.own, number) (pairs_of column rows) = all_in (it.own, number) (filter_map (pair_of column) rows) [] (inr (rows_in column (it.own, number) it.row rows it.there it.has)) in
+    range_in (λ p. allows op (value_cmp p.0 value)) number it.own (pairs_of column rows) there it.holds
+
 -- ---- the row of a number
 
 distinct_none : IsDistinct nat_eq []
@@ -206,12 +230,13 @@ distinct_from_sorted (k ∷ ks) sorted = IsDistinct-cons nat_eq k ks (others ks 
     others [] above = tt
     others (y ∷ ys) above = (apart y above.0, others ys above.1)
 
-distinct_numbers : (table : TableRows) → IsTable table → IsDistinct nat_eq (keys_of table.rows)
-distinct_numbers table is = distinct_from_sorted (keys_of table.rows) is.rising
+-- where the numbers rise, the row with a number is the only one
+pub row_of_in : (rows : List (ℕ × List Value)) (number : ℕ) (row : List Value) → IsStrictlySortedBy nat_cmp (keys_of rows) → In (number, row) rows → row_of number rows ≡ Some row
+row_of_in rows number row rising there =
+    lookup-from_Contains nat_eq_equiv number row rows (distinct_from_sorted (keys_of rows) rising) (contains_from_in rows (number, row) there)
 
 row_found : (table : TableRows) (number : ℕ) (row : List Value) → IsTable table → In (number, row) table.rows → row_of number table.rows ≡ Some row
-row_found table number row is there =
-    lookup-from_Contains nat_eq_equiv number row table.rows (distinct_numbers table is) (contains_from_in table.rows (number, row) there)
+row_found table number row is there = row_of_in table.rows number row is.rising there
 
 row_there : (table : TableRows) (number : ℕ) (row : List Value) → row_of number table.rows ≡ Some row → In (number, row) table.rows
 row_there table number row found = in_from_contains table.rows (number, row) (Contains-from_lookup exact_unsigned_eq number row table.rows found)
