@@ -1,0 +1,10 @@
+pub mod Contents
+pub mod Answered
+pub mod Locks
+pub mod Synonyms
+pub mod Births
+pub mod Tables
+pub mod Sections
+pub mod Rows
+pub mod Programs
+pub mod Meaning
