@@ -4,6 +4,7 @@
 mod index;
 mod random;
 mod rows;
+mod sections;
 
 use rs_base::NoMemory;
 use std::alloc::Global;
@@ -20,6 +21,7 @@ fn make(alloc: Global, line: &str) -> Option<Result<u64, NoMemory>> {
     match structure {
         "rows" => rows::make(alloc, call, count, size),
         "index" => index::make(alloc, call, count, size),
+        "sections" => sections::make(alloc, call, count, size),
         _ => None,
     }
 }

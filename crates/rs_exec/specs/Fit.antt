@@ -34,10 +34,12 @@ query_fits columns given clauses shipped = clauses_fit columns given clauses && 
 -- kinds of their columns, and a row one value for each; only integers are computed with.
 abbrev pub kind_fits : List Kind → Option (List Kind) → Option Value → SectionKind → Bool
 kind_fits columns given fetch (sections.Scan clauses shipped) = query_fits columns given clauses shipped
-kind_fits columns given fetch (sections.Fetch clauses shipped by) = query_fits columns given clauses shipped && fetch_fits columns by fetch
+kind_fits columns given fetch (sections.Fetch clauses shipped by) =
+    query_fits columns given clauses shipped && fetch_fits columns by fetch
 kind_fits columns given fetch (sections.Insert rows) = list_all (row_fits columns given) rows
 kind_fits columns given fetch (sections.Delete clauses) = clauses_fit columns given clauses
-kind_fits columns given fetch (sections.Update sets clauses) = list_all (set_fits columns given) sets && clauses_fit columns given clauses
+kind_fits columns given fetch (sections.Update sets clauses) =
+    list_all (set_fits columns given) sets && clauses_fit columns given clauses
 
 -- the section fits these columns, the values, if there are values, and the fetched value, if there is one
 unfoldable pub section_fits : Section → List ColDef → Option (List Value) → Option Value → Bool

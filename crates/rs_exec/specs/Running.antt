@@ -102,7 +102,8 @@ set_rows sets values ((number, row) ∷ rows) =
 -- them and its other rows
 abbrev pub updated : Swn → RowsByNumber → Result RowsByNumber Denial → Ran
 updated name other_rows (Ok rows) =
-    if has_room (plain other_rows) (plain rows) then results.Changes (change_of (length rows) (changes.Replace name rows)) (length rows)
+    if has_room (plain other_rows) (plain rows)
+    then results.Changes (change_of (length rows) (changes.Replace name rows)) (length rows)
     else results.Denied denials.TableFull
 updated name other_rows (Err cause) = results.Denied cause
 
@@ -114,7 +115,8 @@ ran_over name (sections.Scan clauses columns) values from rows match other_rows 
 ran_over name (sections.Fetch clauses columns by) values from rows match other_rows = queried columns from match
 ran_over name (sections.Insert given) values from rows match other_rows = appended name (inserted values given (plain rows))
 ran_over name (sections.Delete clauses) values from rows match other_rows = deleted name match
-ran_over name (sections.Update sets clauses) values from rows match other_rows = updated name other_rows (set_rows sets values match)
+ran_over name (sections.Update sets clauses) values from rows match other_rows =
+    updated name other_rows (set_rows sets values match)
 
 -- What a section gives over the rows of its table, with values for its parameters and for a fetch: a page of the matching
 -- rows after the first `from`; or changes of the table, and the number of rows that they insert, delete or update; or the

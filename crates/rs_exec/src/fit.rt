@@ -80,7 +80,8 @@ fn has_value(values: Option<&[Value]>, param: u8) -> bool
 
 fn side_kind(columns: &[ColDef], values: Option<&[Value]>, side: &BoundSide) -> Option<Kind>
     ensures { result
-        ≡ over.side_kind (column_kinds columns.now) (value_kinds (option_copied values.entry)) side.now }
+        ≡ over.side_kind (column_kinds columns.now)
+        (value_kinds (option_copied values.entry)) side.now }
 {
     match side {
         BoundSide::Place(column_index) => column_kind(columns, *column_index),
@@ -91,7 +92,8 @@ fn side_kind(columns: &[ColDef], values: Option<&[Value]>, side: &BoundSide) -> 
 
 fn side_is_there(columns: &[ColDef], values: Option<&[Value]>, side: &BoundSide) -> bool
     ensures { result
-        ≡ over.side_is_there (column_kinds columns.now) (value_kinds (option_copied values.entry)) side.now }
+        ≡ over.side_is_there (column_kinds columns.now)
+        (value_kinds (option_copied values.entry)) side.now }
 {
     match side {
         BoundSide::Place(column_index) => is_column_index(columns, *column_index),
@@ -102,7 +104,8 @@ fn side_is_there(columns: &[ColDef], values: Option<&[Value]>, side: &BoundSide)
 
 fn cmp_fits(columns: &[ColDef], values: Option<&[Value]>, cmp: &BoundCmp) -> bool
     ensures { result
-        ≡ over.cmp_fits (column_kinds columns.now) (value_kinds (option_copied values.entry)) cmp.now }
+        ≡ over.cmp_fits (column_kinds columns.now)
+        (value_kinds (option_copied values.entry)) cmp.now }
 {
     is_column_index(columns, cmp.left)
         && side_is_there(columns, values, &cmp.right)
@@ -114,14 +117,16 @@ fn cmp_fits(columns: &[ColDef], values: Option<&[Value]>, cmp: &BoundCmp) -> boo
 
 fn clause_fits(columns: &[ColDef], values: Option<&[Value]>, clause: &[BoundCmp]) -> bool
     ensures { result
-        ≡ list_all (over.cmp_fits (column_kinds columns.now) (value_kinds (option_copied values.entry))) clause.now }
+        ≡ list_all (over.cmp_fits (column_kinds columns.now)
+        (value_kinds (option_copied values.entry))) clause.now }
 {
     clause.iter().all(|cmp| cmp_fits(columns, values, cmp))
 }
 
 fn clauses_fit(columns: &[ColDef], values: Option<&[Value]>, clauses: &[BoundClause]) -> bool
     ensures { result
-        ≡ over.clauses_fit (column_kinds columns.now) (value_kinds (option_copied values.entry)) clauses.now }
+        ≡ over.clauses_fit (column_kinds columns.now)
+        (value_kinds (option_copied values.entry)) clauses.now }
 {
     clauses
         .iter()
@@ -134,7 +139,8 @@ fn query_fits(
     clauses: &[BoundClause],
     shipped: &[u16],
 ) -> bool
-    ensures { result ≡ spec.query_fits (column_kinds columns.now) (value_kinds (option_copied values.entry))
+    ensures { result ≡ spec.query_fits (column_kinds columns.now)
+        (value_kinds (option_copied values.entry))
         clauses.now shipped.now }
 {
     clauses_fit(columns, values, clauses) && are_column_indexes(columns, shipped)
@@ -154,7 +160,8 @@ fn fetch_fits(columns: &[ColDef], by: u8, fetch: Option<&Value>) -> bool
 
 fn term_kind(columns: &[ColDef], values: Option<&[Value]>, term: &BoundTerm) -> Option<Kind>
     ensures { result
-        ≡ over.term_kind (column_kinds columns.now) (value_kinds (option_copied values.entry)) term.now }
+        ≡ over.term_kind (column_kinds columns.now)
+        (value_kinds (option_copied values.entry)) term.now }
 {
     match term {
         BoundTerm::Place(column_index) => column_kind(columns, *column_index),
@@ -165,7 +172,8 @@ fn term_kind(columns: &[ColDef], values: Option<&[Value]>, term: &BoundTerm) -> 
 
 fn term_is_there(columns: &[ColDef], values: Option<&[Value]>, term: &BoundTerm) -> bool
     ensures { result
-        ≡ over.term_is_there (column_kinds columns.now) (value_kinds (option_copied values.entry)) term.now }
+        ≡ over.term_is_there (column_kinds columns.now)
+        (value_kinds (option_copied values.entry)) term.now }
 {
     match term {
         BoundTerm::Place(column_index) => is_column_index(columns, *column_index),
@@ -176,7 +184,8 @@ fn term_is_there(columns: &[ColDef], values: Option<&[Value]>, term: &BoundTerm)
 
 fn term_fits(columns: &[ColDef], values: Option<&[Value]>, kind: Kind, term: &BoundTerm) -> bool
     ensures { result
-        ≡ over.term_fits (column_kinds columns.now) (value_kinds (option_copied values.entry)) kind term.now }
+        ≡ over.term_fits (column_kinds columns.now)
+        (value_kinds (option_copied values.entry)) kind term.now }
 {
     term_is_there(columns, values, term) && kinds_fit(Some(kind), term_kind(columns, values, term))
 }
@@ -187,7 +196,8 @@ fn more_fits(
     more: &Option<(Arith, BoundTerm)>,
 ) -> bool
     ensures { result
-        ≡ over.more_fits (column_kinds columns.now) (value_kinds (option_copied values.entry)) more.now }
+        ≡ over.more_fits (column_kinds columns.now)
+        (value_kinds (option_copied values.entry)) more.now }
 {
     match more {
         Some((_, second)) => term_fits(columns, values, Kind::Int, second),
@@ -207,7 +217,8 @@ fn set_kind(kind: Kind, more: &Option<(Arith, BoundTerm)>) -> Kind
 
 fn set_fits(columns: &[ColDef], values: Option<&[Value]>, set: &BoundSet) -> bool
     ensures { result
-        ≡ over.set_fits (column_kinds columns.now) (value_kinds (option_copied values.entry)) set.now }
+        ≡ over.set_fits (column_kinds columns.now)
+        (value_kinds (option_copied values.entry)) set.now }
 {
     match column_kind(columns, u16::from(set.column)) {
         Some(kind) => {
@@ -244,7 +255,8 @@ fn term_is_of(
     column: &ColDef,
 ) -> bool
     ensures { result ≡ kinds.kinds_fit (Some column.now.kind)
-        (over.term_kind (column_kinds columns.now) (value_kinds (option_copied values.entry)) term.now) }
+        (over.term_kind (column_kinds columns.now)
+        (value_kinds (option_copied values.entry)) term.now) }
 {
     kinds_fit(Some(column.kind), term_kind(columns, values, term))
 }
@@ -252,7 +264,8 @@ fn term_is_of(
 /// Returns whether each term has the kind of its column, as far as there are both.
 fn each_is_of(columns: &[ColDef], values: Option<&[Value]>, row: &[BoundTerm]) -> bool
     ensures { result ≡ list_all (λ both. kinds.kinds_fit (Some both.1.kind)
-        (over.term_kind (column_kinds columns.now) (value_kinds (option_copied values.entry)) both.0))
+        (over.term_kind (column_kinds columns.now)
+        (value_kinds (option_copied values.entry)) both.0))
         (zip row.now columns.now) }
 {
     row.iter()
@@ -272,7 +285,8 @@ fn are_of(columns: &[ColDef], values: Option<&[Value]>, row: &[BoundTerm]) -> bo
 /// Returns whether the row has a value for each column, of its kind.
 fn row_fits(columns: &[ColDef], values: Option<&[Value]>, row: &[BoundTerm]) -> bool
     ensures { result
-        ≡ over.row_fits (column_kinds columns.now) (value_kinds (option_copied values.entry)) row.now }
+        ≡ over.row_fits (column_kinds columns.now)
+        (value_kinds (option_copied values.entry)) row.now }
 {
     are_given(values, row) && are_of(columns, values, row)
 }
@@ -304,7 +318,8 @@ pub fn fits(
     fetch: Option<&Value>,
 ) -> bool
     ensures { result
-        ≡ spec.section_fits section.now columns.now (option_copied values.entry) (option_copied fetch.entry) }
+        ≡ spec.section_fits section.now columns.now
+        (option_copied values.entry) (option_copied fetch.entry) }
 {
     match &section.kind {
         SectionKind::Scan {

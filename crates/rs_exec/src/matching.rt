@@ -41,7 +41,8 @@ pub(crate) fn read_matching<'t, R: ReadRows<'t>>(
     rows: &mut R,
 ) -> Result<Vec<NumberedRow<'t>>, NoMemory>
     ensures found { IfOk result (λ found. found.items
-        ≡ filter (λ entry. clauses_spec.holds clauses.now entry.1) (rows_at numbers.now (R.rows rows.old))) }
+        ≡ filter (λ entry. clauses_spec.holds clauses.now entry.1)
+        (rows_at numbers.now (R.rows rows.old))) }
     ensures rows { R.rows rows.new ≡ R.rows rows.old }
     ensures reads { R.reads rows.new ≤ R.reads rows.old + length numbers.now }
 {

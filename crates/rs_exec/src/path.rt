@@ -119,7 +119,8 @@ fn rising(mut numbers: Vec<u64>) -> Numbers
 /// Lists the numbers of the rows that satisfy the clause, in order of insertion, by an index of its column.
 fn indexed_numbers(alloc: Global, index: &Index, clause: &[BoundCmp]) -> Result<Numbers, NoMemory>
     requires { IsTrue (is_path_clause index.now.column clause.now) }
-    ensures { (rows : RowsByNumber) → IsStrictlySortedBy nat_cmp (numbers rows) → IsIndexOf rows index.now
+    ensures { (rows : RowsByNumber)
+        → IsStrictlySortedBy nat_cmp (numbers rows) → IsIndexOf rows index.now
         → IfOk result (λ found. found ≡ numbers (spec.satisfying (Some clause.now) rows)) }
 {
     let [cmp] = clause else {

@@ -37,7 +37,8 @@ fn matching_rows<'t, R: ReadRows<'t>>(
     requires rising { IsStrictlySortedBy nat_cmp (numbers (R.rows rows.old)) }
     requires indexes { All (IsIndexOf (R.rows rows.old)) indexes.now }
     requires path { IsTrue (has_index path indexes.now) }
-    ensures found { IfOk result (λ found. found.items ≡ spec.matching (Some clauses.now) (R.rows rows.old)) }
+    ensures found { IfOk result (λ found. found.items
+        ≡ spec.matching (Some clauses.now) (R.rows rows.old)) }
     ensures rows { R.rows rows.new ≡ R.rows rows.old }
     ensures reads { R.reads rows.new
         ≤ R.reads rows.old + length (reading.on_path path clauses.now (R.rows rows.old)) }
@@ -81,7 +82,8 @@ fn outcome_of<'t, R: ReadRows<'t>>(
     rows: &R,
 ) -> Result<Ran, NoMemory>
     ensures { (fetch : Option Value)
-        → matching.now ≡ spec.matching (spec.predicate_of section.now.kind values.now fetch) (R.rows rows.now)
+        → matching.now ≡ spec.matching
+        (spec.predicate_of section.now.kind values.now fetch) (R.rows rows.now)
         → IfOk result (λ ran. ran ≡ spec.ran section.now values.now fetch from (R.rows rows.now)) }
 {
     match &section.kind {

@@ -54,7 +54,8 @@ pub(crate) fn run_update<'t, R: ReadRows<'t>>(
     matching: &[NumberedRow<'_>],
     rows: &R,
 ) -> Result<Ran, NoMemory>
-    ensures { (clauses : List (List BoundCmp)) → matching.now ≡ spec.matching (Some clauses) (R.rows rows.now)
+    ensures { (clauses : List (List BoundCmp))
+        → matching.now ≡ spec.matching (Some clauses) (R.rows rows.now)
         → IfOk result (λ ran. ran ≡ spec.updated name (spec.others (Some clauses) (R.rows rows.now))
         (spec.set_rows sets.now values.now matching.now)) }
 {
