@@ -16,6 +16,32 @@ fn bytes_of(alloc: Global, hex: &str) -> Result<Bytes, NoMemory> {
     Ok(bytes)
 }
 
+/// Takes a call, and appends its encoding.
+fn encode_call(alloc: Global, fields: &mut Fields<'_>, again: &mut Bytes) -> Result<(), ReadFault> {
+    let call = take_call(alloc, fields)?;
+    put_call(alloc, &call, again).map_err(|fault| fault.into())
+}
+
+/// Takes a reply to a call, and appends its encoding.
+fn encode_reply(
+    alloc: Global,
+    fields: &mut Fields<'_>,
+    again: &mut Bytes,
+) -> Result<(), ReadFault> {
+    let reply = take_call_reply(alloc, fields)?;
+    put_call_reply(alloc, &reply, again).map_err(|fault| fault.into())
+}
+
+/// Takes a change, and appends its encoding.
+fn encode_change(
+    alloc: Global,
+    fields: &mut Fields<'_>,
+    again: &mut Bytes,
+) -> Result<(), ReadFault> {
+    let change = take_change(alloc, fields)?;
+    put_change(alloc, &change, again).map_err(|fault| fault.into())
+}
+
 /// Takes a call, a reply or a change, and appends its encoding.
 fn encode_again(
     alloc: Global,
@@ -24,11 +50,10 @@ fn encode_again(
     again: &mut Bytes,
 ) -> Result<(), ReadFault> {
     match kind {
-        "call" => put_call(alloc, &take_call(alloc, fields)?, again)?,
-        "reply" => put_call_reply(alloc, &take_call_reply(alloc, fields)?, again)?,
-        _ => put_change(alloc, &take_change(alloc, fields)?, again)?,
+        "call" => encode_call(alloc, fields, again),
+        "reply" => encode_reply(alloc, fields, again),
+        _ => encode_change(alloc, fields, again),
     }
-    Ok(())
 }
 
 /// Appends how many bytes are left, or that what was taken is encoded otherwise than by the bytes before them.
