@@ -19,7 +19,7 @@ fn bytes_of(alloc: Global, hex: &str) -> Result<Bytes, NoMemory> {
 /// Takes a call, and appends its encoding.
 fn encode_call(alloc: Global, fields: &mut Fields<'_>, again: &mut Bytes) -> Result<(), ReadFault> {
     let call = take_call(alloc, fields)?;
-    put_call(alloc, &call, again).map_err(|fault| fault.into())
+    put_call(alloc, &call, again).map_err(ReadFault::from)
 }
 
 /// Takes a reply to a call, and appends its encoding.
@@ -29,7 +29,7 @@ fn encode_reply(
     again: &mut Bytes,
 ) -> Result<(), ReadFault> {
     let reply = take_call_reply(alloc, fields)?;
-    put_call_reply(alloc, &reply, again).map_err(|fault| fault.into())
+    put_call_reply(alloc, &reply, again).map_err(ReadFault::from)
 }
 
 /// Takes a change, and appends its encoding.
@@ -39,7 +39,7 @@ fn encode_change(
     again: &mut Bytes,
 ) -> Result<(), ReadFault> {
     let change = take_change(alloc, fields)?;
-    put_change(alloc, &change, again).map_err(|fault| fault.into())
+    put_change(alloc, &change, again).map_err(ReadFault::from)
 }
 
 /// Takes a call, a reply or a change, and appends its encoding.
