@@ -1,6 +1,7 @@
 //! Calls of sections over the rows of a table.
 
-ghost use Rattle.std.specs.Prelude.{◌≡◌, All, IfOk};
+ghost use Rattle.std.specs.Prelude.{◌≡◌, ◌==◌, All, find, IfOk};
+ghost use Rattle.std.specs.Option.{option_copied};
 ghost use Rattle.std.specs.List.Sorted.{IsStrictlySortedBy};
 ghost use Rattle.std.specs.Ordering.{nat_cmp};
 ghost use Rattle.rs_exec.specs.Paths as spec;
@@ -110,15 +111,22 @@ fn build_indexes(alloc: Global, table: &TableRows, columns: &[u8]) -> Result<Vec
     Ok(indexes)
 }
 
+/// Returns an index over this column, if there is one.
+fn index_on(indexes: &[Index], column: u8) -> Option<&Index>
+    ensures { option_copied result ≡ find (λ index. index.column == column) indexes.now }
+{
+    indexes.iter().find(|index| index.column() == column)
+}
+
 /// Returns whether the path goes by no index, or one of the indexes is over its column.
 fn has_index(path: Option<u8>, indexes: &[Index]) -> bool
     ensures { result ≡ spec.has_index path indexes.now }
 {
     match path {
-        Some(column) => indexes
-            .iter()
-            .find(|index| index.column() == column)
-            .is_some(),
+        Some(column) => match index_on(indexes, column) {
+            Some(_) => true,
+            None => false,
+        },
         None => true,
     }
 }
