@@ -14,7 +14,7 @@ use std::alloc::Global;
 pub struct ClauseCases;
 
 /// Reads a column `@N`, a parameter `?N`, or a value.
-fn read_side(alloc: Global, word: &str) -> Result<BoundSide, NoMemory> {
+pub fn read_side(alloc: Global, word: &str) -> Result<BoundSide, NoMemory> {
     if let Some(column) = word.strip_prefix('@') {
         return Ok(BoundSide::Place(column.parse().unwrap_or(u16::MAX)));
     }

@@ -6,6 +6,8 @@ mod clauses;
 mod index;
 mod paths;
 mod rows;
+mod section_words;
+mod sections;
 mod stored;
 
 use anyhow::Result;
@@ -16,6 +18,7 @@ use paths::PathCases;
 use rows::RowCases;
 use rs_base::NoMemory;
 use rs_stream::{StdSink, write_whole};
+use sections::SectionCases;
 use std::fs;
 use std::rt::Files;
 use stored::StoredCases;
@@ -26,6 +29,7 @@ fn check_kind(kind: &str, file: &str, text: &str, out: &mut Output) -> Result<()
         "rows" => check_cases(&mut RowCases::new(out.alloc), kind, file, text, out),
         "stored" => check_cases(&mut StoredCases::new(out.alloc), kind, file, text, out),
         "index" => check_cases(&mut IndexCases::new(out.alloc)?, kind, file, text, out),
+        "sections" => check_cases(&mut SectionCases::new(out.alloc), kind, file, text, out),
         "clauses" => check_cases(&mut ClauseCases, kind, file, text, out),
         _ => check_cases(&mut PathCases::new(out.alloc), kind, file, text, out),
     }

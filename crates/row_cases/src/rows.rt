@@ -12,7 +12,7 @@ pub struct RowCases {
 }
 
 /// Appends the values of a row, separated by `,`, in parentheses.
-fn append_row(row: &[Value], out: &mut Output) {
+pub fn append_row(row: &[Value], out: &mut Output) {
     out.text("(");
     for (index, value) in row.iter().enumerate() {
         out.text(if index > 0 { "," } else { "" });
