@@ -1,0 +1,9 @@
+pub mod Maps
+pub mod Orders
+pub mod Fitting
+pub mod Settling
+pub mod Verdicts
+pub mod Queues
+pub mod Kept
+pub mod LawProofs
+pub mod Waiting

@@ -1,0 +1,83 @@
+-- Laws of locks, over every list of calls.
+use Rattle.std.specs.Prelude.{◌≡◌, ◌⊎◌, Bool, true, false, ◌&&◌, not, List, [], ◌∷◌, length, Some, None, if◌then◌else◌}
+use Rattle.std.specs.List.{list_all, list_any}
+use Rattle.rs_base.specs.declared.lock.Resource.{Resource}
+use Rattle.rs_base.specs.declared.txn.Enlist.{Enlist}
+use Rattle.rs_lock.specs.declared.answer.Ended.{Ended}
+use Rattle.rs_lock.specs.declared.claim.Claim.{Claim}
+use Rattle.rs_lock.specs.Calls.{lock_of, age, tick}
+use Rattle.rs_lock.specs.Claims.{is_write, same, is_by, has, other_than}
+use Rattle.rs_lock.specs.Courses.{Call, after}
+use Rattle.rs_lock.specs.Lock.{Lock, has_to_wait, released, next_grant}
+use Rattle.rs_lock.specs.Locks.{Locks}
+use Rattle.rs_lock.specs.Waits.{first_over}
+
+-- ---- one writer alone, or any number of readers
+
+abbrev pub is_reader : Claim → Bool
+is_reader claim = not (is_write claim.mode)
+
+abbrev pub IsOneOrReaders : List Claim → Type 0
+IsOneOrReaders holders = (list_all is_reader holders ≡ true) ⊎ (length holders ≡ 1)
+
+-- at every moment all holders of a resource read, or there is one holder alone
+abbrev pub OneWriterOrReaders : Type 0
+OneWriterOrReaders = (calls : List Call) (what : Resource) → IsOneOrReaders (lock_of what (after calls)).holders
+
+-- ---- the queue
+
+-- once a claim of the queue is of no holder, all after it are of none
+abbrev pub upgrades_by : (Enlist → Bool) → List Claim → Bool
+upgrades_by holds [] = true
+upgrades_by holds (claim ∷ queue) =
+    if holds claim.who then upgrades_by holds queue
+    else list_all (λ later. not (holds later.who)) queue
+
+abbrev pub upgrades_first : Lock → Bool
+upgrades_first lock = upgrades_by (λ who. has who lock.holders) lock.queue
+
+-- at every moment the upgrades of a resource stand before all other claims of its queue
+abbrev pub UpgradesFirst : Type 0
+UpgradesFirst = (calls : List Call) (what : Resource) → upgrades_first (lock_of what (after calls)) ≡ true
+
+-- no enlistment stands in a queue twice
+abbrev pub each_once : List Claim → Bool
+each_once [] = true
+each_once (claim ∷ queue) = not (has claim.who queue) && each_once queue
+
+abbrev pub QueuedOnce : Type 0
+QueuedOnce = (calls : List Call) (what : Resource) → each_once (lock_of what (after calls)).queue ≡ true
+
+-- one of the claims is another enlistment's
+abbrev pub has_other : Enlist → List Claim → Bool
+has_other who claims = list_any (λ claim. not (is_by who claim)) claims
+
+-- at every moment each enlistment that waits for a resource waits for a holder other than itself
+abbrev pub BlockedByHolder : Type 0
+BlockedByHolder = (calls : List Call) (what : Resource)
+    → list_all (λ queued. has_other queued.who (lock_of what (after calls)).holders) (lock_of what (after calls)).queue ≡ true
+
+-- an ask that isn't covered and has to wait is told of a holder
+abbrev pub WaitsForHolder : Type 0
+WaitsForHolder = (calls : List Call) (what : Resource) (claim : Claim) → has_to_wait claim (lock_of what (after calls)) ≡ true
+    → other_than claim.who (lock_of what (after calls)).holders ≡ None → ⊥
+
+-- ---- a release
+
+-- where an enlistment left, the queue is empty or its first claim conflicts with another holder
+abbrev pub GrantsWhileItCan : Type 0
+GrantsWhileItCan = (who : Enlist) (lock : Lock) (before : List Enlist) → next_grant (released who lock before).0.holders (released who lock before).0.queue ≡ None
+
+-- ---- a tick
+
+-- the holder that is named holds the resource then, and isn't the one who waited
+pub record IsHolder (ended : Ended) (locks : Locks) : Type 0 where
+  pub holds : has ended.holder (lock_of ended.what locks).holders ≡ true
+  pub other : same ended.who ended.holder ≡ false
+
+abbrev pub NamesHolder : Type 0
+NamesHolder = (locks : Locks) (ended : Ended) → (tick locks).0 ≡ Some ended → IsHolder ended locks
+
+-- if a wait has counted enough ticks then one ends: no wait is kept for want of a holder to name
+abbrev pub WaitsEnd : Type 0
+WaitsEnd = (calls : List Call) → (tick (after calls)).0 ≡ None → first_over (age (after calls)).waits ≡ None

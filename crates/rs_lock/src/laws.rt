@@ -1,0 +1,43 @@
+//! Laws of locks, over every list of calls. A law's claim is its contract, and its body is empty.
+
+ghost use Rattle.rs_lock.specs.Laws.{BlockedByHolder, GrantsWhileItCan, NamesHolder, OneWriterOrReaders, QueuedOnce, UpgradesFirst, WaitsEnd, WaitsForHolder};
+
+/// Proves that at every moment all holders of a resource read, or there is one holder alone.
+pub fn one_writer_or_readers()
+    ensures { OneWriterOrReaders }
+{}
+
+/// Proves that at every moment the upgrades of a resource stand before all other claims of its queue.
+pub fn upgrades_first()
+    ensures { UpgradesFirst }
+{}
+
+/// Proves that no enlistment stands in a queue twice.
+pub fn queued_once()
+    ensures { QueuedOnce }
+{}
+
+/// Proves that at every moment each enlistment that waits for a resource waits for a holder other than itself.
+pub fn blocked_by_holder()
+    ensures { BlockedByHolder }
+{}
+
+/// Proves that an ask that has to wait is never granted for want of a holder to name.
+pub fn waits_for_holder()
+    ensures { WaitsForHolder }
+{}
+
+/// Proves that after a release the queue of a resource is empty, or its first claim conflicts with another holder.
+pub fn grants_while_it_can()
+    ensures { GrantsWhileItCan }
+{}
+
+/// Proves that the holder that a tick names holds the resource then, and isn't the one who waited.
+pub fn names_holder()
+    ensures { NamesHolder }
+{}
+
+/// Proves that a tick ends a wait if one has counted enough ticks: none is kept for want of a holder to name.
+pub fn waits_end()
+    ensures { WaitsEnd }
+{}

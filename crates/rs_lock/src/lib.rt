@@ -1,0 +1,19 @@
+//! The locks of a site: one writer or any number of readers, granted in the order of a queue.
+#![tactic(auto)]
+
+mod answer;
+mod claim;
+mod laws;
+mod lock;
+mod locks;
+mod part;
+mod table;
+mod verdict;
+mod wait;
+
+pub use answer::{Asked, Ended, Enlists};
+pub use laws::{
+    blocked_by_holder, grants_while_it_can, names_holder, one_writer_or_readers, queued_once,
+    upgrades_first, waits_end, waits_for_holder,
+};
+pub use locks::Locks;
