@@ -1,5 +1,5 @@
 -- What each change of one lock keeps, the locks have after every list of calls.
-use Rattle.std.proofs.Common.{◌≡◌, Bool, true, false, not, ◌&&◌, ◌||◌, cond, List, [], ◌∷◌, length, map, Option, Some, None, All, refl, sym, subst}
+use Rattle.std.proofs.Common.{◌≡◌, true, false, not, cond, List, [], ◌∷◌, length, map, Option, Some, None, All, refl, sym, subst}
 use Rattle.std.specs.Prelude.{◌==◌, unwrap_or}
 use Rattle.std.specs.BTreeMap.{is_at}
 use Rattle.std.specs.List.{list_any}
@@ -17,12 +17,12 @@ use Rattle.rs_lock.specs.declared.claim.Claim.{Claim}
 use Rattle.rs_lock.specs.declared.verdict.Verdict.{Verdict}
 use Rattle.rs_lock.specs.declared.verdict.Verdict.TheVariants as verdicts
 use Rattle.rs_lock.specs.declared.wait.Wait.{Wait}
-use Rattle.rs_lock.specs.Calls.{lock_of, part_of, is_waiting, ask, ask_by, hold, grant, end_wait, end_waits, release_at, release_each, release, left, age, end_first, ended_by, holder_of, tick}
+use Rattle.rs_lock.specs.Calls.{lock_of, part_of, is_waiting, ask_by, hold, grant, end_wait, end_waits, release_at, release_each, left, age, end_first, ended_by, holder_of}
 use Rattle.rs_lock.specs.Claims.{has, is_refused, is_covered}
 use Rattle.rs_lock.specs.Courses.{Call, Ask, Hold, Release, Tick, may_come, called, step, run, after}
 use Rattle.rs_lock.specs.Lock.{Lock, unlocked, is_free, verdict, enqueued, released, dequeued}
 use Rattle.rs_lock.specs.Waits.{first_over}
-use Rattle.rs_lock.specs.Locks.{Locks, Table, no_locks, lock_in, with_lock, left_lock, taken_in, with_dequeued, dequeued_in, released_in}
+use Rattle.rs_lock.specs.Locks.{Locks, Table, no_locks, lock_in, with_lock, left_lock, taken_in, with_dequeued, released_in}
 
 pub record Keeps (P : Lock → Type 0) : Type 0 where
   pub base : P unlocked

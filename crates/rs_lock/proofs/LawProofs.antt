@@ -3,12 +3,11 @@ use Rattle.std.proofs.Common.{◌≡◌, Option, Some, None, [], refl, inl, subs
 use Rattle.rs_base.specs.declared.txn.Enlist.{Enlist}
 use Rattle.rs_lock.specs.declared.answer.Ended.{Ended}
 use Rattle.rs_lock.specs.declared.wait.Wait.{Wait}
-use Rattle.rs_lock.specs.Calls.{lock_of, age, end_first, ended_by, holder_of, tick}
+use Rattle.rs_lock.specs.Calls.{lock_of, age, end_first, ended_by, holder_of}
 use Rattle.rs_lock.specs.Claims.{without}
 use Rattle.rs_lock.specs.Courses.{after}
 use Rattle.rs_lock.specs.Laws.{IsOneOrReaders, OneWriterOrReaders, UpgradesFirst, QueuedOnce, BlockedByHolder, WaitsForHolder, IsHolder, NamesHolder}
 use Rattle.rs_lock.specs.Locks.{Locks}
-use Rattle.rs_lock.specs.Lock.{Lock}
 use Rattle.rs_lock.specs.Waits.{first_over}
 use Rattle.rs_lock.proofs.Fitting.{granted_fits, left_fits, settled_fits}
 use Rattle.rs_lock.proofs.Kept.{Keeps, kept}

@@ -1,5 +1,5 @@
 -- An entry of a map changed in place, or added.
-use Rattle.std.proofs.Common.{◌≡◌, List, Option, Some, None, Result, Ok, Err, Ordering, sym, ap, ◌∙◌}
+use Rattle.std.proofs.Common.{◌≡◌, List, Some, Result, Ok, Err, Ordering, sym, ap, ◌∙◌}
 use Rattle.std.specs.Prelude.{unwrap_or, OnOk}
 use Rattle.std.specs.BTreeMap.{insert_entry, is_at}
 use Rattle.std.specs.Cmp.{IsTotalOrder}
@@ -19,12 +19,3 @@ module _ {K X : Type 0} {R : K → K → Ordering} (o : IsTotalOrder R) (k : K) 
       → fs ≡ set_value (is_at (R k)) es w → OnOk result (w ≡ change v) → OnOk result (fs ≡ insert_entry R es k (change (unwrap_or (lookup (is_at (R k)) es) default)))
   changed_on_ok (Ok _) v w fs up found put is = changed_in_place v w fs up found put is
   changed_on_ok (Err _) v w fs up found put is = tt
-
-  pub added : (fs : List (K × X)) → lookup (is_at (R k)) es ≡ None → fs ≡ insert_entry R es k (change default)
-      → fs ≡ insert_entry R es k (change (unwrap_or (lookup (is_at (R k)) es) default))
-  added fs none put = put ∙ ap (λ there. insert_entry R es k (change (unwrap_or there default))) (sym none)
-
-  pub added_on_ok : {V E : Type 0} (result : Result V E) (fs : List (K × X)) → lookup (is_at (R k)) es ≡ None → OnOk result (fs ≡ insert_entry R es k (change default))
-      → OnOk result (fs ≡ insert_entry R es k (change (unwrap_or (lookup (is_at (R k)) es) default)))
-  added_on_ok (Ok _) fs none put = added fs none put
-  added_on_ok (Err _) fs none put = tt

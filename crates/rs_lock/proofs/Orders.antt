@@ -5,6 +5,7 @@ use Rattle.std.specs.Cmp.Lexicographic.{slice_cmp}
 use Rattle.std.specs.Ordering.{ordering_then}
 use Rattle.std.proofs.lemmas.Cmp.{nat_list_cmp_total, nat_cmp_total, on_total, then_total}
 use Rattle.std.proofs.lemmas.Map.Lookups.{CmpEqualImpliesEq, exact_bytes, exact_unsigned}
+use Rattle.rs_base.specs.contracts.lock.ResourceOrd.TheImpl as derived
 use Rattle.rs_base.specs.declared.lock.Resource.{Resource}
 use Rattle.rs_base.specs.declared.lock.Resource.TheVariants as resources
 use Rattle.rs_base.specs.declared.name.Swn.{Swn}
@@ -141,3 +142,29 @@ resource_exact (resources.Synonyms user) (resources.Table name) e = cc
 resource_exact (resources.Synonyms user) (resources.Birth name) e = cc
 resource_exact (resources.Synonyms user) (resources.Program other program) e = cc
 resource_exact (resources.Synonyms user) (resources.Synonyms other) e = ap resources.Synonyms (exact_bytes user other e)
+
+-- ---- the derived order of resources is this one
+
+abbrev pub derived_cmp : Resource → Resource → Ordering
+derived_cmp = (derived.cmp-value).it
+
+derived_at : (a b : Resource) → derived_cmp a b ≡ resource_cmp a b
+derived_at (resources.Table name) (resources.Table other_name) = refl
+derived_at (resources.Table name) (resources.Birth other_name) = refl
+derived_at (resources.Table name) (resources.Program other_user other_program) = refl
+derived_at (resources.Table name) (resources.Synonyms other_user) = refl
+derived_at (resources.Birth name) (resources.Table other_name) = refl
+derived_at (resources.Birth name) (resources.Birth other_name) = refl
+derived_at (resources.Birth name) (resources.Program other_user other_program) = refl
+derived_at (resources.Birth name) (resources.Synonyms other_user) = refl
+derived_at (resources.Program user program) (resources.Table other_name) = refl
+derived_at (resources.Program user program) (resources.Birth other_name) = refl
+derived_at (resources.Program user program) (resources.Program other_user other_program) = refl
+derived_at (resources.Program user program) (resources.Synonyms other_user) = refl
+derived_at (resources.Synonyms user) (resources.Table other_name) = refl
+derived_at (resources.Synonyms user) (resources.Birth other_name) = refl
+derived_at (resources.Synonyms user) (resources.Program other_user other_program) = refl
+derived_at (resources.Synonyms user) (resources.Synonyms other_user) = refl
+
+pub derived_is : derived_cmp ≡ resource_cmp
+derived_is = λ i a b. derived_at a b i

@@ -1,5 +1,5 @@
 -- What the queue of a resource keeps: upgrades stand first, each enlistment once, and each waits for another's claim.
-use Rattle.std.proofs.Common.{◌≡◌, ◌⊎◌, ℕ, zero, suc, ◌+◌, Bool, true, false, not, ◌&&◌, ◌||◌, cond, List, [], ◌∷◌, ◌++◌, length, take, drop, filter, Option, Some, None, refl, sym, ap, ap₂, ◌∙◌, inl, inr, subst, arith}
+use Rattle.std.proofs.Common.{◌≡◌, ◌⊎◌, ℕ, zero, suc, ◌+◌, Bool, true, false, not, ◌&&◌, ◌||◌, cond, List, [], ◌∷◌, ◌++◌, length, filter, Option, Some, None, refl, sym, ap, ◌∙◌, inl, inr, arith}
 use Rattle.std.specs.Prelude.{find, ◌==◌}
 use Rattle.std.specs.List.{insert, list_all, list_any, position_or_len}
 use Rattle.std.specs.Option.{option_map}
@@ -13,9 +13,9 @@ use Rattle.rs_base.specs.Txn.{enlist_cmp}
 use Rattle.rs_base.specs.declared.txn.Enlist.{Enlist}
 use Rattle.rs_lock.specs.declared.claim.Claim.{Claim}
 use Rattle.rs_lock.specs.declared.verdict.Verdict.TheVariants as verdicts
-use Rattle.rs_lock.specs.Claims.{same, is_by, has, other_than, without, conflicts, stands_against, is_refused, is_covered}
+use Rattle.rs_lock.specs.Claims.{same, is_by, has, other_than, without, conflicts, is_refused, is_covered}
 use Rattle.rs_lock.specs.Laws.{upgrades_by, upgrades_first, each_once, has_other}
-use Rattle.rs_lock.specs.Lock.{Lock, unlocked, verdict, granted, upgrades, place, enqueued, settled, released, dequeued, has_to_wait, is_behind, blocked_by}
+use Rattle.rs_lock.specs.Lock.{Lock, verdict, granted, upgrades, place, enqueued, settled, released, dequeued, has_to_wait, is_behind, blocked_by}
 use Rattle.rs_lock.specs.Locks.{taken_in}
 use Rattle.rs_lock.proofs.Fitting.{all_filter}
 use Rattle.rs_lock.proofs.Orders.{enlist_exact}
@@ -145,6 +145,7 @@ other_granted claim holders q other = by_test (same q claim.who) refl
   where
     split : has_other q (granted claim holders) ≡ (has_other q (without claim.who holders) || (not (is_by q claim) || false))
     split = list_any-append (λ c. not (is_by q c)) (without claim.who holders) (claim ∷ [])
+
     by_test : (b : Bool) → same q claim.who ≡ b → has_other q (granted claim holders) ≡ true
     by_test true e =
         let left : has_other q (without claim.who holders) ≡ true
@@ -257,18 +258,19 @@ settled_sound holders (c ∷ queue) before once first =
       | true ↦ λ h.
           let other : has_other c.who holders ≡ true = other_of_refused c holders h in
           let others : list_all (λ queued. has_other queued.who holders) queue ≡ true =
-              elim (has c.who holders) as (λ b. has c.who holders ≡ b → cond b (upgrades_by (λ who. has who holders) queue) (list_all none_holds queue) ≡ true
-              → list_all (λ queued. has_other queued.who holders) queue ≡ true) [
-                | true ↦ λ own e. blocked_by_upgrade c holders queue own none
-                | false ↦ λ own e. all_weaker none_holds (λ queued. has_other queued.who holders)
-                    (λ d says. other_of_none d.who c.who holders (not-true (has d.who holders) says) other) queue e
-              ] refl first in
+          elim (has c.who holders) as (λ b. has c.who holders ≡ b → cond b (upgrades_by (λ who. has who holders) queue) (list_all none_holds queue) ≡ true
+          → list_all (λ queued. has_other queued.who holders) queue ≡ true) [
+            | true ↦ λ own e. blocked_by_upgrade c holders queue own none
+            | false ↦ λ own e. all_weaker none_holds (λ queued. has_other queued.who holders)
+                (λ d says. other_of_none d.who c.who holders (not-true (has d.who holders) says) other) queue e
+          ] refl first in
           record { once = once; first = first; blocked = and_from (has_other c.who holders) (list_all (λ queued. has_other queued.who holders) queue) other others }
       | false ↦ λ h. settled_sound (granted c holders) queue (before ++ c.who ∷ []) parts.1 (next_first none)
     ] refl
   where
     holds : Enlist → Bool
     holds who = has who holders
+
     still_none : (ds : List Claim) → has c.who ds ≡ false → list_all (λ later. not (has later.who holders)) ds ≡ true → list_all (λ later. not (has later.who (granted c holders))) ds ≡ true
     still_none [] apart all = refl
     still_none (d ∷ ds) apart all =
@@ -276,6 +278,7 @@ settled_sound holders (c ∷ queue) before once first =
         let all_parts = and_parts (not (has d.who holders)) (list_all (λ later. not (has later.who holders)) ds) all in
         and_from (not (has d.who (granted c holders))) (list_all (λ later. not (has later.who (granted c holders))) ds)
         (ap not (has_granted c holders d.who away.0) ∙ all_parts.0) (still_none ds away.1 all_parts.1)
+
     next_first : has c.who queue ≡ false → upgrades_by (λ who. has who (granted c holders)) queue ≡ true
     next_first none =
         elim (has c.who holders) as (λ b. has c.who holders ≡ b → cond b (upgrades_by (λ who. has who holders) queue) (list_all (λ later. not (has later.who holders)) queue) ≡ true
@@ -355,6 +358,7 @@ free_waits claim lock sound free = by_case (free_means (is_covered claim lock.ho
     by_test : (b : Bool) → has_to_wait claim lock ≡ b → other_than claim.who lock.holders ≡ None → has_to_wait claim lock ≡ false
     by_test true waits none = absurd (waits_for_holder claim lock.holders lock.queue sound.blocked waits none)
     by_test false waits none = waits
+
     by_case : (has_to_wait claim lock ≡ false) ⊎ (other_than claim.who lock.holders ≡ None) → has_to_wait claim lock ≡ false
     by_case (inl waits) = waits
     by_case (inr none) = by_test (has_to_wait claim lock) refl none

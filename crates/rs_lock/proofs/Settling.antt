@@ -1,9 +1,9 @@
 -- What is left of a queue once its first claims are granted.
-use Rattle.std.proofs.Common.{◌≡◌, Bool, true, false, cond, List, [], ◌∷◌, ◌++◌, Option, Some, None, refl, ap}
+use Rattle.std.proofs.Common.{◌≡◌, Bool, true, false, cond, List, [], ◌∷◌, ◌++◌, Some, None, refl, ap}
 use Rattle.rs_base.specs.declared.txn.Enlist.{Enlist}
 use Rattle.rs_lock.specs.declared.claim.Claim.{Claim}
 use Rattle.rs_lock.specs.Claims.{is_refused, without}
-use Rattle.rs_lock.specs.Lock.{Lock, granted, settled, next_grant, released}
+use Rattle.rs_lock.specs.Lock.{Lock, granted, settled, next_grant}
 use Rattle.rs_lock.specs.Laws.{GrantsWhileItCan}
 
 pub settled_stops : (holders queue : List Claim) (before : List Enlist) → next_grant (settled holders queue before).0.holders (settled holders queue before).0.queue ≡ None

@@ -7,9 +7,8 @@ use Rattle.std.specs.Option.{option_map}
 use Rattle.std.specs.Ordering.{is_eq}
 use Rattle.rs_base.specs.declared.txn.Enlist.{Enlist}
 use Rattle.rs_lock.specs.declared.claim.Claim.{Claim}
-use Rattle.rs_lock.specs.declared.verdict.Verdict.{Verdict}
 use Rattle.rs_lock.specs.declared.verdict.Verdict.TheVariants as verdicts
-use Rattle.rs_lock.specs.Claims.{same, is_by, has, other_than, conflicts, stands_against, is_refused, is_covered}
+use Rattle.rs_lock.specs.Claims.{same, is_by, has, other_than, conflicts, is_refused, is_covered}
 use Rattle.rs_lock.specs.Lock.{Lock, verdict, blocked_by, has_to_wait, is_behind}
 use Rattle.rs_lock.proofs.Orders.{enlist_total}
 
@@ -66,6 +65,7 @@ free_unrefused claim lock e = by_case (free_means (is_covered claim lock.holders
     by_test : (b : Bool) → is_refused claim lock.holders ≡ b → other_than claim.who lock.holders ≡ None → is_refused claim lock.holders ≡ false
     by_test true refused none = absurd (refused_by_other claim lock.holders refused (none_of (λ (c : Claim). c.who) (find (λ holder. not (is_by claim.who holder)) lock.holders) none))
     by_test false refused none = refused
+
     by_case : (has_to_wait claim lock ≡ false) ⊎ (other_than claim.who lock.holders ≡ None) → is_refused claim lock.holders ≡ false
     by_case (inl waits) = (or_parts (is_refused claim lock.holders) (is_behind claim lock) waits).0
     by_case (inr none) = by_test (is_refused claim lock.holders) refl none

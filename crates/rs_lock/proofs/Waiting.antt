@@ -1,5 +1,5 @@
 -- Each wait stands in the queue of its resource, after every list of calls.
-use Rattle.std.proofs.Common.{◌≡◌, ◌⊎◌, ℕ, zero, suc, Bool, true, false, not, ◌&&◌, ◌||◌, cond, List, [], ◌∷◌, ◌++◌, length, map, filter, Option, Some, None, refl, sym, ap, ◌∙◌, inl, inr, ⊎_elim, subst}
+use Rattle.std.proofs.Common.{◌≡◌, ◌⊎◌, ℕ, zero, suc, Bool, true, false, not, ◌&&◌, ◌||◌, cond, List, [], ◌∷◌, ◌++◌, length, map, Option, Some, None, refl, sym, ap, ◌∙◌, inl, inr, ⊎_elim, subst}
 use Rattle.std.specs.Prelude.{◌==◌, unwrap_or, find}
 use Rattle.std.specs.BTreeMap.{is_at}
 use Rattle.std.specs.List.{insert, list_all, list_any}
@@ -7,11 +7,10 @@ use Rattle.std.specs.List.Sorted.{IsStrictlySortedBy}
 use Rattle.std.specs.Map.{lookup, keys_of, remove_entry}
 use Rattle.std.specs.Option.{option_map}
 use Rattle.std.specs.Ordering.{is_eq}
-use Rattle.std.proofs.lemmas.Bool.{and_parts, and_from, or_cases, or_parts, or_left, or_right, not_from_false, not-true, true≢false, false≢true, eqb-true}
+use Rattle.std.proofs.lemmas.Bool.{and_parts, and_from, or_cases, or_left, or_right, not_from_false, not-true, false≢true, eqb-true}
 use Rattle.std.proofs.lemmas.List.{nil_from_length}
 use Rattle.std.proofs.lemmas.List.Folds.{list_any-append}
 use Rattle.law_map.proofs.Entries.{lookup_put, lookup_beside, lookup_left, lookup_gone, keys_stay_sorted, left_in_order}
-use Rattle.rs_base.specs.declared.lock.Mode.{Mode}
 use Rattle.rs_base.specs.declared.lock.Resource.{Resource}
 use Rattle.rs_base.specs.declared.txn.Enlist.{Enlist}
 use Rattle.rs_base.specs.Orders.{resource_cmp}
@@ -19,7 +18,7 @@ use Rattle.rs_lock.specs.declared.claim.Claim.{Claim}
 use Rattle.rs_lock.specs.declared.verdict.Verdict.{Verdict}
 use Rattle.rs_lock.specs.declared.verdict.Verdict.TheVariants as verdicts
 use Rattle.rs_lock.specs.declared.wait.Wait.{Wait}
-use Rattle.rs_lock.specs.Calls.{lock_of, part_of, ask, ask_by, hold, grant, end_wait, end_waits, release_at, release_each, release, left, age, end_first, ended_by, give_up, holder_of, tick}
+use Rattle.rs_lock.specs.Calls.{lock_of, part_of, ask_by, grant, end_wait, end_waits, release_at, release_each, left, age, end_first, ended_by, give_up, holder_of}
 use Rattle.rs_lock.specs.Claims.{same, is_by, has, without, is_refused, is_covered, other_than}
 use Rattle.rs_lock.specs.Courses.{Call, Ask, Hold, Release, Tick, may_come, called, step, run, after}
 use Rattle.rs_lock.specs.Lock.{Lock, unlocked, is_free, verdict, granted, place, enqueued, settled, released, dequeued}
@@ -27,7 +26,7 @@ use Rattle.rs_lock.specs.Locks.{Locks, Table, no_locks, lock_in, with_lock, left
 use Rattle.rs_lock.specs.Waits.{waits_for, without_wait, aged, is_over, first_over}
 use Rattle.rs_lock.proofs.Orders.{resource_total, resource_exact}
 use Rattle.rs_lock.proofs.Kept.{end_waits_table}
-use Rattle.rs_lock.proofs.Queues.{same_is, apart_back, has_without_other, all_weaker, is_tie}
+use Rattle.rs_lock.proofs.Queues.{same_is, has_without_other, all_weaker, is_tie}
 use Rattle.rs_lock.proofs.LawProofs.{blocked_by_holder}
 use Rattle.rs_lock.proofs.Verdicts.{same_self}
 use Rattle.rs_lock.specs.Laws.{has_other, WaitsEnd}
@@ -112,6 +111,7 @@ queue_taken what claim table who q = by_case (same_or_apart q what)
   where
     new : Table
     new = with_lock what (taken_in claim (lock_in what table)) table
+
     by_case : (q ≡ what) ⊎ (is_eq (resource_cmp q what) ≡ false) → has who (lock_in q (with_lock what (taken_in claim (lock_in what table)) table)).queue ≡ has who (lock_in q table).queue
     by_case (inl is) =
         ap (λ r. has who (lock_in r (with_lock what (taken_in claim (lock_in what table)) table)).queue) is
@@ -186,10 +186,10 @@ settled_has holders [] before q here = absurd (false≢true here)
 settled_has holders (c ∷ queue) before q here =
     let now : List Enlist = before ++ c.who ∷ [] in
     let own : is_by q c ≡ true → among q now ≡ true =
-        λ h.
-        let is : q ≡ c.who = same_is q c.who h in
-        list_any-append (λ e. same e q) before (c.who ∷ [])
-        ∙ or_right (among q before) (same c.who q || false) (or_left (same c.who q) false (ap (λ w. same c.who w) is ∙ same_self c.who)) in
+    λ h.
+    let is : q ≡ c.who = same_is q c.who h in
+    list_any-append (λ e. same e q) before (c.who ∷ [])
+    ∙ or_right (among q before) (same c.who q || false) (or_left (same c.who q) false (ap (λ w. same c.who w) is ∙ same_self c.who)) in
     let out : Bool → Lock × List Enlist = λ b. cond b (record { holders = holders; queue = c ∷ queue }, before) (settled (granted c holders) queue now) in
     elim (is_refused c holders) as (λ b. StandsOrIsGranted q (out b)) [
       | true ↦ or_left (has q (c ∷ queue)) (among q before) here
@@ -209,6 +209,7 @@ module _ (who : Enlist) where
     where
       out : Lock × List Enlist
       out = released who (lock_in what table) []
+
       by_case : (w.what ≡ what) ⊎ (is_eq (resource_cmp w.what what) ≡ false)
           → ((has w.who (lock_in w.what (left_lock what (released who (lock_in what table) []).0 table)).queue || among w.who (released who (lock_in what table) []).1) && not (waits_for who w)) ≡ true
       by_case (inl is) =
@@ -279,6 +280,7 @@ module _ (what : Resource) (who : Enlist) (table : Table) where
     where
       there : lock_in what table ≡ lock
       there = ap (λ found. unwrap_or found unlocked) is
+
       by_case : (r ≡ what) ⊎ (is_eq (resource_cmp r what) ≡ false) → has q (lock_in r (with_lock what (dequeued who lock) table)).queue ≡ has q (lock_in r table).queue
       by_case (inl at) =
           ap (λ s. has q (lock_in s (with_lock what (dequeued who lock) table)).queue) at

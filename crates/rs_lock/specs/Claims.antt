@@ -1,5 +1,5 @@
 -- Claims of enlistments to one resource: the claims that hold it, or those that wait for it.
-use Rattle.std.specs.Prelude.{Bool, true, false, ◌&&◌, not, List, [], ◌∷◌, ◌++◌, Option, find, filter}
+use Rattle.std.specs.Prelude.{Bool, true, false, ◌&&◌, not, List, Option, find, filter}
 use Rattle.std.specs.List.{list_any}
 use Rattle.std.specs.Option.{option_map}
 use Rattle.std.specs.Ordering.{is_eq}

@@ -1,5 +1,5 @@
 -- The waits of all resources, in the order in which they began.
-use Rattle.std.specs.Prelude.{ℕ, ◌+◌, ◌-◌, ◌^◌, min, Bool, not, nat_le, List, map, filter, find, Option}
+use Rattle.std.specs.Prelude.{ℕ, ◌+◌, ◌-◌, ◌^◌, min, Bool, not, nat_le, List, filter, find, Option}
 use Rattle.rs_base.specs.declared.txn.Enlist.{Enlist}
 use Rattle.rs_lock.specs.declared.wait.Wait.{Wait}
 use Rattle.rs_lock.specs.Claims.{same}

@@ -42,34 +42,34 @@ fn covers(own: Mode, asked: Mode) -> bool
     }
 }
 
-fn is_by(who: Enlist, claim: &Claim) -> bool
-    ensures { result ≡ spec.is_by who claim.now }
+fn is_by(who: &Enlist, claim: &Claim) -> bool
+    ensures { result ≡ spec.is_by who.now claim.now }
 {
-    order_of_enlists(&who, &claim.who).is_eq()
+    order_of_enlists(who, &claim.who).is_eq()
 }
 
 /// Returns whether one of the claims is by this enlistment.
-pub(crate) fn has(who: Enlist, claims: &[Claim]) -> bool
-    ensures { result ≡ spec.has who claims.now }
+pub(crate) fn has(who: &Enlist, claims: &[Claim]) -> bool
+    ensures { result ≡ spec.has who.now claims.now }
 {
     claims.iter().any(|claim| is_by(who, claim))
 }
 
-fn first_by(who: Enlist, claims: &[Claim]) -> Option<&Claim>
-    ensures { option_copied result ≡ find (spec.is_by who) claims.now }
+fn first_by<'c>(who: &Enlist, claims: &'c [Claim]) -> Option<&'c Claim>
+    ensures { option_copied result ≡ find (spec.is_by who.now) claims.now }
 {
     claims.iter().find(|claim| is_by(who, claim))
 }
 
-fn first_by_other(who: Enlist, claims: &[Claim]) -> Option<&Claim>
-    ensures { option_copied result ≡ find (λ claim. not (spec.is_by who claim)) claims.now }
+fn first_by_other<'c>(who: &Enlist, claims: &'c [Claim]) -> Option<&'c Claim>
+    ensures { option_copied result ≡ find (λ claim. not (spec.is_by who.now claim)) claims.now }
 {
     claims.iter().find(|claim| !is_by(who, claim))
 }
 
 /// Returns the mode of the enlistment's claim, if it has one.
-pub(crate) fn mode_of(who: Enlist, claims: &[Claim]) -> Option<Mode>
-    ensures { result ≡ spec.mode_of who claims.now }
+pub(crate) fn mode_of(who: &Enlist, claims: &[Claim]) -> Option<Mode>
+    ensures { result ≡ spec.mode_of who.now claims.now }
 {
     match first_by(who, claims) {
         Some(claim) => Some(claim.mode),
@@ -78,8 +78,8 @@ pub(crate) fn mode_of(who: Enlist, claims: &[Claim]) -> Option<Mode>
 }
 
 /// Returns whose the first claim of another enlistment is, if there is one.
-pub(crate) fn other_than(who: Enlist, claims: &[Claim]) -> Option<Enlist>
-    ensures { result ≡ spec.other_than who claims.now }
+pub(crate) fn other_than(who: &Enlist, claims: &[Claim]) -> Option<Enlist>
+    ensures { result ≡ spec.other_than who.now claims.now }
 {
     match first_by_other(who, claims) {
         Some(claim) => Some(claim.who),
@@ -87,35 +87,35 @@ pub(crate) fn other_than(who: Enlist, claims: &[Claim]) -> Option<Enlist>
     }
 }
 
-fn stands_against(claim: Claim, holder: &Claim) -> bool
-    ensures { result ≡ spec.stands_against claim holder.now }
+fn stands_against(claim: &Claim, holder: &Claim) -> bool
+    ensures { result ≡ spec.stands_against claim.now holder.now }
 {
-    !is_by(claim.who, holder) && conflicts(claim.mode, holder.mode)
+    !is_by(&claim.who, holder) && conflicts(claim.mode, holder.mode)
 }
 
 /// Returns whether another holder conflicts.
-pub(crate) fn is_refused(claim: Claim, holders: &[Claim]) -> bool
-    ensures { result ≡ spec.is_refused claim holders.now }
+pub(crate) fn is_refused(claim: &Claim, holders: &[Claim]) -> bool
+    ensures { result ≡ spec.is_refused claim.now holders.now }
 {
     holders.iter().any(|holder| stands_against(claim, holder))
 }
 
-fn covers_claim(claim: Claim, holder: &Claim) -> bool
-    ensures { result ≡ spec.covers_claim claim holder.now }
+fn covers_claim(claim: &Claim, holder: &Claim) -> bool
+    ensures { result ≡ spec.covers_claim claim.now holder.now }
 {
-    is_by(claim.who, holder) && covers(holder.mode, claim.mode)
+    is_by(&claim.who, holder) && covers(holder.mode, claim.mode)
 }
 
 /// Returns whether the enlistment holds the resource in a mode that covers the one that is asked for.
-pub(crate) fn is_covered(claim: Claim, holders: &[Claim]) -> bool
-    ensures { result ≡ spec.is_covered claim holders.now }
+pub(crate) fn is_covered(claim: &Claim, holders: &[Claim]) -> bool
+    ensures { result ≡ spec.is_covered claim.now holders.now }
 {
     holders.iter().any(|holder| covers_claim(claim, holder))
 }
 
 /// Removes the claims of the enlistment.
-pub(crate) fn remove_claims(who: Enlist, claims: &mut Vec<Claim>)
-    ensures { claims.new.items ≡ spec.without who claims.old.items }
+pub(crate) fn remove_claims(who: &Enlist, claims: &mut Vec<Claim>)
+    ensures { claims.new.items ≡ spec.without who.now claims.old.items }
 {
     claims.retain(|claim: &Claim| !is_by(who, claim));
 }

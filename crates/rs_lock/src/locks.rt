@@ -8,7 +8,8 @@ use crate::answer::{Asked, Ended, Enlists};
 use crate::claim::Claim;
 use crate::part::{Part, Parts, note_ask, note_grant, remove_part};
 use crate::table::{
-    Table, dequeue_in, enqueue_in, holder_in, is_covered_in, mode_in, release_in, take_in, verdict_in,
+    Table, dequeue_in, enqueue_in, holder_in, is_covered_in, mode_in, release_in, take_in,
+    verdict_in,
 };
 use crate::verdict::Verdict;
 use crate::wait::{Wait, age, begin_wait, first_over, remove_wait};
@@ -34,16 +35,17 @@ impl Model for Locks {
     ghost Value = { Locks };
 
     ghost view = { λ it. record {
-        table = it.table.entries;
-        parts = it.parts.entries;
-        waits = it.waits.items } };
+      table = it.table.entries;
+      parts = it.parts.entries;
+      waits = it.waits.items;
+    } };
 }
 
 impl Locks {
     ghost use Rattle.std.specs.Prelude.{◌≡◌, false, ◌++◌, IfOk, OnOk};
     ghost use Rattle.rs_lock.specs.Calls as spec;
     ghost use Rattle.rs_lock.specs.Locks.{no_locks};
-    
+
     /// Makes the locks of a site where nobody holds or waits for one.
     pub fn new(alloc: Global) -> Locks
         ensures { result ≡ no_locks }
@@ -56,51 +58,56 @@ impl Locks {
         }
     }
 
-    fn note_ask(&mut self, who: Enlist, what: Resource) -> Result<(), NoMemory>
-        ensures { OnOk result (self.new ≡ spec.note_ask who what self.old) }
+    fn note_ask(&mut self, who: &Enlist, what: &Resource) -> Result<(), NoMemory>
+        ensures { OnOk result (self.new ≡ spec.note_ask who.now what.now self.old) }
     {
         note_ask(self.alloc, who, what, &mut self.parts)
     }
 
-    fn note_grant(&mut self, who: Enlist, what: Resource) -> Result<(), NoMemory>
-        ensures { OnOk result (self.new ≡ spec.note_grant who what self.old) }
+    fn note_grant(&mut self, who: &Enlist, what: &Resource) -> Result<(), NoMemory>
+        ensures { OnOk result (self.new ≡ spec.note_grant who.now what.now self.old) }
     {
         note_grant(self.alloc, who, what, &mut self.parts)
     }
 
-    fn take_lock(&mut self, what: Resource, claim: Claim) -> Result<(), NoMemory>
-        ensures { OnOk result (self.new ≡ spec.take_lock what claim self.old) }
+    fn take_lock(&mut self, what: &Resource, claim: &Claim) -> Result<(), NoMemory>
+        ensures { OnOk result (self.new ≡ spec.take_lock what.now claim.now self.old) }
     {
         take_in(self.alloc, what, claim, &mut self.table)
     }
 
-    fn wait_for(&mut self, what: Resource, claim: Claim) -> Result<(), NoMemory>
-        ensures { OnOk result (self.new ≡ spec.wait_for what claim self.old) }
+    fn wait_for(&mut self, what: &Resource, claim: &Claim) -> Result<(), NoMemory>
+        ensures { OnOk result (self.new ≡ spec.wait_for what.now claim.now self.old) }
     {
         enqueue_in(self.alloc, what, claim, &mut self.table)?;
-        begin_wait(claim.who, what, &mut self.waits)
+        begin_wait(&claim.who, what, &mut self.waits)
     }
 
     /// Grants an ask.
-    fn grant(&mut self, what: Resource, claim: Claim) -> Result<(), NoMemory>
-        ensures { OnOk result (self.new ≡ spec.grant what claim self.old) }
+    fn grant(&mut self, what: &Resource, claim: &Claim) -> Result<(), NoMemory>
+        ensures { OnOk result (self.new ≡ spec.grant what.now claim.now self.old) }
     {
-        self.note_ask(claim.who, what)?;
-        self.note_grant(claim.who, what)?;
+        self.note_ask(&claim.who, what)?;
+        self.note_grant(&claim.who, what)?;
         self.take_lock(what, claim)
     }
 
     /// Lets an ask wait.
-    fn enqueue(&mut self, what: Resource, claim: Claim) -> Result<(), NoMemory>
-        ensures { OnOk result (self.new ≡ spec.enqueue what claim self.old) }
+    fn enqueue(&mut self, what: &Resource, claim: &Claim) -> Result<(), NoMemory>
+        ensures { OnOk result (self.new ≡ spec.enqueue what.now claim.now self.old) }
     {
-        self.note_ask(claim.who, what)?;
+        self.note_ask(&claim.who, what)?;
         self.wait_for(what, claim)
     }
 
     /// Grants or enqueues an ask by its verdict.
-    fn ask_by(&mut self, verdict: Verdict, what: Resource, claim: Claim) -> Result<Asked, NoMemory>
-        ensures { IfOk result (λ asked. (asked, self.new) ≡ spec.ask_by verdict what claim self.old) }
+    fn ask_by(
+        &mut self,
+        verdict: Verdict,
+        what: &Resource,
+        claim: &Claim,
+    ) -> Result<Asked, NoMemory>
+        ensures { IfOk result (λ asked. (asked, self.new) ≡ spec.ask_by verdict what.now claim.now self.old) }
     {
         match verdict {
             Verdict::Covered => Ok(Asked::Granted),
@@ -123,8 +130,8 @@ impl Locks {
         ensures { IfOk result (λ asked. (asked, self.new) ≡ spec.ask who what mode self.old) }
     {
         let claim = Claim { who, mode };
-        let verdict = verdict_in(claim, &what, &self.table);
-        self.ask_by(verdict, what, claim)
+        let verdict = verdict_in(&claim, &what, &self.table);
+        self.ask_by(verdict, &what, &claim)
     }
 
     /// Stores a lock that the enlistment held before a restart. No other holder conflicts, and nobody waits for the resource.
@@ -133,53 +140,63 @@ impl Locks {
         ensures { OnOk result (self.new ≡ spec.hold who what mode self.old) }
     {
         let claim = Claim { who, mode };
-        if is_covered_in(claim, &what, &self.table) {
+        if is_covered_in(&claim, &what, &self.table) {
             return Ok(());
         }
-        self.grant(what, claim)
+        self.grant(&what, &claim)
     }
 
     /// Ends the wait of an enlistment that was granted the resource.
-    fn end_wait(&mut self, what: Resource, who: Enlist) -> Result<(), NoMemory>
-        ensures { OnOk result (self.new ≡ spec.end_wait what who self.old) }
+    fn end_wait(&mut self, what: &Resource, who: &Enlist) -> Result<(), NoMemory>
+        ensures { OnOk result (self.new ≡ spec.end_wait what.now who.now self.old) }
     {
         remove_wait(who, &mut self.waits);
         self.note_grant(who, what)
     }
 
-    fn end_waits(&mut self, what: Resource, granted: &[Enlist]) -> Result<(), NoMemory>
-        ensures { OnOk result (self.new ≡ spec.end_waits what granted.now self.old) }
+    fn end_waits(&mut self, what: &Resource, granted: &[Enlist]) -> Result<(), NoMemory>
+        ensures { OnOk result (self.new ≡ spec.end_waits what.now granted.now self.old) }
     {
         for who in granted {
-            self.end_wait(what, *who)?;
+            self.end_wait(what, who)?;
         }
         Ok(())
     }
 
     /// Removes the enlistment from the resource, and lists the enlistments that are granted there.
-    fn release_at(&mut self, who: Enlist, what: Resource, granted: &mut Enlists) -> Result<(), NoMemory>
-        ensures { OnOk result ((self.new, granted.new) ≡ spec.release_at who what self.old granted.old) }
+    fn release_at(
+        &mut self,
+        who: &Enlist,
+        what: &Resource,
+        granted: &mut Enlists,
+    ) -> Result<(), NoMemory>
+        ensures { OnOk result ((self.new, granted.new) ≡ spec.release_at who.now what.now self.old granted.old) }
     {
-        let here = release_in(self.alloc, &what, who, &mut self.table)?;
+        let here = release_in(self.alloc, what, who, &mut self.table)?;
         self.end_waits(what, here.as_slice())?;
         granted.append(here)?;
         Ok(())
     }
 
-    fn release_each(&mut self, who: Enlist, asks: &[Resource], granted: &mut Enlists) -> Result<(), NoMemory>
+    fn release_each(
+        &mut self,
+        who: &Enlist,
+        asks: &[Resource],
+        granted: &mut Enlists,
+    ) -> Result<(), NoMemory>
         ensures { OnOk result ((self.new, granted.new)
-            ≡ spec.release_each who asks.now self.old granted.old) }
+            ≡ spec.release_each who.now asks.now self.old granted.old) }
     {
         for what in asks {
-            self.release_at(who, *what, granted)?;
+            self.release_at(who, what, granted)?;
         }
         Ok(())
     }
 
     /// Removes the enlistment's wait and its part, and returns the part.
-    fn leave(&mut self, who: Enlist) -> Part
-        ensures part { result ≡ spec.part_of who self.old }
-        ensures locks { self.new ≡ spec.left who self.old }
+    fn leave(&mut self, who: &Enlist) -> Part
+        ensures part { result ≡ spec.part_of who.now self.old }
+        ensures locks { self.new ≡ spec.left who.now self.old }
     {
         remove_wait(who, &mut self.waits);
         remove_part(self.alloc, who, &mut self.parts)
@@ -191,23 +208,23 @@ impl Locks {
     pub fn release(&mut self, who: Enlist) -> Result<Enlists, NoMemory>
         ensures { IfOk result (λ granted. (self.new, granted) ≡ spec.release who self.old) }
     {
-        let part = self.leave(who);
+        let part = self.leave(&who);
         let mut granted = Items::new(self.alloc);
-        self.release_each(who, part.asks.as_slice(), &mut granted)?;
+        self.release_each(&who, part.asks.as_slice(), &mut granted)?;
         Ok(granted)
     }
 
     /// Ends the enlistment's wait without the lock.
-    fn give_up(&mut self, wait: Wait)
-        ensures { self.new ≡ spec.give_up wait self.old }
+    fn give_up(&mut self, wait: &Wait)
+        ensures { self.new ≡ spec.give_up wait.now self.old }
     {
-        dequeue_in(&wait.what, wait.who, &mut self.table);
-        remove_wait(wait.who, &mut self.waits);
+        dequeue_in(&wait.what, &wait.who, &mut self.table);
+        remove_wait(&wait.who, &mut self.waits);
     }
 
-    fn end(&mut self, wait: Wait) -> Option<Ended>
+    fn end(&mut self, wait: &Wait) -> Option<Ended>
         ensures { (result, self.new)
-            ≡ spec.ended_by wait (spec.holder_of wait.what wait.who self.old) self.old }
+            ≡ spec.ended_by wait.now (spec.holder_of wait.now.what wait.now.who self.old) self.old }
     {
         let holder = self.holder(&wait.what, wait.who)?;
         self.give_up(wait);
@@ -225,32 +242,32 @@ impl Locks {
     {
         age(&mut self.waits);
         let wait = first_over(self.waits.as_slice())?;
-        self.end(wait)
+        self.end(&wait)
     }
 
     /// Returns the first holder of the resource other than this enlistment, if there is one. It takes no memory.
     pub fn holder(&self, what: &Resource, but: Enlist) -> Option<Enlist>
         ensures { result ≡ spec.holder_of what.now but self.now }
     {
-        holder_in(what, but, &self.table)
+        holder_in(what, &but, &self.table)
     }
 
-    fn push_held(&self, who: Enlist, what: Resource, held: &mut HeldLocks) -> Result<(), NoMemory>
+    fn push_held(&self, who: &Enlist, what: &Resource, held: &mut HeldLocks) -> Result<(), NoMemory>
         ensures { OnOk result (held.new
-            ≡ held.old ++ spec.as_list (spec.held_at who self.now what)) }
+            ≡ held.old ++ spec.as_list (spec.held_at who.now self.now what.now)) }
     {
-        if let Some(mode) = mode_in(who, &what, &self.table) {
-            held.push((what, mode))?;
+        if let Some(mode) = mode_in(who, what, &self.table) {
+            held.push((*what, mode))?;
         }
         Ok(())
     }
 
-    fn held_of(&self, who: Enlist, grants: &[Resource]) -> Result<HeldLocks, NoMemory>
-        ensures { IfOk result (λ held. held ≡ spec.held_of who self.now grants.now) }
+    fn held_of(&self, who: &Enlist, grants: &[Resource]) -> Result<HeldLocks, NoMemory>
+        ensures { IfOk result (λ held. held ≡ spec.held_of who.now self.now grants.now) }
     {
         let mut held = Items::new(self.alloc);
         for what in grants {
-            self.push_held(who, *what, &mut held)?;
+            self.push_held(who, what, &mut held)?;
         }
         Ok(held)
     }
@@ -260,7 +277,7 @@ impl Locks {
         ensures { IfOk result (λ held. held ≡ spec.held who self.now) }
     {
         match self.parts.get(&who) {
-            Some(part) => self.held_of(who, part.grants.as_slice()),
+            Some(part) => self.held_of(&who, part.grants.as_slice()),
             None => Ok(Items::new(self.alloc)),
         }
     }

@@ -26,20 +26,20 @@ fn is_same(one: &Resource, other: &Resource) -> bool
     order_of_resources(one, other).is_eq()
 }
 
-fn has(what: Resource, resources: &[Resource]) -> bool
-    ensures { result ≡ spec.has what resources.now }
+fn has(what: &Resource, resources: &[Resource]) -> bool
+    ensures { result ≡ spec.has what.now resources.now }
 {
-    resources.iter().any(|other| is_same(&what, other))
+    resources.iter().any(|other| is_same(what, other))
 }
 
 /// Appends the resource, unless it is there already.
-fn note(what: Resource, resources: &mut Items<Resource>) -> Result<(), NoMemory>
-    ensures { OnOk result (resources.new ≡ spec.noted what resources.old) }
+fn note(what: &Resource, resources: &mut Items<Resource>) -> Result<(), NoMemory>
+    ensures { OnOk result (resources.new ≡ spec.noted what.now resources.old) }
 {
     if has(what, resources.as_slice()) {
         return Ok(());
     }
-    resources.push(what)?;
+    resources.push(*what)?;
     Ok(())
 }
 
@@ -54,71 +54,91 @@ impl Part {
         }
     }
 
-    fn ask(&mut self, what: Resource) -> Result<(), NoMemory>
-        ensures { OnOk result (self.new ≡ spec.asked what self.old) }
+    fn ask(&mut self, what: &Resource) -> Result<(), NoMemory>
+        ensures { OnOk result (self.new ≡ spec.asked what.now self.old) }
     {
         note(what, &mut self.asks)
     }
 
-    fn give(&mut self, what: Resource) -> Result<(), NoMemory>
-        ensures { OnOk result (self.new ≡ spec.given what self.old) }
+    fn give(&mut self, what: &Resource) -> Result<(), NoMemory>
+        ensures { OnOk result (self.new ≡ spec.given what.now self.old) }
     {
         note(what, &mut self.grants)
     }
 }
 
 /// Adds the part of an enlistment that has none, with this ask.
-fn add_asking(alloc: Global, who: Enlist, what: Resource, parts: &mut Parts) -> Result<(), NoMemory>
-    requires { get enlist_cmp parts.old who ≡ None }
+fn add_asking(
+    alloc: Global,
+    who: &Enlist,
+    what: &Resource,
+    parts: &mut Parts,
+) -> Result<(), NoMemory>
+    requires { get enlist_cmp parts.old who.now ≡ None }
     ensures { OnOk result (parts.new.entries
-        ≡ spec.with_part who (spec.asked what spec.idle) parts.old.entries) }
+        ≡ spec.with_part who.now (spec.asked what.now spec.idle) parts.old.entries) }
 {
     let mut part = Part::new(alloc);
     part.ask(what)?;
-    parts.insert(who, part)?;
+    parts.insert(*who, part)?;
     Ok(())
 }
 
 /// Adds the part of an enlistment that has none, with this grant.
-fn add_given(alloc: Global, who: Enlist, what: Resource, parts: &mut Parts) -> Result<(), NoMemory>
-    requires { get enlist_cmp parts.old who ≡ None }
+fn add_given(
+    alloc: Global,
+    who: &Enlist,
+    what: &Resource,
+    parts: &mut Parts,
+) -> Result<(), NoMemory>
+    requires { get enlist_cmp parts.old who.now ≡ None }
     ensures { OnOk result (parts.new.entries
-        ≡ spec.with_part who (spec.given what spec.idle) parts.old.entries) }
+        ≡ spec.with_part who.now (spec.given what.now spec.idle) parts.old.entries) }
 {
     let mut part = Part::new(alloc);
     part.give(what)?;
-    parts.insert(who, part)?;
+    parts.insert(*who, part)?;
     Ok(())
 }
 
 /// Notes that the enlistment asked for the resource.
-pub(crate) fn note_ask(alloc: Global, who: Enlist, what: Resource, parts: &mut Parts) -> Result<(), NoMemory>
+pub(crate) fn note_ask(
+    alloc: Global,
+    who: &Enlist,
+    what: &Resource,
+    parts: &mut Parts,
+) -> Result<(), NoMemory>
     ensures { OnOk result (parts.new.entries
-        ≡ spec.with_part who (spec.asked what (spec.part_in who parts.old.entries)) parts.old.entries) }
+        ≡ spec.with_part who.now (spec.asked what.now (spec.part_in who.now parts.old.entries)) parts.old.entries) }
 {
-    match parts.get_mut(&who) {
+    match parts.get_mut(who) {
         Some(part) => part.ask(what),
         None => add_asking(alloc, who, what, parts),
     }
 }
 
 /// Notes that the enlistment was granted the resource.
-pub(crate) fn note_grant(alloc: Global, who: Enlist, what: Resource, parts: &mut Parts) -> Result<(), NoMemory>
+pub(crate) fn note_grant(
+    alloc: Global,
+    who: &Enlist,
+    what: &Resource,
+    parts: &mut Parts,
+) -> Result<(), NoMemory>
     ensures { OnOk result (parts.new.entries
-        ≡ spec.with_part who (spec.given what (spec.part_in who parts.old.entries)) parts.old.entries) }
+        ≡ spec.with_part who.now (spec.given what.now (spec.part_in who.now parts.old.entries)) parts.old.entries) }
 {
-    match parts.get_mut(&who) {
+    match parts.get_mut(who) {
         Some(part) => part.give(what),
         None => add_given(alloc, who, what, parts),
     }
 }
 
 /// Removes the part of the enlistment and returns it.
-pub(crate) fn remove_part(alloc: Global, who: Enlist, parts: &mut Parts) -> Part
-    ensures part { result ≡ spec.part_in who parts.old.entries }
-    ensures parts { parts.new.entries ≡ spec.without_part who parts.old.entries }
+pub(crate) fn remove_part(alloc: Global, who: &Enlist, parts: &mut Parts) -> Part
+    ensures part { result ≡ spec.part_in who.now parts.old.entries }
+    ensures parts { parts.new.entries ≡ spec.without_part who.now parts.old.entries }
 {
-    match parts.remove(&who) {
+    match parts.remove(who) {
         Some(part) => part,
         None => Part::new(alloc),
     }

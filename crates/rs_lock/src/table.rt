@@ -20,8 +20,8 @@ use std::collections::BTreeMap;
 pub(crate) type Table = BTreeMap<Resource, Lock>;
 
 /// Returns whether the claim is granted.
-pub(crate) fn verdict_in(claim: Claim, what: &Resource, table: &Table) -> Verdict
-    ensures { result ≡ lock_spec.verdict claim (spec.lock_in what.now table.now.entries) }
+pub(crate) fn verdict_in(claim: &Claim, what: &Resource, table: &Table) -> Verdict
+    ensures { result ≡ lock_spec.verdict claim.now (spec.lock_in what.now table.now.entries) }
 {
     match table.get(what) {
         Some(lock) => lock.verdict(claim),
@@ -29,8 +29,8 @@ pub(crate) fn verdict_in(claim: Claim, what: &Resource, table: &Table) -> Verdic
     }
 }
 
-pub(crate) fn is_covered_in(claim: Claim, what: &Resource, table: &Table) -> bool
-    ensures { result ≡ claims_spec.is_covered claim (spec.lock_in what.now table.now.entries).holders }
+pub(crate) fn is_covered_in(claim: &Claim, what: &Resource, table: &Table) -> bool
+    ensures { result ≡ claims_spec.is_covered claim.now (spec.lock_in what.now table.now.entries).holders }
 {
     match table.get(what) {
         Some(lock) => lock.is_covered(claim),
@@ -39,8 +39,8 @@ pub(crate) fn is_covered_in(claim: Claim, what: &Resource, table: &Table) -> boo
 }
 
 /// Returns the first holder other than this enlistment, if there is one.
-pub(crate) fn holder_in(what: &Resource, but: Enlist, table: &Table) -> Option<Enlist>
-    ensures { result ≡ claims_spec.other_than but (spec.lock_in what.now table.now.entries).holders }
+pub(crate) fn holder_in(what: &Resource, but: &Enlist, table: &Table) -> Option<Enlist>
+    ensures { result ≡ claims_spec.other_than but.now (spec.lock_in what.now table.now.entries).holders }
 {
     match table.get(what) {
         Some(lock) => lock.holder_other_than(but),
@@ -49,8 +49,8 @@ pub(crate) fn holder_in(what: &Resource, but: Enlist, table: &Table) -> Option<E
 }
 
 /// Returns the mode in which the enlistment holds the resource, if it does.
-pub(crate) fn mode_in(who: Enlist, what: &Resource, table: &Table) -> Option<Mode>
-    ensures { result ≡ claims_spec.mode_of who (spec.lock_in what.now table.now.entries).holders }
+pub(crate) fn mode_in(who: &Enlist, what: &Resource, table: &Table) -> Option<Mode>
+    ensures { result ≡ claims_spec.mode_of who.now (spec.lock_in what.now table.now.entries).holders }
 {
     match table.get(what) {
         Some(lock) => lock.mode_of(who),
@@ -59,54 +59,74 @@ pub(crate) fn mode_in(who: Enlist, what: &Resource, table: &Table) -> Option<Mod
 }
 
 /// Adds the lock of a resource that nobody holds or waits for, held by this claim.
-fn add_taken(alloc: Global, what: Resource, claim: Claim, table: &mut Table) -> Result<(), NoMemory>
+fn add_taken(
+    alloc: Global,
+    what: &Resource,
+    claim: &Claim,
+    table: &mut Table,
+) -> Result<(), NoMemory>
     ensures { OnOk result (table.new.entries
-        ≡ spec.with_lock what (spec.taken_in claim lock_spec.unlocked) table.old.entries) }
+        ≡ spec.with_lock what.now (spec.taken_in claim.now lock_spec.unlocked) table.old.entries) }
 {
     let mut lock = Lock::new(alloc);
     lock.grant(claim)?;
-    table.insert(what, lock)?;
+    table.insert(*what, lock)?;
     Ok(())
 }
 
 /// Grants the claim.
-pub(crate) fn take_in(alloc: Global, what: Resource, claim: Claim, table: &mut Table) -> Result<(), NoMemory>
+pub(crate) fn take_in(
+    alloc: Global,
+    what: &Resource,
+    claim: &Claim,
+    table: &mut Table,
+) -> Result<(), NoMemory>
     ensures { OnOk result (table.new.entries
-        ≡ spec.with_lock what (spec.taken_in claim (spec.lock_in what table.old.entries))
+        ≡ spec.with_lock what.now (spec.taken_in claim.now (spec.lock_in what.now table.old.entries))
         table.old.entries) }
 {
-    match table.get_mut(&what) {
+    match table.get_mut(what) {
         Some(lock) => lock.grant(claim),
         None => add_taken(alloc, what, claim, table),
     }
 }
 
 /// Adds the lock of a resource that nobody holds or waits for, waited for by this claim.
-fn add_enqueued(alloc: Global, what: Resource, claim: Claim, table: &mut Table) -> Result<(), NoMemory>
+fn add_enqueued(
+    alloc: Global,
+    what: &Resource,
+    claim: &Claim,
+    table: &mut Table,
+) -> Result<(), NoMemory>
     ensures { OnOk result (table.new.entries
-        ≡ spec.with_lock what (lock_spec.enqueued claim lock_spec.unlocked) table.old.entries) }
+        ≡ spec.with_lock what.now (lock_spec.enqueued claim.now lock_spec.unlocked) table.old.entries) }
 {
     let mut lock = Lock::new(alloc);
     lock.enqueue(claim)?;
-    table.insert(what, lock)?;
+    table.insert(*what, lock)?;
     Ok(())
 }
 
 /// Lets the claim wait.
-pub(crate) fn enqueue_in(alloc: Global, what: Resource, claim: Claim, table: &mut Table) -> Result<(), NoMemory>
+pub(crate) fn enqueue_in(
+    alloc: Global,
+    what: &Resource,
+    claim: &Claim,
+    table: &mut Table,
+) -> Result<(), NoMemory>
     ensures { OnOk result (table.new.entries
-        ≡ spec.with_lock what (lock_spec.enqueued claim (spec.lock_in what table.old.entries))
+        ≡ spec.with_lock what.now (lock_spec.enqueued claim.now (spec.lock_in what.now table.old.entries))
         table.old.entries) }
 {
-    match table.get_mut(&what) {
+    match table.get_mut(what) {
         Some(lock) => lock.enqueue(claim),
         None => add_enqueued(alloc, what, claim, table),
     }
 }
 
 /// Ends the enlistment's wait for the resource.
-pub(crate) fn dequeue_in(what: &Resource, who: Enlist, table: &mut Table)
-    ensures { table.new.entries ≡ spec.dequeued_in what.now who table.old.entries }
+pub(crate) fn dequeue_in(what: &Resource, who: &Enlist, table: &mut Table)
+    ensures { table.new.entries ≡ spec.dequeued_in what.now who.now table.old.entries }
 {
     let Some(lock) = table.get_mut(what) else {
         return;
@@ -115,10 +135,15 @@ pub(crate) fn dequeue_in(what: &Resource, who: Enlist, table: &mut Table)
 }
 
 /// Removes the enlistment from the resource, and lists the enlistments that are granted there.
-fn release_lock(what: &Resource, who: Enlist, table: &mut Table, granted: &mut Enlists) -> Result<(), NoMemory>
+fn release_lock(
+    what: &Resource,
+    who: &Enlist,
+    table: &mut Table,
+    granted: &mut Enlists,
+) -> Result<(), NoMemory>
     requires { granted.old ≡ [] }
     ensures { OnOk result ((table.new.entries, granted.new)
-        ≡ spec.released_in who what.now table.old.entries) }
+        ≡ spec.released_in who.now what.now table.old.entries) }
 {
     let Some(lock) = table.get_mut(what) else {
         return Ok(());
@@ -131,9 +156,14 @@ fn release_lock(what: &Resource, who: Enlist, table: &mut Table, granted: &mut E
 }
 
 /// Removes the enlistment from the resource, and returns the enlistments that are granted there.
-pub(crate) fn release_in(alloc: Global, what: &Resource, who: Enlist, table: &mut Table) -> Result<Enlists, NoMemory>
+pub(crate) fn release_in(
+    alloc: Global,
+    what: &Resource,
+    who: &Enlist,
+    table: &mut Table,
+) -> Result<Enlists, NoMemory>
     ensures { IfOk result (λ granted. (table.new.entries, granted)
-        ≡ spec.released_in who what.now table.old.entries) }
+        ≡ spec.released_in who.now what.now table.old.entries) }
 {
     let mut granted = Items::new(alloc);
     release_lock(what, who, table, &mut granted)?;

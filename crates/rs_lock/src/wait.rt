@@ -17,10 +17,10 @@ pub(crate) struct Wait {
 /// The number of ticks after which a wait ends.
 const BUDGET: u64 = 16;
 
-fn waits_for(who: Enlist, wait: &Wait) -> bool
-    ensures { result ≡ spec.waits_for who wait.now }
+fn waits_for(who: &Enlist, wait: &Wait) -> bool
+    ensures { result ≡ spec.waits_for who.now wait.now }
 {
-    order_of_enlists(&who, &wait.who).is_eq()
+    order_of_enlists(who, &wait.who).is_eq()
 }
 
 fn is_over(wait: &Wait) -> bool
@@ -30,22 +30,26 @@ fn is_over(wait: &Wait) -> bool
 }
 
 /// Begins a wait. On out of memory nothing changes.
-pub(crate) fn begin_wait(who: Enlist, what: Resource, waits: &mut Vec<Wait>) -> Result<(), NoMemory>
+pub(crate) fn begin_wait(
+    who: &Enlist,
+    what: &Resource,
+    waits: &mut Vec<Wait>,
+) -> Result<(), NoMemory>
     ensures ok { OnOk result (waits.new.items
-        ≡ waits.old.items ++ (record { who = who; what = what; ticks = 0 }) ∷ []) }
+        ≡ waits.old.items ++ (record { who = who.now; what = what.now; ticks = 0 }) ∷ []) }
     ensures err { OnErr result (waits.new.items ≡ waits.old.items) }
 {
     waits.push(Wait {
-        who,
-        what,
+        who: *who,
+        what: *what,
         ticks: 0,
     })?;
     Ok(())
 }
 
 /// Removes the wait of the enlistment.
-pub(crate) fn remove_wait(who: Enlist, waits: &mut Vec<Wait>)
-    ensures { waits.new.items ≡ spec.without_wait who waits.old.items }
+pub(crate) fn remove_wait(who: &Enlist, waits: &mut Vec<Wait>)
+    ensures { waits.new.items ≡ spec.without_wait who.now waits.old.items }
 {
     waits.retain(|wait: &Wait| !waits_for(who, wait));
 }
@@ -56,13 +60,19 @@ fn grow_older(wait: &mut Wait)
     wait.ticks = wait.ticks.saturating_add(1);
 }
 
-/// Counts a tick for each wait.
-pub(crate) fn age(waits: &mut Vec<Wait>)
-    ensures { waits.new.items ≡ map spec.aged waits.old.items }
+fn age_each(waits: &mut [Wait])
+    ensures { waits.new ≡ map spec.aged waits.old }
 {
     for wait in waits.iter_mut() {
         grow_older(wait);
     }
+}
+
+/// Counts a tick for each wait.
+pub(crate) fn age(waits: &mut Vec<Wait>)
+    ensures { waits.new.items ≡ map spec.aged waits.old.items }
+{
+    age_each(waits.as_mut_slice());
 }
 
 fn find_over(waits: &[Wait]) -> Option<&Wait>

@@ -4,4 +4,4 @@ use Rattle.rs_lock.specs.Claims.{is_by}
 use Rattle.rs_lock.proofs.claim.remove_claims.Goals as goal
 
 pub returns : goal.returns
-returns c = filter_same _ (λ claim. not (is_by c.args.who claim)) _ (λ x b f' k. (search rules, search rules)) _ _ c.retain.ensures.filtered
+returns c = filter_same _ (λ claim. not (is_by c.args.who.now claim)) _ (λ x b f' k. (search rules, search rules)) _ _ c.retain.ensures.filtered

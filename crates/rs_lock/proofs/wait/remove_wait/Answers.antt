@@ -4,4 +4,4 @@ use Rattle.rs_lock.specs.Waits.{waits_for}
 use Rattle.rs_lock.proofs.wait.remove_wait.Goals as goal
 
 pub returns : goal.returns
-returns c = filter_same _ (λ wait. not (waits_for c.args.who wait)) _ (λ x b f' k. (search rules, search rules)) _ _ c.retain.ensures.filtered
+returns c = filter_same _ (λ wait. not (waits_for c.args.who.now wait)) _ (λ x b f' k. (search rules, search rules)) _ _ c.retain.ensures.filtered
