@@ -2,6 +2,7 @@ pub mod Maps
 pub mod Orders
 pub mod Positions
 pub mod Tables
+pub mod Members
 pub mod Fitting
 pub mod Settling
 pub mod Verdicts

@@ -1,5 +1,7 @@
 pub mod Claims
 pub mod Lock
+pub mod Resources
+pub mod OrderInside
 pub mod Parts
 pub mod Waits
 pub mod Locks

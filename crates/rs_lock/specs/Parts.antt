@@ -1,24 +1,12 @@
 -- What each enlistment asked for and was granted.
-use Rattle.std.specs.Prelude.{Bool, List, [], ◌∷◌, ◌++◌, unwrap_or, if◌then◌else◌}
+use Rattle.std.specs.Prelude.{List, [], unwrap_or}
 use Rattle.std.specs.BTreeMap.{insert_entry, is_at}
-use Rattle.std.specs.List.{list_any}
 use Rattle.std.specs.Map.{lookup, remove_entry}
-use Rattle.std.specs.Ordering.{is_eq}
 use Rattle.rs_base.specs.declared.lock.Resource.{Resource}
 use Rattle.rs_base.specs.declared.txn.Enlist.{Enlist}
-use Rattle.rs_base.specs.Orders.{resource_cmp}
 use Rattle.rs_base.specs.Txn.{enlist_cmp}
 use Rattle.rs_lock.specs.declared.part.Part.{Part}
-
-abbrev pub is_same : Resource → Resource → Bool
-is_same one other = is_eq (resource_cmp one other)
-
-abbrev pub has : Resource → List Resource → Bool
-has what resources = list_any (is_same what) resources
-
--- the list with this resource at its end, unless it is there already
-abbrev pub noted : Resource → List Resource → List Resource
-noted what resources = if has what resources then resources else resources ++ what ∷ []
+use Rattle.rs_lock.specs.Resources.{noted}
 
 -- an enlistment that asked for nothing
 abbrev pub idle : Part

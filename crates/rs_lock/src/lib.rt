@@ -6,6 +6,7 @@ mod claim;
 mod laws;
 mod lock;
 mod locks;
+mod order;
 mod part;
 mod table;
 mod verdict;

@@ -5,43 +5,20 @@ ghost use Rattle.std.specs.BTreeMap.{get};
 ghost use Rattle.rs_base.specs.Txn.{enlist_cmp};
 ghost use Rattle.rs_lock.specs.Parts as spec;
 
-use rs_base::{Enlist, NoMemory, Resource, order_of_resources};
-use sqlite_items::Items;
+use crate::order::Order;
+use rs_base::{Enlist, NoMemory, Resource};
 use std::alloc::Global;
 use std::collections::BTreeMap;
 
 /// What an enlistment asked for, in the order of first asking, and what it was granted, in the order of first granting.
 #[derive(Drop)]
 pub(crate) struct Part {
-    pub asks: Items<Resource>,
-    pub grants: Items<Resource>,
+    pub asks: Order,
+    pub grants: Order,
 }
 
 /// The parts of all enlistments.
 pub(crate) type Parts = BTreeMap<Enlist, Part>;
-
-fn is_same(one: &Resource, other: &Resource) -> bool
-    ensures { result ≡ spec.is_same one.now other.now }
-{
-    order_of_resources(one, other).is_eq()
-}
-
-fn has(what: &Resource, resources: &[Resource]) -> bool
-    ensures { result ≡ spec.has what.now resources.now }
-{
-    resources.iter().any(|other| is_same(what, other))
-}
-
-/// Appends the resource, unless it is there already.
-fn note(what: &Resource, resources: &mut Items<Resource>) -> Result<(), NoMemory>
-    ensures { OnOk result (resources.new ≡ spec.noted what.now resources.old) }
-{
-    if has(what, resources.as_slice()) {
-        return Ok(());
-    }
-    resources.push(*what)?;
-    Ok(())
-}
 
 impl Part {
     /// Makes the part of an enlistment that asked for nothing.
@@ -49,21 +26,21 @@ impl Part {
         ensures { result ≡ spec.idle }
     {
         Part {
-            asks: Items::new(alloc),
-            grants: Items::new(alloc),
+            asks: Order::new(alloc),
+            grants: Order::new(alloc),
         }
     }
 
     fn ask(&mut self, what: &Resource) -> Result<(), NoMemory>
         ensures { OnOk result (self.new ≡ spec.asked what.now self.old) }
     {
-        note(what, &mut self.asks)
+        self.asks.add(what)
     }
 
     fn give(&mut self, what: &Resource) -> Result<(), NoMemory>
         ensures { OnOk result (self.new ≡ spec.given what.now self.old) }
     {
-        note(what, &mut self.grants)
+        self.grants.add(what)
     }
 }
 
