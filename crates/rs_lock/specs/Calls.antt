@@ -13,6 +13,7 @@ use Rattle.rs_lock.specs.declared.verdict.Verdict.{Verdict}
 use Rattle.rs_lock.specs.declared.verdict.Verdict.TheVariants as verdicts
 use Rattle.rs_lock.specs.declared.wait.Wait.{Wait}
 use Rattle.rs_lock.specs.Claims.{has, mode_of, other_than, is_refused, is_covered}
+use Rattle.rs_lock.specs.Lock as lock_rules
 use Rattle.rs_lock.specs.Lock.{Lock, verdict, enqueued}
 use Rattle.rs_lock.specs.Locks.{Locks, lock_in, with_lock, taken_in, dequeued_in, released_in}
 use Rattle.rs_lock.specs.declared.part.Part.{Part}
@@ -69,9 +70,8 @@ ask who what mode locks =
     ask_by (verdict claim (lock_of what locks)) what claim locks
 
 -- no other holder conflicts, and nobody waits
-pub record MayHold (who : Enlist) (what : Resource) (mode : Mode) (locks : Locks) : Type 0 where
-  pub unrefused : is_refused (record { who = who; mode = mode }) (lock_of what locks).holders ≡ false
-  pub unwaited : (lock_of what locks).queue ≡ []
+abbrev pub may_hold : Enlist → Resource → Mode → Locks → Bool
+may_hold who what mode locks = lock_rules.may_hold (record { who = who; mode = mode }) (lock_of what locks)
 
 -- a lock that an enlistment held before a restart
 abbrev pub hold : Enlist → Resource → Mode → Locks → Locks

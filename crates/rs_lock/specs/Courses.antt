@@ -3,7 +3,7 @@ use Rattle.std.specs.Prelude.{Bool, true, ◌&&◌, ◌==◌, not, List, [], ◌
 use Rattle.rs_base.specs.declared.lock.Mode.{Mode}
 use Rattle.rs_base.specs.declared.lock.Resource.{Resource}
 use Rattle.rs_base.specs.declared.txn.Enlist.{Enlist}
-use Rattle.rs_lock.specs.Calls.{lock_of, is_waiting, ask, hold, release, tick}
+use Rattle.rs_lock.specs.Calls.{is_waiting, may_hold, ask, hold, release, tick}
 use Rattle.rs_lock.specs.Claims.{is_refused}
 use Rattle.rs_lock.specs.Locks.{Locks, no_locks}
 
@@ -17,8 +17,7 @@ pub data Call : Type 0 where
 -- An enlistment that waits doesn't ask. A hold comes where no other holder conflicts and nobody waits.
 abbrev pub may_come : Call → Locks → Bool
 may_come (Ask who what mode) locks = not (is_waiting who locks)
-may_come (Hold who what mode) locks =
-    not (is_refused (record { who = who; mode = mode }) (lock_of what locks).holders) && length (lock_of what locks).queue == 0
+may_come (Hold who what mode) locks = may_hold who what mode locks
 may_come (Release who) locks = true
 may_come Tick locks = true
 

@@ -30,6 +30,10 @@ is_behind claim lock = not (has claim.who lock.holders) && not (length lock.queu
 abbrev pub has_to_wait : Claim → Lock → Bool
 has_to_wait claim lock = is_refused claim lock.holders || is_behind claim lock
 
+-- no other holder conflicts, and nobody waits
+abbrev pub may_hold : Claim → Lock → Bool
+may_hold claim lock = not (is_refused claim lock.holders) && length lock.queue == 0
+
 abbrev pub blocked_by : Option Enlist → Verdict
 blocked_by None = verdicts.Free
 blocked_by (Some holder) = verdicts.Blocked holder

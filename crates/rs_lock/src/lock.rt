@@ -70,6 +70,13 @@ impl Lock {
         self.holders.is_empty() && self.queue.is_empty()
     }
 
+    /// Returns whether no other holder conflicts and nobody waits.
+    pub(crate) fn may_hold(&self, claim: &Claim) -> bool
+        ensures { result ≡ spec.may_hold claim.now self.now }
+    {
+        !is_refused(claim, self.holders.as_slice()) && self.queue.is_empty()
+    }
+
     pub(crate) fn is_covered(&self, claim: &Claim) -> bool
         ensures { result ≡ claims_spec.is_covered claim.now self.now.holders }
     {

@@ -1,6 +1,6 @@
 //! The locks of a site.
 
-ghost use Rattle.std.specs.Prelude.{◌≡◌, false, ◌++◌, IfOk, OnOk};
+ghost use Rattle.std.specs.Prelude.{◌≡◌, IsTrue, false, ◌++◌, IfOk, OnOk};
 ghost use Rattle.rs_lock.specs.Calls as spec;
 ghost use Rattle.rs_lock.specs.Locks.{no_locks};
 
@@ -8,7 +8,7 @@ use crate::answer::{Asked, Ended, Enlists};
 use crate::claim::Claim;
 use crate::part::{Part, Parts, note_ask, note_grant, remove_part};
 use crate::table::{
-    Table, dequeue_in, enqueue_in, holder_in, is_covered_in, mode_in, release_in, take_in,
+    Table, dequeue_in, enqueue_in, holder_in, is_covered_in, may_hold_in, mode_in, release_in, take_in,
     verdict_in,
 };
 use crate::verdict::Verdict;
@@ -42,7 +42,7 @@ impl Model for Locks {
 }
 
 impl Locks {
-    ghost use Rattle.std.specs.Prelude.{◌≡◌, false, ◌++◌, IfOk, OnOk};
+    ghost use Rattle.std.specs.Prelude.{◌≡◌, IsTrue, false, ◌++◌, IfOk, OnOk};
     ghost use Rattle.rs_lock.specs.Calls as spec;
     ghost use Rattle.rs_lock.specs.Locks.{no_locks};
 
@@ -124,9 +124,8 @@ impl Locks {
 
     /// Asks for a lock. It is granted if the enlistment's own mode covers it; else exactly if no other holder conflicts and the
     /// enlistment holds the resource or nobody waits for it. Else the enlistment waits: an upgrade from reading to writing
-    /// stands before all but earlier upgrades, any other ask last. The enlistment must not be waiting.
+    /// stands before all but earlier upgrades, any other ask last. An enlistment that waits isn't to ask.
     pub fn ask(&mut self, who: Enlist, what: Resource, mode: Mode) -> Result<Asked, NoMemory>
-        requires { spec.is_waiting who self.old ≡ false }
         ensures { IfOk result (λ asked. (asked, self.new) ≡ spec.ask who what mode self.old) }
     {
         let claim = Claim { who, mode };
@@ -134,9 +133,17 @@ impl Locks {
         self.ask_by(verdict, &what, &claim)
     }
 
+    /// Returns whether no other holder conflicts and nobody waits for the resource, so that `hold` may be called. It takes no
+    /// memory.
+    pub fn may_hold(&self, who: Enlist, what: Resource, mode: Mode) -> bool
+        ensures { result ≡ spec.may_hold who what mode self.now }
+    {
+        may_hold_in(&Claim { who, mode }, &what, &self.table)
+    }
+
     /// Stores a lock that the enlistment held before a restart. No other holder conflicts, and nobody waits for the resource.
     pub fn hold(&mut self, who: Enlist, what: Resource, mode: Mode) -> Result<(), NoMemory>
-        requires { spec.MayHold who what mode self.old }
+        requires { IsTrue (spec.may_hold who what mode self.old) }
         ensures { OnOk result (self.new ≡ spec.hold who what mode self.old) }
     {
         let claim = Claim { who, mode };

@@ -38,6 +38,16 @@ pub(crate) fn is_covered_in(claim: &Claim, what: &Resource, table: &Table) -> bo
     }
 }
 
+/// Returns whether no other holder conflicts and nobody waits for the resource.
+pub(crate) fn may_hold_in(claim: &Claim, what: &Resource, table: &Table) -> bool
+    ensures { result ≡ lock_spec.may_hold claim.now (spec.lock_in what.now table.now.entries) }
+{
+    match table.get(what) {
+        Some(lock) => lock.may_hold(claim),
+        None => true,
+    }
+}
+
 /// Returns the first holder other than this enlistment, if there is one.
 pub(crate) fn holder_in(what: &Resource, but: &Enlist, table: &Table) -> Option<Enlist>
     ensures { result ≡ claims_spec.other_than but.now (spec.lock_in what.now table.now.entries).holders }
