@@ -1,5 +1,5 @@
 -- What each call does, and what it answers.
-use Rattle.std.specs.Prelude.{◌≡◌, Bool, false, List, [], ◌∷◌, ◌++◌, map, Option, Some, None, if◌then◌else◌}
+use Rattle.std.specs.Prelude.{Bool, List, [], ◌∷◌, ◌++◌, map, Option, Some, None, if◌then◌else◌}
 use Rattle.std.specs.List.{list_any}
 use Rattle.std.specs.Option.{option_map}
 use Rattle.rs_base.specs.declared.lock.Mode.{Mode}
@@ -12,7 +12,7 @@ use Rattle.rs_lock.specs.declared.claim.Claim.{Claim}
 use Rattle.rs_lock.specs.declared.verdict.Verdict.{Verdict}
 use Rattle.rs_lock.specs.declared.verdict.Verdict.TheVariants as verdicts
 use Rattle.rs_lock.specs.declared.wait.Wait.{Wait}
-use Rattle.rs_lock.specs.Claims.{has, mode_of, other_than, is_refused, is_covered}
+use Rattle.rs_lock.specs.Claims.{has, mode_of, other_than, is_covered}
 use Rattle.rs_lock.specs.Lock as lock_rules
 use Rattle.rs_lock.specs.Lock.{Lock, verdict, enqueued}
 use Rattle.rs_lock.specs.Locks.{Locks, lock_in, with_lock, taken_in, dequeued_in, released_in}

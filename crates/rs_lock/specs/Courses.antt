@@ -1,10 +1,9 @@
 -- Lists of calls, and what becomes of the locks.
-use Rattle.std.specs.Prelude.{Bool, true, ◌&&◌, ◌==◌, not, List, [], ◌∷◌, length, if◌then◌else◌}
+use Rattle.std.specs.Prelude.{Bool, true, not, List, [], ◌∷◌, if◌then◌else◌}
 use Rattle.rs_base.specs.declared.lock.Mode.{Mode}
 use Rattle.rs_base.specs.declared.lock.Resource.{Resource}
 use Rattle.rs_base.specs.declared.txn.Enlist.{Enlist}
 use Rattle.rs_lock.specs.Calls.{is_waiting, may_hold, ask, hold, release, tick}
-use Rattle.rs_lock.specs.Claims.{is_refused}
 use Rattle.rs_lock.specs.Locks.{Locks, no_locks}
 
 -- the calls that change the locks

@@ -8,8 +8,8 @@ use crate::answer::{Asked, Ended, Enlists};
 use crate::claim::Claim;
 use crate::part::{Part, Parts, note_ask, note_grant, remove_part};
 use crate::table::{
-    Table, dequeue_in, enqueue_in, holder_in, is_covered_in, may_hold_in, mode_in, release_in, take_in,
-    verdict_in,
+    Table, dequeue_in, enqueue_in, holder_in, is_covered_in, may_hold_in, mode_in, release_in,
+    take_in, verdict_in,
 };
 use crate::verdict::Verdict;
 use crate::wait::{Wait, age, begin_wait, first_over, remove_wait};
