@@ -1,5 +1,5 @@
 -- What each call does, and what it answers.
-use Rattle.std.specs.Prelude.{Bool, List, [], ◌∷◌, ◌++◌, map, Option, Some, None, if◌then◌else◌}
+use Rattle.std.specs.Prelude.{◌≡◌, Bool, List, [], ◌∷◌, ◌++◌, map, Option, Some, None, if◌then◌else◌}
 use Rattle.std.specs.List.{list_any}
 use Rattle.std.specs.Option.{option_map}
 use Rattle.rs_base.specs.declared.lock.Mode.{Mode}
@@ -29,6 +29,10 @@ part_of who locks = part_in who locks.parts
 -- the enlistment stands in the queue of a resource
 abbrev pub is_waiting : Enlist → Locks → Bool
 is_waiting who locks = list_any (λ entry. has who entry.1.queue) locks.table
+
+-- the same locks and waits; what enlistments asked for may differ
+abbrev pub SameLocks : Locks → Locks → Type 0
+SameLocks one other = (other.table ≡ one.table) × (other.waits ≡ one.waits)
 
 -- ---- ask and hold
 

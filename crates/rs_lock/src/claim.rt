@@ -1,6 +1,6 @@
 //! Claims of enlistments to one resource.
 
-ghost use Rattle.std.specs.Prelude.{◌≡◌, not, find};
+ghost use Rattle.std.specs.Prelude.{◌≡◌, ◌≤◌, not, find, vec_len, vec_capacity};
 ghost use Rattle.std.specs.Option.{option_copied};
 ghost use Rattle.rs_lock.specs.Claims as spec;
 
@@ -115,7 +115,9 @@ pub(crate) fn is_covered(claim: &Claim, holders: &[Claim]) -> bool
 
 /// Removes the claims of the enlistment.
 pub(crate) fn remove_claims(who: &Enlist, claims: &mut Vec<Claim>)
-    ensures { claims.new.items ≡ spec.without who.now claims.old.items }
+    ensures items { claims.new.items ≡ spec.without who.now claims.old.items }
+    ensures len { vec_len claims.new ≤ vec_len claims.old }
+    ensures capacity { vec_capacity claims.new ≡ vec_capacity claims.old }
 {
     claims.retain(|claim: &Claim| !is_by(who, claim));
 }

@@ -130,13 +130,15 @@ impl Lock {
         }
     }
 
-    /// Grants the claim, in the place of the enlistment's earlier one if there is one.
+    /// Grants the claim, in the place of the enlistment's earlier one if there is one. On out of memory nothing changes.
     pub(crate) fn grant(&mut self, claim: &Claim) -> Result<(), NoMemory>
-        ensures { OnOk result (self.new
+        ensures ok { OnOk result (self.new
             ≡ record self.old { holders = spec.granted claim.now self.old.holders }) }
+        ensures err { OnErr result (self.new ≡ self.old) }
     {
+        self.holders.reserve(1)?;
         remove_claims(&claim.who, &mut self.holders);
-        self.holders.push(*claim)?;
+        self.holders.push_reserved(*claim);
         Ok(())
     }
 

@@ -1,6 +1,6 @@
 //! The locks of a site.
 
-ghost use Rattle.std.specs.Prelude.{◌≡◌, IsTrue, false, ◌++◌, IfOk, OnOk};
+ghost use Rattle.std.specs.Prelude.{◌≡◌, IsTrue, false, ◌++◌, IfOk, OnOk, OnErr};
 ghost use Rattle.rs_lock.specs.Calls as spec;
 ghost use Rattle.rs_lock.specs.Locks.{no_locks};
 
@@ -42,7 +42,7 @@ impl Model for Locks {
 }
 
 impl Locks {
-    ghost use Rattle.std.specs.Prelude.{◌≡◌, IsTrue, false, ◌++◌, IfOk, OnOk};
+    ghost use Rattle.std.specs.Prelude.{◌≡◌, IsTrue, false, ◌++◌, IfOk, OnOk, OnErr};
     ghost use Rattle.rs_lock.specs.Calls as spec;
     ghost use Rattle.rs_lock.specs.Locks.{no_locks};
 
@@ -59,33 +59,40 @@ impl Locks {
     }
 
     fn note_ask(&mut self, who: &Enlist, what: &Resource) -> Result<(), NoMemory>
-        ensures { OnOk result (self.new ≡ spec.note_ask who.now what.now self.old) }
+        ensures ok { OnOk result (self.new ≡ spec.note_ask who.now what.now self.old) }
+        ensures stays { spec.SameLocks self.old self.new }
     {
         note_ask(self.alloc, who, what, &mut self.parts)
     }
 
     fn note_grant(&mut self, who: &Enlist, what: &Resource) -> Result<(), NoMemory>
-        ensures { OnOk result (self.new ≡ spec.note_grant who.now what.now self.old) }
+        ensures ok { OnOk result (self.new ≡ spec.note_grant who.now what.now self.old) }
+        ensures stays { spec.SameLocks self.old self.new }
     {
         note_grant(self.alloc, who, what, &mut self.parts)
     }
 
     fn take_lock(&mut self, what: &Resource, claim: &Claim) -> Result<(), NoMemory>
-        ensures { OnOk result (self.new ≡ spec.take_lock what.now claim.now self.old) }
+        ensures ok { OnOk result (self.new ≡ spec.take_lock what.now claim.now self.old) }
+        ensures err { OnErr result (spec.SameLocks self.old self.new) }
     {
         take_in(self.alloc, what, claim, &mut self.table)
     }
 
     fn wait_for(&mut self, what: &Resource, claim: &Claim) -> Result<(), NoMemory>
-        ensures { OnOk result (self.new ≡ spec.wait_for what.now claim.now self.old) }
+        ensures ok { OnOk result (self.new ≡ spec.wait_for what.now claim.now self.old) }
+        ensures err { OnErr result (spec.SameLocks self.old self.new) }
     {
+        self.waits.reserve(1)?;
         enqueue_in(self.alloc, what, claim, &mut self.table)?;
-        begin_wait(&claim.who, what, &mut self.waits)
+        begin_wait(&claim.who, what, &mut self.waits);
+        Ok(())
     }
 
     /// Grants an ask.
     fn grant(&mut self, what: &Resource, claim: &Claim) -> Result<(), NoMemory>
-        ensures { OnOk result (self.new ≡ spec.grant what.now claim.now self.old) }
+        ensures ok { OnOk result (self.new ≡ spec.grant what.now claim.now self.old) }
+        ensures err { OnErr result (spec.SameLocks self.old self.new) }
     {
         self.note_ask(&claim.who, what)?;
         self.note_grant(&claim.who, what)?;
@@ -94,7 +101,8 @@ impl Locks {
 
     /// Lets an ask wait.
     fn enqueue(&mut self, what: &Resource, claim: &Claim) -> Result<(), NoMemory>
-        ensures { OnOk result (self.new ≡ spec.enqueue what.now claim.now self.old) }
+        ensures ok { OnOk result (self.new ≡ spec.enqueue what.now claim.now self.old) }
+        ensures err { OnErr result (spec.SameLocks self.old self.new) }
     {
         self.note_ask(&claim.who, what)?;
         self.wait_for(what, claim)
@@ -107,7 +115,8 @@ impl Locks {
         what: &Resource,
         claim: &Claim,
     ) -> Result<Asked, NoMemory>
-        ensures { IfOk result (λ asked. (asked, self.new) ≡ spec.ask_by verdict what.now claim.now self.old) }
+        ensures ok { IfOk result (λ asked. (asked, self.new) ≡ spec.ask_by verdict what.now claim.now self.old) }
+        ensures err { OnErr result (spec.SameLocks self.old self.new) }
     {
         match verdict {
             Verdict::Covered => Ok(Asked::Granted),
@@ -124,9 +133,11 @@ impl Locks {
 
     /// Asks for a lock. It is granted if the enlistment's own mode covers it; else exactly if no other holder conflicts and the
     /// enlistment holds the resource or nobody waits for it. Else the enlistment waits: an upgrade from reading to writing
-    /// stands before all but earlier upgrades, any other ask last. An enlistment that waits isn't to ask.
+    /// stands before all but earlier upgrades, any other ask last. An enlistment that waits isn't to ask. On out
+    /// of memory no lock and no wait changes.
     pub fn ask(&mut self, who: Enlist, what: Resource, mode: Mode) -> Result<Asked, NoMemory>
-        ensures { IfOk result (λ asked. (asked, self.new) ≡ spec.ask who what mode self.old) }
+        ensures ok { IfOk result (λ asked. (asked, self.new) ≡ spec.ask who what mode self.old) }
+        ensures err { OnErr result (spec.SameLocks self.old self.new) }
     {
         let claim = Claim { who, mode };
         let verdict = verdict_in(&claim, &what, &self.table);
@@ -142,9 +153,11 @@ impl Locks {
     }
 
     /// Stores a lock that the enlistment held before a restart. No other holder conflicts, and nobody waits for the resource.
+    /// On out of memory no lock and no wait changes.
     pub fn hold(&mut self, who: Enlist, what: Resource, mode: Mode) -> Result<(), NoMemory>
         requires { IsTrue (spec.may_hold who what mode self.old) }
-        ensures { OnOk result (self.new ≡ spec.hold who what mode self.old) }
+        ensures ok { OnOk result (self.new ≡ spec.hold who what mode self.old) }
+        ensures err { OnErr result (spec.SameLocks self.old self.new) }
     {
         let claim = Claim { who, mode };
         if is_covered_in(&claim, &what, &self.table) {

@@ -1,6 +1,6 @@
 //! The locks of all resources.
 
-ghost use Rattle.std.specs.Prelude.{◌≡◌, [], None, OnOk, IfOk};
+ghost use Rattle.std.specs.Prelude.{◌≡◌, [], None, OnOk, OnErr, IfOk};
 ghost use Rattle.std.specs.BTreeMap.{get};
 ghost use Rattle.rs_base.specs.Orders.{resource_cmp};
 ghost use Rattle.rs_lock.specs.Claims as claims_spec;
@@ -75,8 +75,9 @@ fn add_taken(
     claim: &Claim,
     table: &mut Table,
 ) -> Result<(), NoMemory>
-    ensures { OnOk result (table.new.entries
+    ensures ok { OnOk result (table.new.entries
         ≡ spec.with_lock what.now (spec.taken_in claim.now lock_spec.unlocked) table.old.entries) }
+    ensures err { OnErr result (table.new.entries ≡ table.old.entries) }
 {
     let mut lock = Lock::new(alloc);
     lock.grant(claim)?;
@@ -84,16 +85,17 @@ fn add_taken(
     Ok(())
 }
 
-/// Grants the claim.
+/// Grants the claim. On out of memory nothing changes.
 pub(crate) fn take_in(
     alloc: Global,
     what: &Resource,
     claim: &Claim,
     table: &mut Table,
 ) -> Result<(), NoMemory>
-    ensures { OnOk result (table.new.entries
+    ensures ok { OnOk result (table.new.entries
         ≡ spec.with_lock what.now (spec.taken_in claim.now (spec.lock_in what.now table.old.entries))
         table.old.entries) }
+    ensures err { OnErr result (table.new.entries ≡ table.old.entries) }
 {
     match table.get_mut(what) {
         Some(lock) => lock.grant(claim),
@@ -108,8 +110,9 @@ fn add_enqueued(
     claim: &Claim,
     table: &mut Table,
 ) -> Result<(), NoMemory>
-    ensures { OnOk result (table.new.entries
+    ensures ok { OnOk result (table.new.entries
         ≡ spec.with_lock what.now (lock_spec.enqueued claim.now lock_spec.unlocked) table.old.entries) }
+    ensures err { OnErr result (table.new.entries ≡ table.old.entries) }
 {
     let mut lock = Lock::new(alloc);
     lock.enqueue(claim)?;
@@ -117,16 +120,17 @@ fn add_enqueued(
     Ok(())
 }
 
-/// Lets the claim wait.
+/// Lets the claim wait. On out of memory nothing changes.
 pub(crate) fn enqueue_in(
     alloc: Global,
     what: &Resource,
     claim: &Claim,
     table: &mut Table,
 ) -> Result<(), NoMemory>
-    ensures { OnOk result (table.new.entries
+    ensures ok { OnOk result (table.new.entries
         ≡ spec.with_lock what.now (lock_spec.enqueued claim.now (spec.lock_in what.now table.old.entries))
         table.old.entries) }
+    ensures err { OnErr result (table.new.entries ≡ table.old.entries) }
 {
     match table.get_mut(what) {
         Some(lock) => lock.enqueue(claim),

@@ -1,10 +1,10 @@
 //! The waits of all resources, in the order in which they began.
 
-ghost use Rattle.std.specs.Prelude.{◌≡◌, ◌++◌, [], ◌∷◌, map, find, OnOk, OnErr};
+ghost use Rattle.std.specs.Prelude.{◌≡◌, ◌++◌, [], ◌∷◌, ◌<◌, map, find, vec_len, vec_capacity};
 ghost use Rattle.std.specs.Option.{option_copied};
 ghost use Rattle.rs_lock.specs.Waits as spec;
 
-use rs_base::{Enlist, NoMemory, Resource, order_of_enlists};
+use rs_base::{Enlist, Resource, order_of_enlists};
 
 /// A wait: the enlistment, the resource, and the number of ticks since the wait began.
 #[derive(Clone, Copy)]
@@ -29,22 +29,17 @@ fn is_over(wait: &Wait) -> bool
     BUDGET <= wait.ticks
 }
 
-/// Begins a wait. On out of memory nothing changes.
-pub(crate) fn begin_wait(
-    who: &Enlist,
-    what: &Resource,
-    waits: &mut Vec<Wait>,
-) -> Result<(), NoMemory>
-    ensures ok { OnOk result (waits.new.items
-        ≡ waits.old.items ++ (record { who = who.now; what = what.now; ticks = 0 }) ∷ []) }
-    ensures err { OnErr result (waits.new.items ≡ waits.old.items) }
+/// Begins a wait. There is spare capacity for it.
+pub(crate) fn begin_wait(who: &Enlist, what: &Resource, waits: &mut Vec<Wait>)
+    requires { vec_len waits.old < vec_capacity waits.old }
+    ensures { waits.new.items
+        ≡ waits.old.items ++ (record { who = who.now; what = what.now; ticks = 0 }) ∷ [] }
 {
-    waits.push(Wait {
+    waits.push_reserved(Wait {
         who: *who,
         what: *what,
         ticks: 0,
-    })?;
-    Ok(())
+    });
 }
 
 /// Removes the wait of the enlistment.

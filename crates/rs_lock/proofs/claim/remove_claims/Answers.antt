@@ -3,5 +3,5 @@ use Rattle.std.proofs.lemmas.Fn.{filter_same}
 use Rattle.rs_lock.specs.Claims.{is_by}
 use Rattle.rs_lock.proofs.claim.remove_claims.Goals as goal
 
-pub returns : goal.returns
-returns c = filter_same _ (λ claim. not (is_by c.args.who.now claim)) _ (λ x b f' k. (search rules, search rules)) _ _ c.retain.ensures.filtered
+pub returns-clause-items : goal.returns-clause-items
+returns-clause-items c = filter_same _ (λ claim. not (is_by c.args.who.now claim)) _ (λ x b f' k. (search rules, search rules)) _ _ c.retain.ensures.filtered
