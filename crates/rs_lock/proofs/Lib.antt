@@ -10,3 +10,4 @@ pub mod Queues
 pub mod Kept
 pub mod LawProofs
 pub mod Waiting
+pub mod Covering

@@ -33,20 +33,20 @@ use Rattle.rs_lock.specs.Laws.{has_other, WaitsEnd}
 
 -- ---- the lock of a resource in a changed table
 
-same_or_apart : (q what : Resource) → (q ≡ what) ⊎ (is_eq (resource_cmp q what) ≡ false)
+pub same_or_apart : (q what : Resource) → (q ≡ what) ⊎ (is_eq (resource_cmp q what) ≡ false)
 same_or_apart q what = by_test (is_eq (resource_cmp q what)) refl
   where
     by_test : (b : Bool) → is_eq (resource_cmp q what) ≡ b → (q ≡ what) ⊎ (is_eq (resource_cmp q what) ≡ false)
     by_test true e = inl (resource_exact q what (is_tie (resource_cmp q what) e))
     by_test false e = inr e
 
-lock_put : (what : Resource) (lock : Lock) (table : Table) → lock_in what (with_lock what lock table) ≡ lock
+pub lock_put : (what : Resource) (lock : Lock) (table : Table) → lock_in what (with_lock what lock table) ≡ lock
 lock_put what lock table = ap (λ found. unwrap_or found unlocked) (lookup_put resource_total what lock table)
 
-lock_beside : (what : Resource) (lock : Lock) (table : Table) (q : Resource) → is_eq (resource_cmp q what) ≡ false → lock_in q (with_lock what lock table) ≡ lock_in q table
+pub lock_beside : (what : Resource) (lock : Lock) (table : Table) (q : Resource) → is_eq (resource_cmp q what) ≡ false → lock_in q (with_lock what lock table) ≡ lock_in q table
 lock_beside what lock table q apart = ap (λ found. unwrap_or found unlocked) (lookup_beside resource_total what lock q apart table)
 
-abbrev IsSorted : Table → Type 0
+abbrev pub IsSorted : Table → Type 0
 IsSorted table = IsStrictlySortedBy resource_cmp (keys_of table)
 
 left_queue : (what : Resource) (lock : Lock) (table : Table) → IsSorted table → (lock_in what (left_lock what lock table)).queue ≡ lock.queue
@@ -58,7 +58,7 @@ left_queue what lock table up =
       | false ↦ λ free. ap (λ (l : Lock). l.queue) (lock_put what lock table)
     ] refl
 
-left_beside : (what : Resource) (lock : Lock) (table : Table) (q : Resource) → is_eq (resource_cmp q what) ≡ false → lock_in q (left_lock what lock table) ≡ lock_in q table
+pub left_beside : (what : Resource) (lock : Lock) (table : Table) (q : Resource) → is_eq (resource_cmp q what) ≡ false → lock_in q (left_lock what lock table) ≡ lock_in q table
 left_beside what lock table q apart =
     elim (is_free lock) as (λ b. lock_in q (cond b (remove_entry (is_at (resource_cmp what)) table) (with_lock what lock table)) ≡ lock_in q table) [
       | true ↦ ap (λ found. unwrap_or found unlocked) (lookup_left resource_total q what apart table)
@@ -68,7 +68,7 @@ left_beside what lock table q apart =
 sorted_with : (what : Resource) (lock : Lock) (table : Table) → IsSorted table → IsSorted (with_lock what lock table)
 sorted_with what lock table up = keys_stay_sorted resource_total what lock table up
 
-sorted_left : (what : Resource) (lock : Lock) (table : Table) → IsSorted table → IsSorted (left_lock what lock table)
+pub sorted_left : (what : Resource) (lock : Lock) (table : Table) → IsSorted table → IsSorted (left_lock what lock table)
 sorted_left what lock table up =
     elim (is_free lock) as (λ b. IsSorted (cond b (remove_entry (is_at (resource_cmp what)) table) (with_lock what lock table)))
     [ true ↦ left_in_order resource_cmp (is_at (resource_cmp what)) table up | false ↦ sorted_with what lock table up ]
@@ -313,7 +313,7 @@ first_kept locks kept (Some wait) = ended_kept wait locks kept (holder_of wait.w
 
 -- ---- every list of calls
 
-called_kept : (call : Call) (locks : Locks) → IsKept locks → IsKept (called call locks)
+pub called_kept : (call : Call) (locks : Locks) → IsKept locks → IsKept (called call locks)
 called_kept (Ask who what mode) locks kept = asked_kept what (record { who = who; mode = mode }) locks kept (verdict (record { who = who; mode = mode }) (lock_of what locks))
 called_kept (Hold who what mode) locks kept =
     let claim : Claim = record { who = who; mode = mode } in
@@ -326,7 +326,7 @@ run_kept [] locks kept = kept
 run_kept (call ∷ more) locks kept =
     run_kept more (step call locks) (elim (may_come call locks) as (λ b. IsKept (cond b (called call locks) locks)) [ true ↦ called_kept call locks kept | false ↦ kept ])
 
-none_kept : IsKept no_locks
+pub none_kept : IsKept no_locks
 unfolding IsStrictlySortedBy
 none_kept = record { sorted = tt; queued = refl }
 

@@ -1,15 +1,16 @@
 -- Laws of locks, over every list of calls.
-use Rattle.std.specs.Prelude.{◌≡◌, ◌⊎◌, Bool, true, false, ◌&&◌, not, List, [], ◌∷◌, length, Some, None, if◌then◌else◌}
+use Rattle.std.specs.Prelude.{◌≡◌, ◌⊎◌, Bool, true, false, ◌&&◌, ◌||◌, not, List, [], ◌∷◌, length, Some, None, if◌then◌else◌}
 use Rattle.std.specs.List.{list_all, list_any}
 use Rattle.rs_base.specs.declared.lock.Resource.{Resource}
 use Rattle.rs_base.specs.declared.txn.Enlist.{Enlist}
 use Rattle.rs_lock.specs.declared.answer.Ended.{Ended}
 use Rattle.rs_lock.specs.declared.claim.Claim.{Claim}
-use Rattle.rs_lock.specs.Calls.{lock_of, age, tick}
+use Rattle.rs_lock.specs.Calls.{lock_of, part_of, age, release, tick}
 use Rattle.rs_lock.specs.Claims.{is_write, same, is_by, has, other_than}
 use Rattle.rs_lock.specs.Courses.{Call, after}
 use Rattle.rs_lock.specs.Lock.{Lock, has_to_wait, released, next_grant}
 use Rattle.rs_lock.specs.Locks.{Locks}
+use Rattle.rs_lock.specs.Resources as resources
 use Rattle.rs_lock.specs.Waits.{first_over}
 
 -- ---- one writer alone, or any number of readers
@@ -63,6 +64,19 @@ WaitsForHolder = (calls : List Call) (what : Resource) (claim : Claim) → has_t
     → other_than claim.who (lock_of what (after calls)).holders ≡ None → ⊥
 
 -- ---- a release
+
+-- the enlistment holds the resource or waits for it
+abbrev pub has_claim : Enlist → Lock → Bool
+has_claim who lock = has who lock.holders || has who lock.queue
+
+-- at every moment an enlistment holds and waits for only what it asked for
+abbrev pub AskedFor : Type 0
+AskedFor = (calls : List Call) (who : Enlist) (what : Resource) → has_claim who (lock_of what (after calls)) ≡ true
+    → resources.has what (part_of who (after calls)).asks ≡ true
+
+-- after its release an enlistment holds nothing and waits for nothing
+abbrev pub LeavesNothing : Type 0
+LeavesNothing = (calls : List Call) (who : Enlist) (what : Resource) → has_claim who (lock_of what (release who (after calls)).0) ≡ true → ⊥
 
 -- where an enlistment left, the queue is empty or its first claim conflicts with another holder
 abbrev pub GrantsWhileItCan : Type 0

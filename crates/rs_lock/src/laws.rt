@@ -1,6 +1,6 @@
 //! Laws of locks, over every list of calls. A law's claim is its contract, and its body is empty.
 
-ghost use Rattle.rs_lock.specs.Laws.{BlockedByHolder, GrantsWhileItCan, NamesHolder, OneWriterOrReaders, QueuedOnce, UpgradesFirst, WaitsEnd, WaitsForHolder};
+ghost use Rattle.rs_lock.specs.Laws.{AskedFor, BlockedByHolder, GrantsWhileItCan, LeavesNothing, NamesHolder, OneWriterOrReaders, QueuedOnce, UpgradesFirst, WaitsEnd, WaitsForHolder};
 
 /// Proves that at every moment all holders of a resource read, or there is one holder alone.
 pub fn one_writer_or_readers()
@@ -40,4 +40,14 @@ pub fn names_holder()
 /// Proves that a tick ends a wait if one has counted enough ticks: none is kept for want of a holder to name.
 pub fn waits_end()
     ensures { WaitsEnd }
+{}
+
+/// Proves that at every moment an enlistment holds and waits for only what it asked for.
+pub fn asked_for()
+    ensures { AskedFor }
+{}
+
+/// Proves that after its release an enlistment holds nothing and waits for nothing.
+pub fn leaves_nothing()
+    ensures { LeavesNothing }
 {}
