@@ -56,7 +56,7 @@ any_insert_back p x (suc k) (y ∷ ys) h =
 
 -- ---- whose claims a change leaves
 
-has_without_self : (who : Enlist) (claims : List Claim) → has who (without who claims) ≡ false
+pub has_without_self : (who : Enlist) (claims : List Claim) → has who (without who claims) ≡ false
 has_without_self who [] = refl
 has_without_self who (c ∷ cs) =
     elim (is_by who c) as (λ b. is_by who c ≡ b → has who (cond (not b) (c ∷ without who cs) (without who cs)) ≡ false) [

@@ -11,3 +11,4 @@ pub mod Kept
 pub mod LawProofs
 pub mod Waiting
 pub mod Covering
+pub mod Holding

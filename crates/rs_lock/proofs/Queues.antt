@@ -71,7 +71,7 @@ all_weaker p q says (x ∷ xs) all =
 
 -- ---- each once
 
-once_filter : (test : Claim → Bool) (queue : List Claim) → each_once queue ≡ true → each_once (filter test queue) ≡ true
+pub once_filter : (test : Claim → Bool) (queue : List Claim) → each_once queue ≡ true → each_once (filter test queue) ≡ true
 once_filter test [] once = refl
 once_filter test (c ∷ queue) once =
     let parts = and_parts (not (has c.who queue)) (each_once queue) once in

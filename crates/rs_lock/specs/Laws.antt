@@ -25,6 +25,15 @@ IsOneOrReaders holders = (list_all is_reader holders ≡ true) ⊎ (length holde
 abbrev pub OneWriterOrReaders : Type 0
 OneWriterOrReaders = (calls : List Call) (what : Resource) → IsOneOrReaders (lock_of what (after calls)).holders
 
+-- no enlistment has two of these claims
+abbrev pub each_once : List Claim → Bool
+each_once [] = true
+each_once (claim ∷ claims) = not (has claim.who claims) && each_once claims
+
+-- at every moment no enlistment holds a resource twice
+abbrev pub HeldOnce : Type 0
+HeldOnce = (calls : List Call) (what : Resource) → each_once (lock_of what (after calls)).holders ≡ true
+
 -- ---- the queue
 
 -- once a claim of the queue is of no holder, all after it are of none
@@ -41,11 +50,7 @@ upgrades_first lock = upgrades_by (λ who. has who lock.holders) lock.queue
 abbrev pub UpgradesFirst : Type 0
 UpgradesFirst = (calls : List Call) (what : Resource) → upgrades_first (lock_of what (after calls)) ≡ true
 
--- no enlistment stands in a queue twice
-abbrev pub each_once : List Claim → Bool
-each_once [] = true
-each_once (claim ∷ queue) = not (has claim.who queue) && each_once queue
-
+-- at every moment no enlistment stands in a queue twice
 abbrev pub QueuedOnce : Type 0
 QueuedOnce = (calls : List Call) (what : Resource) → each_once (lock_of what (after calls)).queue ≡ true
 

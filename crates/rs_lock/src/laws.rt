@@ -1,10 +1,15 @@
 //! Laws of locks, over every list of calls. A law's claim is its contract, and its body is empty.
 
-ghost use Rattle.rs_lock.specs.Laws.{AskedFor, BlockedByHolder, GrantsWhileItCan, LeavesNothing, NamesHolder, OneWriterOrReaders, QueuedOnce, UpgradesFirst, WaitsEnd, WaitsForHolder};
+ghost use Rattle.rs_lock.specs.Laws.{AskedFor, BlockedByHolder, GrantsWhileItCan, HeldOnce, LeavesNothing, NamesHolder, OneWriterOrReaders, QueuedOnce, UpgradesFirst, WaitsEnd, WaitsForHolder};
 
 /// Proves that at every moment all holders of a resource read, or there is one holder alone.
 pub fn one_writer_or_readers()
     ensures { OneWriterOrReaders }
+{}
+
+/// Proves that at every moment no enlistment holds a resource twice.
+pub fn held_once()
+    ensures { HeldOnce }
 {}
 
 /// Proves that at every moment the upgrades of a resource stand before all other claims of its queue.
