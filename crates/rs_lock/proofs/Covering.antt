@@ -38,7 +38,7 @@ use Rattle.rs_lock.proofs.Waiting.{IsKept, IsSorted, same_or_apart, lock_put, lo
 
 -- ---- tests of lists
 
-any_filter_back : {X : Type 0} (p test : X → Bool) (xs : List X) → list_any p (filter test xs) ≡ true → list_any p xs ≡ true
+pub any_filter_back : {X : Type 0} (p test : X → Bool) (xs : List X) → list_any p (filter test xs) ≡ true → list_any p xs ≡ true
 any_filter_back p test [] h = h
 any_filter_back p test (x ∷ xs) h =
     elim (test x) as (λ b. list_any p (cond b (x ∷ filter test xs) (filter test xs)) ≡ true → (p x || list_any p xs) ≡ true) [
@@ -46,7 +46,7 @@ any_filter_back p test (x ∷ xs) h =
       | false ↦ λ e. or_right (p x) (list_any p xs) (any_filter_back p test xs e)
     ] h
 
-any_insert_back : {X : Type 0} (p : X → Bool) (x : X) (k : ℕ) (xs : List X) → list_any p (insert xs k x) ≡ true → (p x ≡ true) ⊎ (list_any p xs ≡ true)
+pub any_insert_back : {X : Type 0} (p : X → Bool) (x : X) (k : ℕ) (xs : List X) → list_any p (insert xs k x) ≡ true → (p x ≡ true) ⊎ (list_any p xs ≡ true)
 any_insert_back p x zero xs h = or_cases (p x) (list_any p xs) h
 any_insert_back p x (suc k) [] h = or_cases (p x) false h
 any_insert_back p x (suc k) (y ∷ ys) h =
@@ -103,7 +103,7 @@ free_is lock free =
     let queue : lock.queue ≡ [] = nil_from_length lock.queue (eqb-true (length lock.queue) 0 parts.1) in
     λ i. record { holders = holders i; queue = queue i }
 
-left_at : (what : Resource) (lock : Lock) (table : Table) → IsSorted table → lock_in what (left_lock what lock table) ≡ lock
+pub left_at : (what : Resource) (lock : Lock) (table : Table) → IsSorted table → lock_in what (left_lock what lock table) ≡ lock
 left_at what lock table up =
     elim (is_free lock) as (λ b. is_free lock ≡ b → lock_in what (cond b (remove_entry (is_at (resource_cmp what)) table) (with_lock what lock table)) ≡ lock) [
       | true ↦ λ free. ap (λ found. unwrap_or found unlocked) (lookup_gone resource_total what table up) ∙ sym (free_is lock free)
@@ -268,7 +268,7 @@ apart_resources r what apart = ⊎_elim (λ is. absurd (true≢false (sym (ap is
 
 -- what is left of a release that goes through these resources: others have asked for what they claim, and the enlistment has claims
 -- at these resources alone
-record IsLeaving (who : Enlist) (asks : List Resource) (locks : Locks) : Type 0 where
+pub record IsLeaving (who : Enlist) (asks : List Resource) (locks : Locks) : Type 0 where
   pub sorted : IsSorted locks.table
   pub others : (q : Enlist) → same q who ≡ false → (r : Resource) → has_claim q (lock_of r locks) ≡ true → resources.has r (part_of q locks).asks ≡ true
   pub own : (r : Resource) → has_claim who (lock_of r locks) ≡ true → resources.has r asks ≡ true
@@ -321,7 +321,7 @@ left_leaving who locks up covers = record {
   own = λ r h. covers who r h;
 }
 
-released_leaving : (who : Enlist) (locks : Locks) → IsSorted locks.table → Covers locks → IsLeaving who [] (release who locks).0
+pub released_leaving : (who : Enlist) (locks : Locks) → IsSorted locks.table → Covers locks → IsLeaving who [] (release who locks).0
 released_leaving who locks up covers = leaving_each who (part_of who locks).asks (left who locks) [] (left_leaving who locks up covers)
 
 released_covers : (who : Enlist) (locks : Locks) → IsSorted locks.table → Covers locks → Covers (release who locks).0
@@ -334,7 +334,7 @@ released_covers who locks up covers q r h = by_test (same q who) refl
 
 -- ---- every list of calls
 
-record IsCovered (locks : Locks) : Type 0 where
+pub record IsCovered (locks : Locks) : Type 0 where
   pub kept : IsKept locks
   pub covers : (q : Enlist) (r : Resource) → has_claim q (lock_of r locks) ≡ true → resources.has r (part_of q locks).asks ≡ true
 
@@ -346,14 +346,19 @@ called_covers (Hold who what mode) locks covered =
 called_covers (Release who) locks covered = released_covers who locks covered.kept.sorted covered.covers
 called_covers Tick locks covered = first_covers (age locks) covered.covers (first_over (age locks).waits)
 
+pub covered_call : (call : Call) (locks : Locks) → IsCovered locks → IsCovered (called call locks)
+covered_call call locks covered = record { kept = called_kept call locks covered.kept; covers = called_covers call locks covered }
+
 run_covered : (calls : List Call) (locks : Locks) → IsCovered locks → IsCovered (run calls locks)
 run_covered [] locks covered = covered
 run_covered (call ∷ more) locks covered =
-    let called_covered : IsCovered (called call locks) = record { kept = called_kept call locks covered.kept; covers = called_covers call locks covered } in
-    run_covered more (step call locks) (elim (may_come call locks) as (λ b. IsCovered (cond b (called call locks) locks)) [ true ↦ called_covered | false ↦ covered ])
+    run_covered more (step call locks) (elim (may_come call locks) as (λ b. IsCovered (cond b (called call locks) locks)) [ true ↦ covered_call call locks covered | false ↦ covered ])
+
+pub none_covered : IsCovered no_locks
+none_covered = record { kept = none_kept; covers = λ q r h. absurd (false≢true h) }
 
 all_covered : (calls : List Call) → IsCovered (after calls)
-all_covered calls = run_covered calls no_locks (record { kept = none_kept; covers = λ q r h. absurd (false≢true h) })
+all_covered calls = run_covered calls no_locks none_covered
 
 pub asked_for : AskedFor
 asked_for calls who what h = (all_covered calls).covers who what h

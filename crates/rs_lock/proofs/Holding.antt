@@ -17,8 +17,8 @@ once_push (d ∷ ds) c once none =
     let parts = and_parts (not (has d.who ds)) (each_once ds) once in
     let away = or_parts (is_by c.who d) (has c.who ds) none in
     let later : has d.who (ds ++ c ∷ []) ≡ false =
-        list_any-append (is_by d.who) ds (c ∷ [])
-        ∙ or_from (has d.who ds) (is_by d.who c || false) (not-true (has d.who ds) parts.0) (or_from (is_by d.who c) false (apart_back c.who d.who away.0) refl) in
+    list_any-append (is_by d.who) ds (c ∷ [])
+    ∙ or_from (has d.who ds) (is_by d.who c || false) (not-true (has d.who ds) parts.0) (or_from (is_by d.who c) false (apart_back c.who d.who away.0) refl) in
     and_from (not (has d.who (ds ++ c ∷ []))) (each_once (ds ++ c ∷ [])) (not_from_false (has d.who (ds ++ c ∷ [])) later) (once_push ds c parts.1 away.1)
 
 granted_once : (c : Claim) (holders : List Claim) → each_once holders ≡ true → each_once (granted c holders) ≡ true

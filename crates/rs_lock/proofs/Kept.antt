@@ -113,7 +113,7 @@ module _ {P : Lock → Type 0} (k : Keeps P) where
   each_first locks each None = each
   each_first locks each (Some wait) = each_ended wait locks each (holder_of wait.what wait.who locks)
 
-  each_called : (call : Call) (locks : Locks) → may_come call locks ≡ true → Each P locks.table → Each P (called call locks).table
+  pub each_called : (call : Call) (locks : Locks) → may_come call locks ≡ true → Each P locks.table → Each P (called call locks).table
   each_called (Ask who what mode) locks may each =
       let claim : Claim = record { who = who; mode = mode } in
       each_ask_by what claim locks (not_queued who what locks (not-true (is_waiting who locks) may)) each (verdict claim (lock_of what locks)) refl

@@ -27,7 +27,7 @@ fitting = record {
 pub one_writer_or_readers : OneWriterOrReaders
 one_writer_or_readers calls what = kept fitting calls what
 
-sound : Keeps IsSound
+pub sound : Keeps IsSound
 sound = record {
   base = record { once = refl; first = refl; blocked = refl };
   on_take = taken_sound;

@@ -12,3 +12,4 @@ pub mod LawProofs
 pub mod Waiting
 pub mod Covering
 pub mod Holding
+pub mod Counting

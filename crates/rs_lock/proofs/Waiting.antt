@@ -106,7 +106,7 @@ kept_without who p q says (w ∷ ws) all =
 
 -- ---- an ask
 
-queue_taken : (what : Resource) (claim : Claim) (table : Table) (who : Enlist) (q : Resource) → has who (lock_in q (with_lock what (taken_in claim (lock_in what table)) table)).queue ≡ has who (lock_in q table).queue
+pub queue_taken : (what : Resource) (claim : Claim) (table : Table) (who : Enlist) (q : Resource) → has who (lock_in q (with_lock what (taken_in claim (lock_in what table)) table)).queue ≡ has who (lock_in q table).queue
 queue_taken what claim table who q = by_case (same_or_apart q what)
   where
     new : Table
@@ -161,7 +161,7 @@ asked_kept what claim locks kept (verdicts.Blocked holder) = enqueued_kept what 
 
 -- ---- a release
 
-abbrev among : Enlist → List Enlist → Bool
+abbrev pub among : Enlist → List Enlist → Bool
 among q es = list_any (λ e. same e q) es
 
 settled_more : (holders queue : List Claim) (before : List Enlist) (q : Enlist) → among q before ≡ true → among q (settled holders queue before).1 ≡ true
@@ -273,7 +273,7 @@ pub aged_kept : (locks : Locks) → IsKept locks → IsKept (age locks)
 aged_kept locks kept = record { sorted = kept.sorted; queued = all_aged (stands_in locks.table) (λ w stands. stands) locks.waits kept.queued }
 
 module _ (what : Resource) (who : Enlist) (table : Table) where
-  queue_dequeued : (found : Option Lock) → lookup (is_at (resource_cmp what)) table ≡ found → (q : Enlist) → same who q ≡ false → (r : Resource)
+  pub queue_dequeued : (found : Option Lock) → lookup (is_at (resource_cmp what)) table ≡ found → (q : Enlist) → same who q ≡ false → (r : Resource)
       → has q (lock_in r (with_dequeued what who found table)).queue ≡ has q (lock_in r table).queue
   queue_dequeued None is q apart r = refl
   queue_dequeued (Some lock) is q apart r = by_case (same_or_apart r what)

@@ -1,17 +1,20 @@
 -- Laws of locks, over every list of calls.
 use Rattle.std.specs.Prelude.{◌≡◌, ◌⊎◌, Bool, true, false, ◌&&◌, ◌||◌, not, List, [], ◌∷◌, length, Some, None, if◌then◌else◌}
 use Rattle.std.specs.List.{list_all, list_any}
+use Rattle.std.specs.Ordering.{is_eq}
 use Rattle.rs_base.specs.declared.lock.Resource.{Resource}
 use Rattle.rs_base.specs.declared.txn.Enlist.{Enlist}
 use Rattle.rs_lock.specs.declared.answer.Ended.{Ended}
 use Rattle.rs_lock.specs.declared.claim.Claim.{Claim}
+use Rattle.rs_base.specs.Orders.{resource_cmp}
+use Rattle.rs_lock.specs.declared.wait.Wait.{Wait}
 use Rattle.rs_lock.specs.Calls.{lock_of, part_of, age, release, tick}
 use Rattle.rs_lock.specs.Claims.{is_write, same, is_by, has, other_than}
 use Rattle.rs_lock.specs.Courses.{Call, after}
 use Rattle.rs_lock.specs.Lock.{Lock, has_to_wait, released, next_grant}
 use Rattle.rs_lock.specs.Locks.{Locks}
 use Rattle.rs_lock.specs.Resources as resources
-use Rattle.rs_lock.specs.Waits.{first_over}
+use Rattle.rs_lock.specs.Waits.{waits_for, first_over}
 
 -- ---- one writer alone, or any number of readers
 
@@ -53,6 +56,23 @@ UpgradesFirst = (calls : List Call) (what : Resource) → upgrades_first (lock_o
 -- at every moment no enlistment stands in a queue twice
 abbrev pub QueuedOnce : Type 0
 QueuedOnce = (calls : List Call) (what : Resource) → each_once (lock_of what (after calls)).queue ≡ true
+
+-- a wait of the enlistment for the resource is counted
+abbrev pub is_counted : Enlist → Resource → List Wait → Bool
+is_counted who what waits = list_any (λ wait. waits_for who wait && is_eq (resource_cmp what wait.what)) waits
+
+-- at every moment each enlistment that stands in a queue has a wait for the resource, which ticks count
+abbrev pub QueuedIsCounted : Type 0
+QueuedIsCounted = (calls : List Call) (who : Enlist) (what : Resource) → has who (lock_of what (after calls)).queue ≡ true
+    → is_counted who what (after calls).waits ≡ true
+
+abbrev pub waits_once : List Wait → Bool
+waits_once [] = true
+waits_once (wait ∷ waits) = not (list_any (waits_for wait.who) waits) && waits_once waits
+
+-- at every moment no enlistment has two waits
+abbrev pub WaitsOnce : Type 0
+WaitsOnce = (calls : List Call) → waits_once (after calls).waits ≡ true
 
 -- one of the claims is another enlistment's
 abbrev pub has_other : Enlist → List Claim → Bool

@@ -1,6 +1,6 @@
 //! Laws of locks, over every list of calls. A law's claim is its contract, and its body is empty.
 
-ghost use Rattle.rs_lock.specs.Laws.{AskedFor, BlockedByHolder, GrantsWhileItCan, HeldOnce, LeavesNothing, NamesHolder, OneWriterOrReaders, QueuedOnce, UpgradesFirst, WaitsEnd, WaitsForHolder};
+ghost use Rattle.rs_lock.specs.Laws.{AskedFor, BlockedByHolder, GrantsWhileItCan, HeldOnce, LeavesNothing, NamesHolder, OneWriterOrReaders, QueuedIsCounted, QueuedOnce, UpgradesFirst, WaitsEnd, WaitsForHolder, WaitsOnce};
 
 /// Proves that at every moment all holders of a resource read, or there is one holder alone.
 pub fn one_writer_or_readers()
@@ -55,4 +55,14 @@ pub fn asked_for()
 /// Proves that after its release an enlistment holds nothing and waits for nothing.
 pub fn leaves_nothing()
     ensures { LeavesNothing }
+{}
+
+/// Proves that at every moment each enlistment that stands in a queue has a wait for the resource, which ticks count.
+pub fn queued_is_counted()
+    ensures { QueuedIsCounted }
+{}
+
+/// Proves that at every moment no enlistment has two waits.
+pub fn waits_once()
+    ensures { WaitsOnce }
 {}
