@@ -9,7 +9,6 @@ use Rattle.std.proofs.lemmas.Bool.{and_parts, and_from, or_cases, or_parts, or_f
 use Rattle.std.proofs.lemmas.Cmp.{tied_itself}
 use Rattle.std.proofs.lemmas.List.Elements.{All-nil}
 use Rattle.std.proofs.lemmas.List.Folds.{list_any-append}
-use Rattle.rs_base.specs.declared.lock.Mode.{Mode}
 use Rattle.rs_base.specs.declared.lock.Resource.{Resource}
 use Rattle.rs_base.specs.declared.txn.Enlist.{Enlist}
 use Rattle.rs_base.specs.Orders.{resource_cmp}
@@ -17,12 +16,12 @@ use Rattle.rs_lock.specs.declared.claim.Claim.{Claim}
 use Rattle.rs_lock.specs.declared.verdict.Verdict.{Verdict}
 use Rattle.rs_lock.specs.declared.verdict.Verdict.TheVariants as verdicts
 use Rattle.rs_lock.specs.declared.wait.Wait.{Wait}
-use Rattle.rs_lock.specs.Calls.{lock_of, part_of, is_waiting, grant, enqueue, ask_by, hold, end_wait, end_waits, release_at, release_each, release, left, age, end_first, ended_by, give_up, holder_of, tick}
+use Rattle.rs_lock.specs.Calls.{lock_of, part_of, is_waiting, grant, enqueue, ask_by, end_wait, end_waits, release_at, release_each, release, left, age, end_first, ended_by, give_up, holder_of}
 use Rattle.rs_lock.specs.Claims.{same, is_by, has, without, is_refused, is_covered}
-use Rattle.rs_lock.specs.Courses.{Call, Ask, Hold, Release, Tick, may_come, called, step, run, after}
-use Rattle.rs_lock.specs.Laws.{each_once, has_claim, is_counted, waits_once, QueuedIsCounted, WaitsOnce}
+use Rattle.rs_lock.specs.Courses.{Call, Ask, Hold, Release, Tick, may_come, called, step, run}
+use Rattle.rs_lock.specs.Laws.{each_once, is_counted, waits_once, QueuedIsCounted, WaitsOnce}
 use Rattle.rs_lock.specs.Lock.{Lock, unlocked, verdict, granted, place, enqueued, settled, released, dequeued}
-use Rattle.rs_lock.specs.Locks.{Locks, Table, no_locks, lock_in, with_lock, left_lock, taken_in, with_dequeued, dequeued_in, released_in}
+use Rattle.rs_lock.specs.Locks.{Locks, Table, no_locks, lock_in, with_lock, left_lock, with_dequeued, dequeued_in}
 use Rattle.rs_lock.specs.Waits.{waits_for, without_wait, aged, is_over, first_over}
 use Rattle.rs_lock.proofs.Covering.{any_filter_back, any_insert_back, has_without_self, left_at, IsCovered, covered_call, none_covered, released_leaving}
 use Rattle.rs_lock.proofs.Kept.{Each, each_at, each_left, each_called, end_waits_table, not_queued}

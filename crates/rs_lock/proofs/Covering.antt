@@ -1,5 +1,5 @@
 -- An enlistment holds and waits for only what it asked for, so that a release leaves nothing of it.
-use Rattle.std.proofs.Common.{◌≡◌, ◌⊎◌, ℕ, zero, suc, Bool, true, false, not, ◌&&◌, ◌||◌, cond, List, [], ◌∷◌, ◌++◌, length, filter, Option, Some, None, refl, sym, ap, ◌∙◌, inl, inr, ⊎_elim, subst}
+use Rattle.std.proofs.Common.{◌≡◌, ◌⊎◌, ℕ, zero, suc, Bool, true, false, not, ◌||◌, cond, List, [], ◌∷◌, ◌++◌, length, filter, Option, Some, None, refl, sym, ap, ◌∙◌, inl, inr, ⊎_elim, subst}
 use Rattle.std.specs.Prelude.{◌==◌, unwrap_or}
 use Rattle.std.specs.BTreeMap.{is_at}
 use Rattle.std.specs.List.{insert, list_any}
@@ -10,30 +10,27 @@ use Rattle.std.proofs.lemmas.Cmp.{tied_itself}
 use Rattle.std.proofs.lemmas.List.{nil_from_length}
 use Rattle.std.proofs.lemmas.List.Folds.{list_any-append}
 use Rattle.law_map.proofs.Entries.{lookup_put, lookup_beside, lookup_left, lookup_gone}
-use Rattle.rs_base.specs.declared.lock.Mode.{Mode}
 use Rattle.rs_base.specs.declared.lock.Resource.{Resource}
 use Rattle.rs_base.specs.declared.txn.Enlist.{Enlist}
 use Rattle.rs_base.specs.Orders.{resource_cmp}
-use Rattle.rs_base.specs.Txn.{enlist_cmp}
 use Rattle.rs_lock.specs.declared.claim.Claim.{Claim}
 use Rattle.rs_lock.specs.declared.part.Part.{Part}
 use Rattle.rs_lock.specs.declared.verdict.Verdict.{Verdict}
 use Rattle.rs_lock.specs.declared.verdict.Verdict.TheVariants as verdicts
 use Rattle.rs_lock.specs.declared.wait.Wait.{Wait}
-use Rattle.rs_lock.specs.Calls.{lock_of, part_of, note_ask, note_grant, take_lock, wait_for, grant, enqueue, ask_by, hold, end_wait, end_waits, release_at, release_each, release, left, age, end_first, ended_by, give_up, holder_of, tick}
+use Rattle.rs_lock.specs.Calls.{lock_of, part_of, note_ask, note_grant, take_lock, wait_for, grant, ask_by, end_wait, end_waits, release_at, release_each, release, left, age, end_first, ended_by, holder_of}
 use Rattle.rs_lock.specs.Claims.{same, is_by, has, without, is_refused, is_covered}
 use Rattle.rs_lock.specs.Courses.{Call, Ask, Hold, Release, Tick, may_come, called, step, run, after}
 use Rattle.rs_lock.specs.Laws.{has_claim, AskedFor, LeavesNothing}
 use Rattle.rs_lock.specs.Lock.{Lock, unlocked, is_free, verdict, granted, place, enqueued, settled, released, dequeued}
-use Rattle.rs_lock.specs.Locks.{Locks, Table, no_locks, lock_in, with_lock, left_lock, taken_in, with_dequeued, dequeued_in, released_in}
+use Rattle.rs_lock.specs.Locks.{Locks, Table, no_locks, lock_in, with_lock, left_lock, taken_in, with_dequeued, released_in}
 use Rattle.rs_lock.specs.Parts.{Parts, idle, asked, given, part_in, with_part, without_part}
 use Rattle.rs_lock.specs.Resources as resources
 use Rattle.rs_lock.specs.Resources.{noted}
 use Rattle.rs_lock.specs.Waits.{first_over}
 use Rattle.rs_lock.proofs.Kept.{end_waits_table}
 use Rattle.rs_lock.proofs.Orders.{enlist_total, resource_total}
-use Rattle.rs_lock.proofs.Queues.{same_is, apart_back, is_tie}
-use Rattle.rs_lock.proofs.Verdicts.{same_self}
+use Rattle.rs_lock.proofs.Queues.{same_is}
 use Rattle.rs_lock.proofs.Waiting.{IsKept, IsSorted, same_or_apart, lock_put, lock_beside, left_beside, sorted_left, called_kept, none_kept}
 
 -- ---- tests of lists

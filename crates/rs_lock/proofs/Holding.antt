@@ -1,12 +1,12 @@
 -- No enlistment holds a resource twice: each change of a lock keeps that.
-use Rattle.std.proofs.Common.{◌≡◌, Bool, true, false, not, ◌&&◌, ◌||◌, cond, List, [], ◌∷◌, ◌++◌, refl, ap, ◌∙◌}
+use Rattle.std.proofs.Common.{◌≡◌, true, false, not, ◌||◌, cond, List, [], ◌∷◌, ◌++◌, refl, ◌∙◌}
 use Rattle.std.proofs.lemmas.Bool.{and_parts, and_from, or_parts, or_from, not_from_false, not-true}
 use Rattle.std.proofs.lemmas.List.Folds.{list_any-append}
 use Rattle.rs_base.specs.declared.txn.Enlist.{Enlist}
 use Rattle.rs_lock.specs.declared.claim.Claim.{Claim}
-use Rattle.rs_lock.specs.Claims.{same, is_by, has, without, is_refused}
+use Rattle.rs_lock.specs.Claims.{is_by, has, without, is_refused}
 use Rattle.rs_lock.specs.Laws.{each_once, HeldOnce}
-use Rattle.rs_lock.specs.Lock.{Lock, granted, settled}
+use Rattle.rs_lock.specs.Lock.{granted, settled}
 use Rattle.rs_lock.proofs.Covering.{has_without_self}
 use Rattle.rs_lock.proofs.Kept.{Keeps, kept}
 use Rattle.rs_lock.proofs.Queues.{apart_back, once_filter}

@@ -13,3 +13,4 @@ pub mod Waiting
 pub mod Covering
 pub mod Holding
 pub mod Counting
+pub mod Reaching

@@ -107,14 +107,14 @@ or_false : (b : Bool) → (b || false) ≡ b
 or_false true = refl
 or_false false = refl
 
-has_granted : (claim : Claim) (holders : List Claim) (q : Enlist) → same claim.who q ≡ false → has q (granted claim holders) ≡ has q holders
+pub has_granted : (claim : Claim) (holders : List Claim) (q : Enlist) → same claim.who q ≡ false → has q (granted claim holders) ≡ has q holders
 has_granted claim holders q apart =
     list_any-append (is_by q) (without claim.who holders) (claim ∷ [])
     ∙ ap (λ b. has q (without claim.who holders) || (b || false)) (apart_back claim.who q apart)
     ∙ or_false (has q (without claim.who holders))
     ∙ has_without_other claim.who q apart holders
 
-has_granted_self : (claim : Claim) (holders : List Claim) → has claim.who (granted claim holders) ≡ true
+pub has_granted_self : (claim : Claim) (holders : List Claim) → has claim.who (granted claim holders) ≡ true
 has_granted_self claim holders =
     list_any-append (is_by claim.who) (without claim.who holders) (claim ∷ [])
     ∙ or_right (has claim.who (without claim.who holders)) (is_by claim.who claim || false) (or_left (is_by claim.who claim) false (same_self claim.who))

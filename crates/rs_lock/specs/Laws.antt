@@ -10,11 +10,21 @@ use Rattle.rs_base.specs.Orders.{resource_cmp}
 use Rattle.rs_lock.specs.declared.wait.Wait.{Wait}
 use Rattle.rs_lock.specs.Calls.{lock_of, part_of, age, release, tick}
 use Rattle.rs_lock.specs.Claims.{is_write, same, is_by, has, other_than}
-use Rattle.rs_lock.specs.Courses.{Call, after}
+use Rattle.rs_lock.specs.Courses.{Call, Ask, Hold, Release, Tick, may_come, called, after}
 use Rattle.rs_lock.specs.Lock.{Lock, has_to_wait, released, next_grant}
 use Rattle.rs_lock.specs.Locks.{Locks}
 use Rattle.rs_lock.specs.Resources as resources
 use Rattle.rs_lock.specs.Waits.{waits_for, first_over}
+
+-- ---- every list of calls
+
+-- a list of calls leads to these locks
+abbrev pub IsReached : Locks → Type 0
+IsReached locks = (calls : List Call) × (locks ≡ after calls)
+
+-- a call that may come leads on
+abbrev pub ReachedMore : Type 0
+ReachedMore = (locks : Locks) (call : Call) → IsReached locks → may_come call locks ≡ true → IsReached (called call locks)
 
 -- ---- one writer alone, or any number of readers
 
@@ -27,6 +37,18 @@ IsOneOrReaders holders = (list_all is_reader holders ≡ true) ⊎ (length holde
 -- at every moment all holders of a resource read, or there is one holder alone
 abbrev pub OneWriterOrReaders : Type 0
 OneWriterOrReaders = (calls : List Call) (what : Resource) → IsOneOrReaders (lock_of what (after calls)).holders
+
+-- the call is the release of this enlistment
+abbrev pub releases : Enlist → Call → Bool
+releases who (Ask other what mode) = false
+releases who (Hold other what mode) = false
+releases who (Release other) = same other who
+releases who Tick = false
+
+-- a holder holds the resource until its release
+abbrev pub HoldersStay : Type 0
+HoldersStay = (calls : List Call) (call : Call) (who : Enlist) (what : Resource) → releases who call ≡ false
+    → has who (lock_of what (after calls)).holders ≡ true → has who (lock_of what (called call (after calls))).holders ≡ true
 
 -- no enlistment has two of these claims
 abbrev pub each_once : List Claim → Bool
@@ -65,6 +87,11 @@ is_counted who what waits = list_any (λ wait. waits_for who wait && is_eq (reso
 abbrev pub QueuedIsCounted : Type 0
 QueuedIsCounted = (calls : List Call) (who : Enlist) (what : Resource) → has who (lock_of what (after calls)).queue ≡ true
     → is_counted who what (after calls).waits ≡ true
+
+-- at every moment each wait that ticks count stands in the queue of its resource
+abbrev pub CountedIsQueued : Type 0
+CountedIsQueued = (calls : List Call)
+    → list_all (λ wait. has wait.who (lock_of wait.what (after calls)).queue) (after calls).waits ≡ true
 
 abbrev pub waits_once : List Wait → Bool
 waits_once [] = true

@@ -1,6 +1,6 @@
 //! Laws of locks, over every list of calls. A law's claim is its contract, and its body is empty.
 
-ghost use Rattle.rs_lock.specs.Laws.{AskedFor, BlockedByHolder, GrantsWhileItCan, HeldOnce, LeavesNothing, NamesHolder, OneWriterOrReaders, QueuedIsCounted, QueuedOnce, UpgradesFirst, WaitsEnd, WaitsForHolder, WaitsOnce};
+ghost use Rattle.rs_lock.specs.Laws.{AskedFor, BlockedByHolder, CountedIsQueued, GrantsWhileItCan, HeldOnce, HoldersStay, LeavesNothing, NamesHolder, OneWriterOrReaders, QueuedIsCounted, QueuedOnce, ReachedMore, UpgradesFirst, WaitsEnd, WaitsForHolder, WaitsOnce};
 
 /// Proves that at every moment all holders of a resource read, or there is one holder alone.
 pub fn one_writer_or_readers()
@@ -65,4 +65,19 @@ pub fn queued_is_counted()
 /// Proves that at every moment no enlistment has two waits.
 pub fn waits_once()
     ensures { WaitsOnce }
+{}
+
+/// Proves that at every moment each wait that ticks count stands in the queue of its resource.
+pub fn counted_is_queued()
+    ensures { CountedIsQueued }
+{}
+
+/// Proves that a holder holds the resource until its release.
+pub fn holders_stay()
+    ensures { HoldersStay }
+{}
+
+/// Proves that a call that may come leads from locks that a list of calls reaches to such locks.
+pub fn reached_more()
+    ensures { ReachedMore }
 {}
