@@ -3,7 +3,8 @@ use Rattle.std.specs.Prelude.{Bool, true, not, List, [], ◌∷◌, if◌then◌
 use Rattle.rs_base.specs.declared.lock.Mode.{Mode}
 use Rattle.rs_base.specs.declared.lock.Resource.{Resource}
 use Rattle.rs_base.specs.declared.txn.Enlist.{Enlist}
-use Rattle.rs_lock.specs.Calls.{is_waiting, may_hold, ask, hold, release, tick}
+use Rattle.rs_lock.specs.Calls.{lock_of, is_waiting, may_hold, ask, hold, release, tick}
+use Rattle.rs_lock.specs.Lock.{Lock}
 use Rattle.rs_lock.specs.Locks.{Locks, no_locks}
 
 -- the calls that change the locks
@@ -37,3 +38,7 @@ run (call ∷ more) locks = run more (step call locks)
 -- the locks of a site after these calls
 abbrev pub after : List Call → Locks
 after calls = run calls no_locks
+
+-- the locks of a resource after these calls
+abbrev pub lock_after : List Call → Resource → Lock
+lock_after calls what = lock_of what (after calls)

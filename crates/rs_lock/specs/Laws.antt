@@ -10,7 +10,7 @@ use Rattle.rs_base.specs.Orders.{resource_cmp}
 use Rattle.rs_lock.specs.declared.wait.Wait.{Wait}
 use Rattle.rs_lock.specs.Calls.{lock_of, part_of, age, release, tick}
 use Rattle.rs_lock.specs.Claims.{is_write, same, is_by, has, other_than}
-use Rattle.rs_lock.specs.Courses.{Call, Ask, Hold, Release, Tick, may_come, called, after}
+use Rattle.rs_lock.specs.Courses.{Call, Ask, Hold, Release, Tick, may_come, called, after, lock_after}
 use Rattle.rs_lock.specs.Lock.{Lock, has_to_wait, released, next_grant}
 use Rattle.rs_lock.specs.Locks.{Locks}
 use Rattle.rs_lock.specs.Resources as resources
@@ -24,7 +24,8 @@ IsReached locks = (calls : List Call) × (locks ≡ after calls)
 
 -- a call that may come leads on
 abbrev pub ReachedMore : Type 0
-ReachedMore = (locks : Locks) (call : Call) → IsReached locks → may_come call locks ≡ true → IsReached (called call locks)
+ReachedMore = (locks : Locks) (call : Call) → IsReached locks → may_come call locks ≡ true
+    → IsReached (called call locks)
 
 -- ---- one writer alone, or any number of readers
 
@@ -36,7 +37,8 @@ IsOneOrReaders holders = (list_all is_reader holders ≡ true) ⊎ (length holde
 
 -- at every moment all holders of a resource read, or there is one holder alone
 abbrev pub OneWriterOrReaders : Type 0
-OneWriterOrReaders = (calls : List Call) (what : Resource) → IsOneOrReaders (lock_of what (after calls)).holders
+OneWriterOrReaders = (calls : List Call) (what : Resource)
+    → IsOneOrReaders (lock_after calls what).holders
 
 -- the call is the release of this enlistment
 abbrev pub releases : Enlist → Call → Bool
@@ -47,8 +49,10 @@ releases who Tick = false
 
 -- a holder holds the resource until its release
 abbrev pub HoldersStay : Type 0
-HoldersStay = (calls : List Call) (call : Call) (who : Enlist) (what : Resource) → releases who call ≡ false
-    → has who (lock_of what (after calls)).holders ≡ true → has who (lock_of what (called call (after calls))).holders ≡ true
+HoldersStay = (calls : List Call) (call : Call) (who : Enlist) (what : Resource)
+    → releases who call ≡ false
+    → has who (lock_after calls what).holders ≡ true
+    → has who (lock_of what (called call (after calls))).holders ≡ true
 
 -- no enlistment has two of these claims
 abbrev pub each_once : List Claim → Bool
@@ -57,7 +61,7 @@ each_once (claim ∷ claims) = not (has claim.who claims) && each_once claims
 
 -- at every moment no enlistment holds a resource twice
 abbrev pub HeldOnce : Type 0
-HeldOnce = (calls : List Call) (what : Resource) → each_once (lock_of what (after calls)).holders ≡ true
+HeldOnce = (calls : List Call) (what : Resource) → each_once (lock_after calls what).holders ≡ true
 
 -- ---- the queue
 
@@ -73,11 +77,11 @@ upgrades_first lock = upgrades_by (λ who. has who lock.holders) lock.queue
 
 -- at every moment the upgrades of a resource stand before all other claims of its queue
 abbrev pub UpgradesFirst : Type 0
-UpgradesFirst = (calls : List Call) (what : Resource) → upgrades_first (lock_of what (after calls)) ≡ true
+UpgradesFirst = (calls : List Call) (what : Resource) → upgrades_first (lock_after calls what) ≡ true
 
 -- at every moment no enlistment stands in a queue twice
 abbrev pub QueuedOnce : Type 0
-QueuedOnce = (calls : List Call) (what : Resource) → each_once (lock_of what (after calls)).queue ≡ true
+QueuedOnce = (calls : List Call) (what : Resource) → each_once (lock_after calls what).queue ≡ true
 
 -- a wait of the enlistment for the resource is counted
 abbrev pub is_counted : Enlist → Resource → List Wait → Bool
@@ -85,7 +89,8 @@ is_counted who what waits = list_any (λ wait. waits_for who wait && is_eq (reso
 
 -- at every moment each enlistment that stands in a queue has a wait for the resource, which ticks count
 abbrev pub QueuedIsCounted : Type 0
-QueuedIsCounted = (calls : List Call) (who : Enlist) (what : Resource) → has who (lock_of what (after calls)).queue ≡ true
+QueuedIsCounted = (calls : List Call) (who : Enlist) (what : Resource)
+    → has who (lock_after calls what).queue ≡ true
     → is_counted who what (after calls).waits ≡ true
 
 -- at every moment each wait that ticks count stands in the queue of its resource
@@ -108,12 +113,14 @@ has_other who claims = list_any (λ claim. not (is_by who claim)) claims
 -- at every moment each enlistment that waits for a resource waits for a holder other than itself
 abbrev pub BlockedByHolder : Type 0
 BlockedByHolder = (calls : List Call) (what : Resource)
-    → list_all (λ queued. has_other queued.who (lock_of what (after calls)).holders) (lock_of what (after calls)).queue ≡ true
+    → list_all (λ queued. has_other queued.who (lock_after calls what).holders)
+    (lock_after calls what).queue ≡ true
 
 -- an ask that isn't covered and has to wait is told of a holder
 abbrev pub WaitsForHolder : Type 0
-WaitsForHolder = (calls : List Call) (what : Resource) (claim : Claim) → has_to_wait claim (lock_of what (after calls)) ≡ true
-    → other_than claim.who (lock_of what (after calls)).holders ≡ None → ⊥
+WaitsForHolder = (calls : List Call) (what : Resource) (claim : Claim)
+    → has_to_wait claim (lock_after calls what) ≡ true
+    → other_than claim.who (lock_after calls what).holders ≡ None → ⊥
 
 -- ---- a release
 
@@ -123,16 +130,19 @@ has_claim who lock = has who lock.holders || has who lock.queue
 
 -- at every moment an enlistment holds and waits for only what it asked for
 abbrev pub AskedFor : Type 0
-AskedFor = (calls : List Call) (who : Enlist) (what : Resource) → has_claim who (lock_of what (after calls)) ≡ true
+AskedFor = (calls : List Call) (who : Enlist) (what : Resource)
+    → has_claim who (lock_after calls what) ≡ true
     → resources.has what (part_of who (after calls)).asks ≡ true
 
 -- after its release an enlistment holds nothing and waits for nothing
 abbrev pub LeavesNothing : Type 0
-LeavesNothing = (calls : List Call) (who : Enlist) (what : Resource) → has_claim who (lock_of what (release who (after calls)).0) ≡ true → ⊥
+LeavesNothing = (calls : List Call) (who : Enlist) (what : Resource)
+    → has_claim who (lock_of what (release who (after calls)).0) ≡ true → ⊥
 
 -- where an enlistment left, the queue is empty or its first claim conflicts with another holder
 abbrev pub GrantsWhileItCan : Type 0
-GrantsWhileItCan = (who : Enlist) (lock : Lock) (before : List Enlist) → next_grant (released who lock before).0.holders (released who lock before).0.queue ≡ None
+GrantsWhileItCan = (who : Enlist) (lock : Lock) (before : List Enlist)
+    → let left : Lock = (released who lock before).0 in next_grant left.holders left.queue ≡ None
 
 -- ---- a tick
 

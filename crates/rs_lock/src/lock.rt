@@ -29,7 +29,8 @@ impl Model for Lock {
 
 /// Returns the position of the first claim in the queue whose enlistment holds no lock here, if there is one.
 fn first_of_no_holder(holders: &[Claim], queue: &[Claim]) -> Option<usize>
-    ensures { result ≡ position (λ queued. not (claims_spec.has queued.who holders.now)) queue.now }
+    ensures { result
+        ≡ position (λ queued. not (claims_spec.has queued.who holders.now)) queue.now }
 {
     queue.iter().position(|queued| !has(&queued.who, holders))
 }
@@ -50,10 +51,6 @@ fn next_grant(holders: &[Claim], queue: &[Claim]) -> Option<Claim>
 }
 
 impl Lock {
-    ghost use Rattle.std.specs.Prelude.{◌≡◌, ◌≤◌, length, Some, OnOk, OnErr};
-    ghost use Rattle.rs_lock.specs.Claims as claims_spec;
-    ghost use Rattle.rs_lock.specs.Lock as spec;
-
     /// Makes the locks of a resource that nobody holds or waits for.
     pub(crate) fn new(alloc: Global) -> Lock
         ensures { result ≡ spec.unlocked }
@@ -220,7 +217,8 @@ impl Lock {
     /// Removes all claims of the enlistment, grants the first claims of the queue while no other holder conflicts with them,
     /// and lists the enlistments.
     pub(crate) fn release(&mut self, who: &Enlist, granted: &mut Enlists) -> Result<(), NoMemory>
-        ensures { OnOk result ((self.new, granted.new) ≡ spec.released who.now self.old granted.old) }
+        ensures { OnOk result ((self.new, granted.new)
+            ≡ spec.released who.now self.old granted.old) }
     {
         self.leave(who);
         self.settle(granted)

@@ -29,9 +29,6 @@ impl Model for Order {
 }
 
 impl Order {
-    ghost use Rattle.std.specs.Prelude.{◌≡◌, [], OnOk, OnErr};
-    ghost use Rattle.rs_lock.specs.Resources as spec;
-
     /// Makes an empty order.
     pub(crate) fn new(alloc: Global) -> Order
         ensures { result ≡ [] }

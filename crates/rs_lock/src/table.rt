@@ -30,7 +30,8 @@ pub(crate) fn verdict_in(claim: &Claim, what: &Resource, table: &Table) -> Verdi
 }
 
 pub(crate) fn is_covered_in(claim: &Claim, what: &Resource, table: &Table) -> bool
-    ensures { result ≡ claims_spec.is_covered claim.now (spec.lock_in what.now table.now.entries).holders }
+    ensures { result
+        ≡ claims_spec.is_covered claim.now (spec.lock_in what.now table.now.entries).holders }
 {
     match table.get(what) {
         Some(lock) => lock.is_covered(claim),
@@ -50,7 +51,8 @@ pub(crate) fn may_hold_in(claim: &Claim, what: &Resource, table: &Table) -> bool
 
 /// Returns the first holder other than this enlistment, if there is one.
 pub(crate) fn holder_in(what: &Resource, but: &Enlist, table: &Table) -> Option<Enlist>
-    ensures { result ≡ claims_spec.other_than but.now (spec.lock_in what.now table.now.entries).holders }
+    ensures { result
+        ≡ claims_spec.other_than but.now (spec.lock_in what.now table.now.entries).holders }
 {
     match table.get(what) {
         Some(lock) => lock.holder_other_than(but),
@@ -60,7 +62,8 @@ pub(crate) fn holder_in(what: &Resource, but: &Enlist, table: &Table) -> Option<
 
 /// Returns the mode in which the enlistment holds the resource, if it does.
 pub(crate) fn mode_in(who: &Enlist, what: &Resource, table: &Table) -> Option<Mode>
-    ensures { result ≡ claims_spec.mode_of who.now (spec.lock_in what.now table.now.entries).holders }
+    ensures { result
+        ≡ claims_spec.mode_of who.now (spec.lock_in what.now table.now.entries).holders }
 {
     match table.get(what) {
         Some(lock) => lock.mode_of(who),
