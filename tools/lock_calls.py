@@ -64,6 +64,8 @@ class Model:
         return own is not None and (own[2] == "write" or mode == "read")
 
     def ask(self, who, what, mode):
+        if self.is_waiting(who):
+            return "is waiting"
         if self.covered(who, what, mode):
             return "granted"
         self.note(self.asks, who, what)
@@ -142,7 +144,8 @@ def by_hand():
     t, s, r = RESOURCES[0], RESOURCES[1], RESOURCES[3]
     a, b, c, d = ENLISTS[:4]
     yield "a reader waits behind a waiting writer"
-    yield from [("ask", a, t, "read"), ("ask", b, t, "write"), ("ask", c, t, "read"), ("release", a), ("release", b)]
+    yield from [("ask", a, t, "read"), ("ask", b, t, "write"), ("ask", c, t, "read"), ("ask", c, s, "read")]
+    yield from [("release", a), ("release", b)]
     yield "an upgrade stands before all but earlier upgrades"
     yield from [("ask", a, t, "read"), ("ask", b, t, "read"), ("ask", c, t, "read"), ("ask", d, t, "write")]
     yield from [("ask", b, t, "write"), ("ask", c, t, "write"), ("release", a), ("release", c), ("held", b)]

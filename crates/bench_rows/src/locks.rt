@@ -38,19 +38,11 @@ fn resources(alloc: Global, size: u64) -> Result<Vec<Resource>, NoMemory> {
     Ok(all)
 }
 
-/// Locks each resource for reading, by enlistments that don't ask again.
-fn filled(alloc: Global, resources: &[Resource]) -> Result<Locks, NoMemory> {
-    let mut locks = Locks::new(alloc);
-    let mut number = ASKERS * HELD_BY_ONE;
-    for what in resources {
-        let _asked = locks.ask(enlist(number / HELD_BY_ONE), *what, Mode::Read)?;
-        number = number.saturating_add(1);
-    }
-    Ok(locks)
-}
-
 /// Asks for a lock, and releases all locks of the enlistment if it would have to wait. Returns whether it was granted.
 fn turn(locks: &mut Locks, who: u64, what: &Resource, mode: Mode) -> Result<bool, NoMemory> {
+    if locks.is_waiting(enlist(who)) {
+        return Ok(false);
+    }
     match locks.ask(enlist(who), *what, mode)? {
         Asked::Granted => Ok(true),
         Asked::Waiting(_) => {
@@ -58,6 +50,17 @@ fn turn(locks: &mut Locks, who: u64, what: &Resource, mode: Mode) -> Result<bool
             Ok(false)
         }
     }
+}
+
+/// Locks each resource for reading, by enlistments that don't ask again.
+fn filled(alloc: Global, resources: &[Resource]) -> Result<Locks, NoMemory> {
+    let mut locks = Locks::new(alloc);
+    let mut number = ASKERS * HELD_BY_ONE;
+    for what in resources {
+        let _granted = turn(&mut locks, number / HELD_BY_ONE, what, Mode::Read)?;
+        number = number.saturating_add(1);
+    }
+    Ok(locks)
 }
 
 /// Asks for locks in no order, one of sixteen for writing, which has to wait: then the enlistment releases all of its locks.

@@ -92,12 +92,29 @@ impl LockCases {
         }
     }
 
-    fn ask(&mut self, words: &mut Words<'_>, out: &mut Output) -> Result<(), NoMemory> {
-        let asked = self
-            .locks
-            .ask(words.enlist(), read_resource(words), read_mode(words))?;
-        append_asked(&asked, out);
+    /// Asks for the lock, if the enlistment isn't waiting.
+    fn ask_for(
+        &mut self,
+        who: &Enlist,
+        what: &Resource,
+        mode: Mode,
+        out: &mut Output,
+    ) -> Result<(), NoMemory> {
+        if self.locks.is_waiting(*who) {
+            out.text("is waiting");
+            return Ok(());
+        }
+        append_asked(&self.locks.ask(*who, *what, mode)?, out);
         Ok(())
+    }
+
+    fn ask(&mut self, words: &mut Words<'_>, out: &mut Output) -> Result<(), NoMemory> {
+        self.ask_for(
+            &words.enlist(),
+            &read_resource(words),
+            read_mode(words),
+            out,
+        )
     }
 
     /// Holds the lock, if it may be held.

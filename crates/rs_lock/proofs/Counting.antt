@@ -53,13 +53,13 @@ any_kept p test says (x ∷ xs) h =
 tie_is : (r s : Resource) → is_eq (resource_cmp r s) ≡ true → r ≡ s
 tie_is r s e = resource_exact r s (is_tie (resource_cmp r s) e)
 
-tie_self : (r : Resource) → is_eq (resource_cmp r r) ≡ true
+pub tie_self : (r : Resource) → is_eq (resource_cmp r r) ≡ true
 tie_self r = ap is_eq (tied_itself resource_total r)
 
 abbrev counts : Enlist → Resource → Wait → Bool
 counts who what wait = waits_for who wait && is_eq (resource_cmp what wait.what)
 
-waits_of : (q : Enlist) (r : Resource) (waits : List Wait) → is_counted q r waits ≡ true → list_any (waits_for q) waits ≡ true
+pub waits_of : (q : Enlist) (r : Resource) (waits : List Wait) → is_counted q r waits ≡ true → list_any (waits_for q) waits ≡ true
 waits_of q r waits h = any_weaker (counts q r) (waits_for q) (λ w both. (and_parts (waits_for q w) (is_eq (resource_cmp r w.what)) both).0) waits h
 
 -- who waits once waits for one resource
@@ -126,7 +126,7 @@ grant_counted : (what : Resource) (claim : Claim) (locks : Locks) → IsCounted 
 grant_counted what claim locks before = record { once = before.once; counted = λ q r h. before.counted q r (sym (queue_taken what claim locks.table q r) ∙ h) }
 
 -- who stands in no queue has no wait
-lacks : (who : Enlist) (table : Table) → ((r : Resource) → has who (lock_in r table).queue ≡ false) → (waits : List Wait) → list_all (stands_in table) waits ≡ true → list_any (waits_for who) waits ≡ false
+pub lacks : (who : Enlist) (table : Table) → ((r : Resource) → has who (lock_in r table).queue ≡ false) → (waits : List Wait) → list_all (stands_in table) waits ≡ true → list_any (waits_for who) waits ≡ false
 lacks who table none [] all = refl
 lacks who table none (w ∷ ws) all =
     let parts = and_parts (stands_in table w) (list_all (stands_in table) ws) all in

@@ -14,3 +14,4 @@ pub mod Covering
 pub mod Holding
 pub mod Counting
 pub mod Reaching
+pub mod Agreeing

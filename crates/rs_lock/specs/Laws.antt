@@ -8,13 +8,13 @@ use Rattle.rs_lock.specs.declared.answer.Ended.{Ended}
 use Rattle.rs_lock.specs.declared.claim.Claim.{Claim}
 use Rattle.rs_base.specs.Orders.{resource_cmp}
 use Rattle.rs_lock.specs.declared.wait.Wait.{Wait}
-use Rattle.rs_lock.specs.Calls.{lock_of, part_of, age, release, tick}
+use Rattle.rs_lock.specs.Calls.{lock_of, part_of, is_waiting, age, release, tick}
 use Rattle.rs_lock.specs.Claims.{is_write, same, is_by, has, other_than}
 use Rattle.rs_lock.specs.Courses.{Call, Ask, Hold, Release, Tick, may_come, called, after, lock_after}
 use Rattle.rs_lock.specs.Lock.{Lock, has_to_wait, released, next_grant}
 use Rattle.rs_lock.specs.Locks.{Locks}
 use Rattle.rs_lock.specs.Resources as resources
-use Rattle.rs_lock.specs.Waits.{waits_for, first_over}
+use Rattle.rs_lock.specs.Waits.{waits_for, has_wait, first_over}
 
 -- ---- every list of calls
 
@@ -105,6 +105,11 @@ waits_once (wait ∷ waits) = not (list_any (waits_for wait.who) waits) && waits
 -- at every moment no enlistment has two waits
 abbrev pub WaitsOnce : Type 0
 WaitsOnce = (calls : List Call) → waits_once (after calls).waits ≡ true
+
+-- at every moment an enlistment has a wait exactly if it stands in a queue
+abbrev pub WaitingAgrees : Type 0
+WaitingAgrees = (calls : List Call) (who : Enlist)
+    → is_waiting who (after calls) ≡ has_wait who (after calls).waits
 
 -- one of the claims is another enlistment's
 abbrev pub has_other : Enlist → List Claim → Bool

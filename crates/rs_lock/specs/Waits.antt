@@ -1,5 +1,6 @@
 -- The waits of all resources, in the order in which they began.
 use Rattle.std.specs.Prelude.{ℕ, ◌+◌, ◌-◌, ◌^◌, min, Bool, not, nat_le, List, filter, find, Option}
+use Rattle.std.specs.List.{list_any}
 use Rattle.rs_base.specs.declared.txn.Enlist.{Enlist}
 use Rattle.rs_lock.specs.declared.wait.Wait.{Wait}
 use Rattle.rs_lock.specs.Claims.{same}
@@ -10,6 +11,10 @@ budget = 16
 
 abbrev pub waits_for : Enlist → Wait → Bool
 waits_for who wait = same who wait.who
+
+-- the enlistment waits
+abbrev pub has_wait : Enlist → List Wait → Bool
+has_wait who waits = list_any (waits_for who) waits
 
 abbrev pub without_wait : Enlist → List Wait → List Wait
 without_wait who waits = filter (λ wait. not (waits_for who wait)) waits

@@ -1,6 +1,6 @@
 //! Laws of locks, over every list of calls. A law's claim is its contract, and its body is empty.
 
-ghost use Rattle.rs_lock.specs.Laws.{AskedFor, BlockedByHolder, CountedIsQueued, GrantsWhileItCan, HeldOnce, HoldersStay, LeavesNothing, NamesHolder, OneWriterOrReaders, QueuedIsCounted, QueuedOnce, ReachedMore, UpgradesFirst, WaitsEnd, WaitsForHolder, WaitsOnce};
+ghost use Rattle.rs_lock.specs.Laws.{AskedFor, BlockedByHolder, CountedIsQueued, GrantsWhileItCan, HeldOnce, HoldersStay, LeavesNothing, NamesHolder, OneWriterOrReaders, QueuedIsCounted, QueuedOnce, ReachedMore, UpgradesFirst, WaitingAgrees, WaitsEnd, WaitsForHolder, WaitsOnce};
 
 /// Proves that at every moment all holders of a resource read, or there is one holder alone.
 pub fn one_writer_or_readers()
@@ -80,4 +80,9 @@ pub fn holders_stay()
 /// Proves that a call that may come leads from locks that a list of calls reaches to such locks.
 pub fn reached_more()
     ensures { ReachedMore }
+{}
+
+/// Proves that at every moment an enlistment has a wait exactly if it stands in a queue.
+pub fn waiting_agrees()
+    ensures { WaitingAgrees }
 {}

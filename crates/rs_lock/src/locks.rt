@@ -1,8 +1,9 @@
 //! The locks of a site.
 
-ghost use Rattle.std.specs.Prelude.{◌≡◌, IsTrue, ◌++◌, IfOk, OnOk, OnErr};
+ghost use Rattle.std.specs.Prelude.{◌≡◌, IsTrue, false, ◌++◌, IfOk, OnOk, OnErr};
 ghost use Rattle.rs_lock.specs.Calls as spec;
 ghost use Rattle.rs_lock.specs.Locks.{no_locks};
+ghost use Rattle.rs_lock.specs.Waits as waits_spec;
 
 use crate::answer::{Asked, Ended, Enlists};
 use crate::claim::Claim;
@@ -12,7 +13,7 @@ use crate::table::{
     take_in, verdict_in,
 };
 use crate::verdict::Verdict;
-use crate::wait::{Wait, age, begin_wait, first_over, remove_wait};
+use crate::wait::{Wait, age, begin_wait, first_over, has_wait, remove_wait};
 use rs_base::{Enlist, HeldLocks, Mode, NoMemory, Resource};
 use sqlite_items::Items;
 use std::alloc::Global;
@@ -128,12 +129,20 @@ impl Locks {
         }
     }
 
+    /// Returns whether the enlistment waits. It takes no memory. Linear in the number of waits.
+    pub fn is_waiting(&self, who: Enlist) -> bool
+        ensures { result ≡ waits_spec.has_wait who self.now.waits }
+    {
+        has_wait(&who, self.waits.as_slice())
+    }
+
     /// Asks for a lock. It is granted if the enlistment's own mode covers it; else exactly if no other holder conflicts and the
     /// enlistment holds the resource or nobody waits for it. Else the enlistment waits: an upgrade from reading to writing
-    /// stands before all but earlier upgrades, any other ask last. An enlistment that waits isn't to ask. On
+    /// stands before all but earlier upgrades, any other ask last. The enlistment isn't waiting. On
     /// out of memory no lock and no wait changes. Logarithmic in the number of resources and enlistments, linear in the holders
     /// and the queue of the resource.
     pub fn ask(&mut self, who: Enlist, what: Resource, mode: Mode) -> Result<Asked, NoMemory>
+        requires { waits_spec.has_wait who self.old.waits ≡ false }
         ensures ok { IfOk result (λ asked. (asked, self.new)
             ≡ spec.ask who what mode self.old) }
         ensures err { OnErr result (spec.SameLocks self.old self.new) }

@@ -29,6 +29,13 @@ fn is_over(wait: &Wait) -> bool
     BUDGET <= wait.ticks
 }
 
+/// Returns whether the enlistment waits.
+pub(crate) fn has_wait(who: &Enlist, waits: &[Wait]) -> bool
+    ensures { result ≡ spec.has_wait who.now waits.now }
+{
+    waits.iter().any(|wait| waits_for(who, wait))
+}
+
 /// Begins a wait. There is spare capacity for it.
 pub(crate) fn begin_wait(who: &Enlist, what: &Resource, waits: &mut Vec<Wait>)
     requires { vec_len waits.old < vec_capacity waits.old }
