@@ -85,7 +85,8 @@ QueuedOnce = (calls : List Call) (what : Resource) → each_once (lock_after cal
 
 -- a wait of the enlistment for the resource is counted
 abbrev pub is_counted : Enlist → Resource → List Wait → Bool
-is_counted who what waits = list_any (λ wait. waits_for who wait && is_eq (resource_cmp what wait.what)) waits
+is_counted who what waits =
+    list_any (λ wait. waits_for who wait && is_eq (resource_cmp what wait.what)) waits
 
 -- at every moment each enlistment that stands in a queue has a wait for the resource, which ticks count
 abbrev pub QueuedIsCounted : Type 0
@@ -121,7 +122,7 @@ BlockedByHolder = (calls : List Call) (what : Resource)
     → list_all (λ queued. has_other queued.who (lock_after calls what).holders)
     (lock_after calls what).queue ≡ true
 
--- an ask that isn't covered and has to wait is told of a holder
+-- at every moment there is a holder to name to an ask that has to wait
 abbrev pub WaitsForHolder : Type 0
 WaitsForHolder = (calls : List Call) (what : Resource) (claim : Claim)
     → has_to_wait claim (lock_after calls what) ≡ true
@@ -159,6 +160,7 @@ pub record IsHolder (ended : Ended) (locks : Locks) : Type 0 where
 abbrev pub NamesHolder : Type 0
 NamesHolder = (locks : Locks) (ended : Ended) → (tick locks).0 ≡ Some ended → IsHolder ended locks
 
--- if a wait has counted enough ticks then one ends: no wait is kept for want of a holder to name
+-- a tick that ends no wait leaves none that has counted enough ticks
 abbrev pub WaitsEnd : Type 0
-WaitsEnd = (calls : List Call) → (tick (after calls)).0 ≡ None → first_over (age (after calls)).waits ≡ None
+WaitsEnd = (calls : List Call) → (tick (after calls)).0 ≡ None
+    → first_over (age (after calls)).waits ≡ None

@@ -27,7 +27,7 @@ pub fn blocked_by_holder()
     ensures { BlockedByHolder }
 {}
 
-/// Proves that an ask that has to wait is never granted for want of a holder to name.
+/// Proves that at every moment there is a holder to name to an ask that has to wait.
 pub fn waits_for_holder()
     ensures { WaitsForHolder }
 {}
@@ -42,7 +42,7 @@ pub fn names_holder()
     ensures { NamesHolder }
 {}
 
-/// Proves that a tick ends a wait if one has counted enough ticks: none is kept for want of a holder to name.
+/// Proves that a tick ends a wait if one has counted enough ticks.
 pub fn waits_end()
     ensures { WaitsEnd }
 {}
