@@ -39,14 +39,14 @@ fn resources(alloc: Global, size: u64) -> Result<Vec<Resource>, NoMemory> {
 }
 
 /// Asks for a lock, and releases all locks of the enlistment if it would have to wait. Returns whether it was granted.
-fn turn(locks: &mut Locks, who: u64, what: &Resource, mode: Mode) -> Result<bool, NoMemory> {
-    if locks.is_waiting(enlist(who)) {
+fn turn(locks: &mut Locks, who: &Enlist, what: &Resource, mode: Mode) -> Result<bool, NoMemory> {
+    if locks.is_waiting(*who) {
         return Ok(false);
     }
-    match locks.ask(enlist(who), *what, mode)? {
+    match locks.ask(*who, *what, mode)? {
         Asked::Granted => Ok(true),
         Asked::Waiting(_) => {
-            let _granted = locks.release(enlist(who))?;
+            let _granted = locks.release(*who)?;
             Ok(false)
         }
     }
@@ -57,7 +57,7 @@ fn filled(alloc: Global, resources: &[Resource]) -> Result<Locks, NoMemory> {
     let mut locks = Locks::new(alloc);
     let mut number = ASKERS * HELD_BY_ONE;
     for what in resources {
-        let _granted = turn(&mut locks, number / HELD_BY_ONE, what, Mode::Read)?;
+        let _granted = turn(&mut locks, &enlist(number / HELD_BY_ONE), what, Mode::Read)?;
         number = number.saturating_add(1);
     }
     Ok(locks)
@@ -78,7 +78,7 @@ fn turns(alloc: Global, count: u64, size: u64) -> Result<u64, NoMemory> {
         };
         if turn(
             &mut locks,
-            who,
+            &enlist(who),
             what,
             if writes { Mode::Write } else { Mode::Read },
         )? {
