@@ -2,6 +2,7 @@
 #![tactic(auto)]
 
 mod index;
+mod locks;
 mod random;
 mod rows;
 mod sections;
@@ -21,6 +22,7 @@ fn make(alloc: Global, line: &str) -> Option<Result<u64, NoMemory>> {
     match structure {
         "rows" => rows::make(alloc, call, count, size),
         "index" => index::make(alloc, call, count, size),
+        "locks" => locks::make(alloc, call, count, size),
         "sections" => sections::make(alloc, call, count, size),
         _ => None,
     }

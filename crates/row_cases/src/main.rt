@@ -1,9 +1,10 @@
-//! Reads files of calls on the structures that a table is stored in, and reports each call that answers otherwise than
+//! Reads files of calls on the structures that a table is stored in, and on locks, and reports each call that answers otherwise than
 //! wanted.
 #![tactic(auto)]
 
 mod clauses;
 mod index;
+mod locks;
 mod paths;
 mod rows;
 mod section_words;
@@ -14,6 +15,7 @@ use anyhow::Result;
 use case_tools::{Output, check_cases};
 use clauses::ClauseCases;
 use index::IndexCases;
+use locks::LockCases;
 use paths::PathCases;
 use rows::RowCases;
 use rs_base::NoMemory;
@@ -30,6 +32,7 @@ fn check_kind(kind: &str, file: &str, text: &str, out: &mut Output) -> Result<()
         "stored" => check_cases(&mut StoredCases::new(out.alloc), kind, file, text, out),
         "index" => check_cases(&mut IndexCases::new(out.alloc)?, kind, file, text, out),
         "sections" => check_cases(&mut SectionCases::new(out.alloc), kind, file, text, out),
+        "locks" => check_cases(&mut LockCases::new(out), kind, file, text, out),
         "clauses" => check_cases(&mut ClauseCases, kind, file, text, out),
         _ => check_cases(&mut PathCases::new(out.alloc), kind, file, text, out),
     }

@@ -1,0 +1,17 @@
+pub mod Maps
+pub mod Orders
+pub mod Positions
+pub mod Tables
+pub mod Members
+pub mod Fitting
+pub mod Settling
+pub mod Verdicts
+pub mod Queues
+pub mod Kept
+pub mod LawProofs
+pub mod Waiting
+pub mod Covering
+pub mod Holding
+pub mod Counting
+pub mod Reaching
+pub mod Agreeing

@@ -1,0 +1,10 @@
+pub mod Claims
+pub mod Lock
+pub mod Resources
+pub mod OrderInside
+pub mod Parts
+pub mod Waits
+pub mod Locks
+pub mod Calls
+pub mod Courses
+pub mod Laws
