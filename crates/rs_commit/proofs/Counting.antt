@@ -37,9 +37,9 @@ coordinator_counts (latest ∷ before) parts =
 -- no part is silent exactly if all have voted
 pub none_silent : (parts : List PartState) → is_none (first_silent parts) ≡ have_all_voted parts
 none_silent [] = refl
-none_silent (part ∷ parts) = by_vote part.voted
+none_silent (part ∷ parts) = by_vote (none_silent parts) part.voted
   where
-    by_vote : (voted : Bool)
+    by_vote : is_none (first_silent parts) ≡ have_all_voted parts → (voted : Bool)
         → is_none (option_map (λ (p : PartState). p.enlist) (cond (not voted) (Some part) (find (λ (p : PartState). not p.voted) parts))) ≡ (voted && have_all_voted parts)
-    by_vote true = none_silent parts
-    by_vote false = refl
+    by_vote rest true = rest
+    by_vote rest false = refl

@@ -79,11 +79,11 @@ none_decided n j = refl
 pub voted_prepared : (j : ℕ) (h : List CommitEvent) → has_voted j h ≡ true → has_prepared j h ≡ true
 voted_prepared j [] e = let none = none_voted j in absurd cc
 voted_prepared j (x ∷ h) e =
-    prepared_more j x h ∙ or_left (has_prepared j h) (is_prepare j x && not (has_stopped j h || is_dropped j h)) (by_cases (or_cases (has_voted j h) (is_vote j x && has_prepared j h) (sym (voted_more j x h) ∙ e)))
+    prepared_more j x h ∙ or_left (has_prepared j h) (is_prepare j x && not (has_stopped j h || is_dropped j h)) (by_cases (voted_prepared j h) (or_cases (has_voted j h) (is_vote j x && has_prepared j h) (sym (voted_more j x h) ∙ e)))
   where
-    by_cases : (has_voted j h ≡ true) ⊎ ((is_vote j x && has_prepared j h) ≡ true) → has_prepared j h ≡ true
-    by_cases (inl before) = voted_prepared j h before
-    by_cases (inr now) = (and_parts (is_vote j x) (has_prepared j h) now).1
+    by_cases : (has_voted j h ≡ true → has_prepared j h ≡ true) → (has_voted j h ≡ true) ⊎ ((is_vote j x && has_prepared j h) ≡ true) → has_prepared j h ≡ true
+    by_cases so_far (inl before) = so_far before
+    by_cases so_far (inr now) = (and_parts (is_vote j x) (has_prepared j h) now).1
 
 -- only a Decide that each part has voted for decides
 pub settles_decided : (n : ℕ) (x : CommitEvent) (h : List CommitEvent) → settles n x h ≡ Some settlements.Decided → (x ≡ events.Decide) × (have_all_voted n h ≡ true)
@@ -106,11 +106,11 @@ settles_decided n (events.StopPart i) h e = absurd cc
 pub decided_prepared : (n j : ℕ) → j < n → (h : List CommitEvent) → settled n h ≡ Some settlements.Decided → has_prepared j h ≡ true
 decided_prepared n j within [] e = let none = none_settled n in absurd cc
 decided_prepared n j within (x ∷ h) e =
-    prepared_more j x h ∙ or_left (has_prepared j h) (is_prepare j x && not (has_stopped j h || is_dropped j h)) (by_cases (either_some (settled n h) (settles n x h) settlements.Decided (sym (settled_more n x h) ∙ e)))
+    prepared_more j x h ∙ or_left (has_prepared j h) (is_prepare j x && not (has_stopped j h || is_dropped j h)) (by_cases (decided_prepared n j within h) (either_some (settled n h) (settles n x h) settlements.Decided (sym (settled_more n x h) ∙ e)))
   where
-    by_cases : (settled n h ≡ Some settlements.Decided) ⊎ ((settled n h ≡ None) × (settles n x h ≡ Some settlements.Decided)) → has_prepared j h ≡ true
-    by_cases (inl before) = decided_prepared n j within h before
-    by_cases (inr now) = voted_prepared j h (each_in_range (λ part. has_voted part h) n (settles_decided n x h now.1).1 j within)
+    by_cases : (settled n h ≡ Some settlements.Decided → has_prepared j h ≡ true) → (settled n h ≡ Some settlements.Decided) ⊎ ((settled n h ≡ None) × (settles n x h ≡ Some settlements.Decided)) → has_prepared j h ≡ true
+    by_cases so_far (inl before) = so_far before
+    by_cases so_far (inr now) = voted_prepared j h (each_in_range (λ part. has_voted part h) n (settles_decided n x h now.1).1 j within)
 
 -- ---- before the master settles
 
@@ -155,11 +155,11 @@ unsettled_not_given_up n (x ∷ h) e =
 
 pub dropped_given_up : (j : ℕ) (h : List CommitEvent) → is_dropped j h ≡ true → has_given_up h ≡ true
 dropped_given_up j [] e = let none = none_dropped j in absurd cc
-dropped_given_up j (x ∷ h) e = given_up_more x h ∙ or_left (has_given_up h) (is_give_up x) (by_cases (or_cases (is_dropped j h) (is_abort j x && has_given_up h) (sym (dropped_more j x h) ∙ e)))
+dropped_given_up j (x ∷ h) e = given_up_more x h ∙ or_left (has_given_up h) (is_give_up x) (by_cases (dropped_given_up j h) (or_cases (is_dropped j h) (is_abort j x && has_given_up h) (sym (dropped_more j x h) ∙ e)))
   where
-    by_cases : (is_dropped j h ≡ true) ⊎ ((is_abort j x && has_given_up h) ≡ true) → has_given_up h ≡ true
-    by_cases (inl before) = dropped_given_up j h before
-    by_cases (inr now) = (and_parts (is_abort j x) (has_given_up h) now).1
+    by_cases : (is_dropped j h ≡ true → has_given_up h ≡ true) → (is_dropped j h ≡ true) ⊎ ((is_abort j x && has_given_up h) ≡ true) → has_given_up h ≡ true
+    by_cases so_far (inl before) = so_far before
+    by_cases so_far (inr now) = (and_parts (is_abort j x) (has_given_up h) now).1
 
 -- the settlement stood already, if the master had given up
 stood : (n : ℕ) (x : CommitEvent) (h : List CommitEvent) (z : Settlement) → has_given_up h ≡ true → settled n (x ∷ h) ≡ Some z → settled n h ≡ Some z
@@ -190,14 +190,14 @@ abort_none n j events.StopMaster h this z e = absurd cc
 pub dropped_stopped : (n j : ℕ) (h : List CommitEvent) → is_dropped j h ≡ true → settled n h ≡ Some settlements.GivenUp → decision n j h ≡ None → has_stopped j h ≡ true
 dropped_stopped n j [] gone z e = let none = none_dropped j in absurd cc
 dropped_stopped n j (x ∷ h) gone z e =
-    stopped_more j x h ∙ or_left (has_stopped j h) (is_stop j x) (by_cases (or_cases (is_dropped j h) (is_abort j x && has_given_up h) (sym (dropped_more j x h) ∙ gone)))
+    stopped_more j x h ∙ or_left (has_stopped j h) (is_stop j x) (by_cases (dropped_stopped n j h) (or_cases (is_dropped j h) (is_abort j x && has_given_up h) (sym (dropped_more j x h) ∙ gone)))
   where
     both : (decision n j h ≡ None) × (decides n j x h ≡ None)
     both = both_none (decision n j h) (decides n j x h) (sym (decision_more n j x h) ∙ e)
 
-    by_cases : (is_dropped j h ≡ true) ⊎ ((is_abort j x && has_given_up h) ≡ true) → has_stopped j h ≡ true
-    by_cases (inl before) = dropped_stopped n j h before (stood n x h settlements.GivenUp (dropped_given_up j h before) z) both.0
-    by_cases (inr now) =
+    by_cases : (is_dropped j h ≡ true → settled n h ≡ Some settlements.GivenUp → decision n j h ≡ None → has_stopped j h ≡ true) → (is_dropped j h ≡ true) ⊎ ((is_abort j x && has_given_up h) ≡ true) → has_stopped j h ≡ true
+    by_cases so_far (inl before) = so_far before (stood n x h settlements.GivenUp (dropped_given_up j h before) z) both.0
+    by_cases so_far (inr now) =
         let parts = and_parts (is_abort j x) (has_given_up h) now in
         abort_none n j x h parts.0 (stood n x h settlements.GivenUp parts.1 z) both.1
 

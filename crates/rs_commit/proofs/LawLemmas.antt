@@ -67,11 +67,11 @@ verdict_stays (Some x) y d e = e
 decision_verdict : (n j : ℕ) (h : List CommitEvent) (d : Decision) → decision n j h ≡ Some d → option_map verdict (settled n h) ≡ Some d
 decision_verdict n j [] d e = let none = none_decided n j in absurd cc
 decision_verdict n j (x ∷ h) d e =
-    ap (option_map verdict) (settled_more n x h) ∙ verdict_stays (settled n h) (settles n x h) d (by_cases (either_some (decision n j h) (decides n j x h) d (sym (decision_more n j x h) ∙ e)))
+    ap (option_map verdict) (settled_more n x h) ∙ verdict_stays (settled n h) (settles n x h) d (by_cases (decision_verdict n j h d) (either_some (decision n j h) (decides n j x h) d (sym (decision_more n j x h) ∙ e)))
   where
-    by_cases : (decision n j h ≡ Some d) ⊎ ((decision n j h ≡ None) × (decides n j x h ≡ Some d)) → option_map verdict (settled n h) ≡ Some d
-    by_cases (inl before) = decision_verdict n j h d before
-    by_cases (inr now) = decides_verdict n j x h d now.1
+    by_cases : (decision n j h ≡ Some d → option_map verdict (settled n h) ≡ Some d) → (decision n j h ≡ Some d) ⊎ ((decision n j h ≡ None) × (decides n j x h ≡ Some d)) → option_map verdict (settled n h) ≡ Some d
+    by_cases so_far (inl before) = so_far before
+    by_cases so_far (inr now) = decides_verdict n j x h d now.1
 
 pub no_two_differ : NoTwoDiffer
 no_two_differ n i j h x y e f = same_Some x y (sym (decision_verdict n i h x e) ∙ decision_verdict n j h y f)
@@ -94,11 +94,11 @@ VotedBefore n h = (before : List CommitEvent) × Came events.Decide before h × 
 
 decided_after : (n : ℕ) (h : List CommitEvent) → settled n h ≡ Some settlements.Decided → VotedBefore n h
 decided_after n [] e = let none = none_settled n in absurd cc
-decided_after n (x ∷ h) e = by_cases (either_some (settled n h) (settles n x h) settlements.Decided (sym (settled_more n x h) ∙ e))
+decided_after n (x ∷ h) e = by_cases (decided_after n h) (either_some (settled n h) (settles n x h) settlements.Decided (sym (settled_more n x h) ∙ e))
   where
-    by_cases : (settled n h ≡ Some settlements.Decided) ⊎ ((settled n h ≡ None) × (settles n x h ≡ Some settlements.Decided)) → VotedBefore n (x ∷ h)
-    by_cases (inl before) = let found = decided_after n h before in (found.0, inr found.1, found.2)
-    by_cases (inr now) = let this = settles_decided n x h now.1 in (h, inl (sym this.0, refl), this.1)
+    by_cases : (settled n h ≡ Some settlements.Decided → VotedBefore n h) → (settled n h ≡ Some settlements.Decided) ⊎ ((settled n h ≡ None) × (settles n x h ≡ Some settlements.Decided)) → VotedBefore n (x ∷ h)
+    by_cases so_far (inl before) = let found = so_far before in (found.0, inr found.1, found.2)
+    by_cases so_far (inr now) = let this = settles_decided n x h now.1 in (h, inl (sym this.0, refl), this.1)
 
 is_vote_of : (j : ℕ) (x : CommitEvent) → is_vote j x ≡ true → events.Vote j ≡ x
 is_vote_of j (events.Vote i) e = ap events.Vote (eqb-true j i e)
@@ -117,11 +117,11 @@ VotedAfter j h = (before : List CommitEvent) × Came (events.Vote j) before h ×
 
 voted_after : (j : ℕ) (h : List CommitEvent) → has_voted j h ≡ true → VotedAfter j h
 voted_after j [] e = let none = none_voted j in absurd cc
-voted_after j (x ∷ h) e = by_cases (or_cases (has_voted j h) (is_vote j x && has_prepared j h) (sym (voted_more j x h) ∙ e))
+voted_after j (x ∷ h) e = by_cases (voted_after j h) (or_cases (has_voted j h) (is_vote j x && has_prepared j h) (sym (voted_more j x h) ∙ e))
   where
-    by_cases : (has_voted j h ≡ true) ⊎ ((is_vote j x && has_prepared j h) ≡ true) → VotedAfter j (x ∷ h)
-    by_cases (inl before) = let found = voted_after j h before in (found.0, inr found.1, found.2)
-    by_cases (inr now) = let both = and_parts (is_vote j x) (has_prepared j h) now in (h, inl (is_vote_of j x both.0, refl), both.1)
+    by_cases : (has_voted j h ≡ true → VotedAfter j h) → (has_voted j h ≡ true) ⊎ ((is_vote j x && has_prepared j h) ≡ true) → VotedAfter j (x ∷ h)
+    by_cases so_far (inl before) = let found = so_far before in (found.0, inr found.1, found.2)
+    by_cases so_far (inr now) = let both = and_parts (is_vote j x) (has_prepared j h) now in (h, inl (is_vote_of j x both.0, refl), both.1)
 
 is_prepare_of : (j : ℕ) (x : CommitEvent) → is_prepare j x ≡ true → events.Prepare j ≡ x
 is_prepare_of j (events.Prepare i) e = ap events.Prepare (eqb-true j i e)
@@ -140,11 +140,11 @@ PreparedAfter j h = (before : List CommitEvent) × Came (events.Prepare j) befor
 
 prepared_after : (j : ℕ) (h : List CommitEvent) → has_prepared j h ≡ true → PreparedAfter j h
 prepared_after j [] e = let none = none_prepared j in absurd cc
-prepared_after j (x ∷ h) e = by_cases (or_cases (has_prepared j h) (is_prepare j x && not (has_stopped j h || is_dropped j h)) (sym (prepared_more j x h) ∙ e))
+prepared_after j (x ∷ h) e = by_cases (prepared_after j h) (or_cases (has_prepared j h) (is_prepare j x && not (has_stopped j h || is_dropped j h)) (sym (prepared_more j x h) ∙ e))
   where
-    by_cases : (has_prepared j h ≡ true) ⊎ ((is_prepare j x && not (has_stopped j h || is_dropped j h)) ≡ true) → PreparedAfter j (x ∷ h)
-    by_cases (inl before) = let found = prepared_after j h before in (found.0, inr found.1, found.2)
-    by_cases (inr now) =
+    by_cases : (has_prepared j h ≡ true → PreparedAfter j h) → (has_prepared j h ≡ true) ⊎ ((is_prepare j x && not (has_stopped j h || is_dropped j h)) ≡ true) → PreparedAfter j (x ∷ h)
+    by_cases so_far (inl before) = let found = so_far before in (found.0, inr found.1, found.2)
+    by_cases so_far (inr now) =
         let both = and_parts (is_prepare j x) (not (has_stopped j h || is_dropped j h)) now in
         (h, inl (is_prepare_of j x both.0, refl), not-true (has_stopped j h || is_dropped j h) both.1)
 

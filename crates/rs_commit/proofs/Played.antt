@@ -1,7 +1,7 @@
 -- The commit that is played is as the definitions say, after each event.
 use Rattle.std.proofs.Common.{◌≡◌, ℕ, ◌+◌, ◌<◌, ◌≤◌, Bool, true, false, not, ◌&&◌, ◌||◌, ◌==◌, cond, List, [], ◌∷◌, ◌++◌, map, reverse, length, take, get_or, Option, Some, None, refl, sym, ap, subst, ◌∙◌, arith, ◌⊎◌, inl, inr}
 use Rattle.std.proofs.lemmas.Bool.{cases_lt, cases_eq, eq-eqb, ne_eqb, and_left, and_right, cases_Bool}
-use Rattle.std.proofs.lemmas.List.{reverse-append, take_more}
+use Rattle.std.proofs.lemmas.List.{reverse-append, take_more, take_all}
 use Rattle.std.proofs.lemmas.List.Folds.{list_all-map}
 use Rattle.std.specs.Prelude.{slice_get, is_none}
 use Rattle.std.specs.List.{list_all, range_with_len}
@@ -277,18 +277,20 @@ played_more n (events.StopPart i) h play p = part_stepped n h play p i (events.S
 one_longer : (happened : List CommitEvent) (at : ℕ) (d : CommitEvent) → at < length happened → reverse (take (at + 1) happened) ≡ get_or happened at d ∷ reverse (take at happened)
 one_longer happened at d within = ap reverse (take_more happened at d within) ∙ reverse-append (take at happened) (get_or happened at d ∷ [])
 
-pub played_next : (n at : ℕ) (happened : List CommitEvent) (x : CommitEvent) (play new : Play) → at < length happened → x ≡ get_or happened at x → IsPlayed n (reverse (take at happened)) play → new ≡ play_after x play
+pub played_next : (n at : ℕ) (happened : List CommitEvent) (d : CommitEvent) (play new : Play) → at < length happened → IsPlayed n (reverse (take at happened)) play → new ≡ play_after (get_or happened at d) play
     → IsPlayed n (reverse (take (at + 1) happened)) new
-played_next n at happened x play new within is p stepped =
-    let same : x ∷ reverse (take at happened) ≡ reverse (take (at + 1) happened) = ap (λ y. y ∷ reverse (take at happened)) is ∙ sym (one_longer happened at x within) in
-    subst (λ later. IsPlayed n later new) same (subst (IsPlayed n (x ∷ reverse (take at happened))) (sym stepped) (played_more n x (reverse (take at happened)) play p))
+played_next n at happened d play new within p stepped =
+    let event : CommitEvent = get_or happened at d in
+    let one : IsPlayed n (event ∷ reverse (take at happened)) new = subst (IsPlayed n (event ∷ reverse (take at happened))) (sym stepped) (played_more n event (reverse (take at happened)) play p) in
+    subst (λ h. IsPlayed n h new) (sym (one_longer happened at d within)) one
 
 decided_at : (n j : ℕ) (h : List CommitEvent) → (part_at n j h).decided ≡ decision n j h
 unfolding part_at
 decided_at n j h = refl
 
 -- what is read of the parts in the end
-pub decisions_read : (n : ℕ) (happened : List CommitEvent) (play : Play) → IsPlayed n (reverse happened) play → map (λ (part : Part). part.decided) play.parts ≡ decisions_after n happened
-decisions_read n happened play p =
+pub decisions_read : (n at : ℕ) (happened : List CommitEvent) (play : Play) → length happened ≤ at → IsPlayed n (reverse (take at happened)) play → map (λ (part : Part). part.decided) play.parts ≡ decisions_after n happened
+decisions_read n at happened play all so_far =
+    let p : IsPlayed n (reverse happened) play = subst (λ (es : List CommitEvent). IsPlayed n (reverse es) play) (take_all at happened all) so_far in
     ap (map (λ (part : Part). part.decided)) p.parts
     ∙ map_over (λ (part : Part). part.decided) (λ j. part_at n j (reverse happened)) (λ j. decision n j (reverse happened)) (λ j. decided_at n j (reverse happened)) (range_with_len 0 n)

@@ -46,45 +46,49 @@ impl Model for Coordinator {
     ghost view = { λ it. it.parts.items };
 }
 
-fn is_same(one: Enlist, other: Enlist) -> bool
-    ensures { result ≡ spec.is_same one other }
+fn is_same(one: &Enlist, other: &Enlist) -> bool
+    ensures { result ≡ spec.is_same one.now other.now }
 {
     one == other
 }
 
-/// Counts the vote of each part of this name.
-fn count_vote(parts: &mut [PartState], from: Enlist)
-    ensures { parts.new ≡ map (spec.with_vote from) parts.old }
-{
-    for part in parts.iter_mut() {
-        *part = voted_by(*part, from);
+impl PartState {
+    fn voted_by(&self, from: &Enlist) -> PartState
+        ensures { result ≡ spec.with_vote from.now self.now }
+    {
+        PartState {
+            enlist: self.enlist,
+            voted: self.voted || is_same(&self.enlist, from),
+            acked: self.acked,
+        }
+    }
+
+    fn acked_by(&self, from: &Enlist) -> PartState
+        ensures { result ≡ spec.with_ack from.now self.now }
+    {
+        PartState {
+            enlist: self.enlist,
+            voted: self.voted,
+            acked: self.acked || is_same(&self.enlist, from),
+        }
     }
 }
 
-fn voted_by(part: PartState, from: Enlist) -> PartState
-    ensures { result ≡ spec.with_vote from part }
+/// Counts the vote of each part of this name.
+fn count_vote(parts: &mut [PartState], from: &Enlist)
+    ensures { parts.new ≡ map (spec.with_vote from.now) parts.old }
 {
-    PartState {
-        voted: part.voted || is_same(part.enlist, from),
-        ..part
+    for part in parts.iter_mut() {
+        *part = part.voted_by(from);
     }
 }
 
 /// Counts the acknowledgement of each part of this name.
-fn count_ack(parts: &mut [PartState], from: Enlist)
-    ensures { parts.new ≡ map (spec.with_ack from) parts.old }
+fn count_ack(parts: &mut [PartState], from: &Enlist)
+    ensures { parts.new ≡ map (spec.with_ack from.now) parts.old }
 {
     for part in parts.iter_mut() {
-        *part = acked_by(*part, from);
-    }
-}
-
-fn acked_by(part: PartState, from: Enlist) -> PartState
-    ensures { result ≡ spec.with_ack from part }
-{
-    PartState {
-        acked: part.acked || is_same(part.enlist, from),
-        ..part
+        *part = part.acked_by(from);
     }
 }
 
@@ -104,28 +108,26 @@ fn have_all_acked(parts: &[PartState]) -> bool
 fn first_silent(parts: &[PartState]) -> Option<Enlist>
     ensures { result ≡ spec.first_silent parts.now }
 {
-    for part in parts {
-        if !part.voted {
-            return Some(part.enlist);
-        }
-    }
-    None
+    parts
+        .iter()
+        .find(|part| !part.voted)
+        .map(|part| part.enlist)
 }
 
-fn has_voted(parts: &[PartState], part: Enlist) -> bool
-    ensures { result ≡ spec.has_voted part parts.now }
+fn has_voted(parts: &[PartState], part: &Enlist) -> bool
+    ensures { result ≡ spec.has_voted part.now parts.now }
 {
     parts
         .iter()
-        .any(|state| is_same(state.enlist, part) && state.voted)
+        .any(|state| is_same(&state.enlist, part) && state.voted)
 }
 
-fn has_acked(parts: &[PartState], part: Enlist) -> bool
-    ensures { result ≡ spec.has_acked part parts.now }
+fn has_acked(parts: &[PartState], part: &Enlist) -> bool
+    ensures { result ≡ spec.has_acked part.now parts.now }
 {
     parts
         .iter()
-        .any(|state| is_same(state.enlist, part) && state.acked)
+        .any(|state| is_same(&state.enlist, part) && state.acked)
 }
 
 /// Copies the parts, without votes and acknowledgements.
@@ -157,7 +159,7 @@ impl Coordinator {
         ensures state { self.new ≡ map (spec.with_vote from) self.old }
         ensures answer { result ≡ spec.vote_answer self.new }
     {
-        count_vote(&mut self.parts, from);
+        count_vote(&mut self.parts, &from);
         if have_all_voted(&self.parts) {
             Voted::All
         } else {
@@ -177,7 +179,7 @@ impl Coordinator {
         ensures state { self.new ≡ map (spec.with_ack from) self.old }
         ensures answer { result ≡ spec.ack_answer self.new }
     {
-        count_ack(&mut self.parts, from);
+        count_ack(&mut self.parts, &from);
         if have_all_acked(&self.parts) {
             Acked::All
         } else {
@@ -189,13 +191,13 @@ impl Coordinator {
     pub fn voted(&self, part: Enlist) -> bool
         ensures { result ≡ spec.has_voted part self.now }
     {
-        has_voted(&self.parts, part)
+        has_voted(&self.parts, &part)
     }
 
     /// Returns whether this part has acknowledged.
     pub fn acked(&self, part: Enlist) -> bool
         ensures { result ≡ spec.has_acked part self.now }
     {
-        has_acked(&self.parts, part)
+        has_acked(&self.parts, &part)
     }
 }
