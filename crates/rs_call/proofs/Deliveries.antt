@@ -102,13 +102,13 @@ module _ {Ask T B : Type 0} (runs : B → Ask → B → Step T → Type 0) where
       let last : left.last ≡ n = ap (λ (c : Callee T). c.last) takes.1 in
       record {
         of_last = λ is positive.
-          let none : reply ≡ None = k.of_later (omega (arith, is, last, next)) in
-          let same : (number == n) ≡ true = eq-eqb number n (is ∙ last) in
-          rw (none, same) refl;
+            let none : reply ≡ None = k.of_later (omega (arith, is, last, next)) in
+            let same : (number == n) ≡ true = eq-eqb number n (is ∙ last) in
+            rw (none, same) refl;
         of_later = λ low.
-          let none : reply ≡ None = k.of_later (omega (arith, low, last, next)) in
-          let other : (number == n) ≡ false = ne_eqb number n (λ same. absurd (omega (arith, same, low, last))) in
-          rw (none, other) refl;
+            let none : reply ≡ None = k.of_later (omega (arith, low, last, next)) in
+            let other : (number == n) ≡ false = ne_eqb number n (λ same. absurd (omega (arith, same, low, last))) in
+            rw (none, other) refl;
       }
   keeps_more number n ask took old left before after reply k (Some answer) e takes =
       let same : option_or reply (cond (number == n && false) left.reply None) ≡ reply = ap (λ b. option_or reply (cond b left.reply None)) (never (number == n)) ∙ or_nothing reply in
@@ -126,13 +126,13 @@ module _ {Ask T B : Type 0} (runs : B → Ask → B → Step T → Type 0) where
       → Keeps number (option_or reply (cond (number == old.last) (Some told) None)) (answered told old)
   keeps_reply number told old reply k parked = record {
     of_last = λ is positive.
-      let none : reply ≡ None = sym (k.of_last is positive) ∙ nothing old.reply (and_parts (not (old.last == 0)) (is_none old.reply) parked).1 in
-      let same : (number == old.last) ≡ true = eq-eqb number old.last is in
-      rw (none, same) refl;
+        let none : reply ≡ None = sym (k.of_last is positive) ∙ nothing old.reply (and_parts (not (old.last == 0)) (is_none old.reply) parked).1 in
+        let same : (number == old.last) ≡ true = eq-eqb number old.last is in
+        rw (none, same) refl;
     of_later = λ low.
-      let none : reply ≡ None = k.of_later low in
-      let other : (number == old.last) ≡ false = ne_eqb number old.last (λ same. absurd (omega (arith, same, low))) in
-      rw (none, other) refl;
+        let none : reply ≡ None = k.of_later low in
+        let other : (number == old.last) ≡ false = ne_eqb number old.last (λ same. absurd (omega (arith, same, low))) in
+        rw (none, other) refl;
   }
     where
       nothing : (x : Option T) → is_none x ≡ true → x ≡ None

@@ -10,6 +10,4 @@ mod laws;
 pub use body::{Body, Step};
 pub use callee::{Callee, Took};
 pub use caller::{Caller, Heard};
-pub use laws::{
-    answered_once, numbers_count_up, repeat_gets_kept_reply, runs_each_once_in_order,
-};
+pub use laws::{answered_once, numbers_count_up, repeat_gets_kept_reply, runs_each_once_in_order};
