@@ -11,7 +11,8 @@ use Rattle.rs_call.specs.declared.callee.Took.{Took}
 use Rattle.rs_call.specs.declared.callee.Took.TheVariants as tooks
 use Rattle.rs_call.specs.Callee.{unrun, is_parked, kept, accepted, last_step, reply_in, step_of_reply, took_by, answered, Takes, TakesBy}
 use Rattle.rs_call.specs.Course.{Event, Delivered, Replied, callee_after, IsCourse, is_run, ran, AreOf, reply_to}
-use Rattle.rs_call.specs.Laws.{IsPrefix, RunsEachOnceInOrder, IsKept, RepeatGetsKeptReply}
+use Rattle.rs_call.proofs.CallerLaws.{sent_as_called}
+use Rattle.rs_call.specs.Laws.{called, IsPrefix, RunsEachOnceInOrder, IsKept, RepeatGetsKeptReply}
 
 -- ---- which calls run
 
@@ -58,31 +59,32 @@ take_one_more (y ∷ ys) (suc k) x e =
     ap (λ zs. y ∷ zs) (take_one_more ys k x e) ∙ ap (λ n. take n (y ∷ ys)) (sym m)
 
 module _ {Ask T B : Type 0} (runs : B → Ask → B → Step T → Type 0) where
-  prefix_more : (called : List Ask) (number : ℕ) (ask : Ask) (took : Took) (old left : Callee T) (before after : B) (so_far : List Ask)
-      → IsPrefix so_far called old.last → slice_get called (number - 1) ≡ Some ask → (answer : Option Took) → unrun number old ≡ answer → TakesBy runs answer number ask old before left after took
-      → IsPrefix (cond (is_none answer) (so_far ++ ask ∷ []) so_far) called left.last
-  prefix_more called number ask took old left before after so_far p this None e takes =
+  prefix_more : (asked : List Ask) (number : ℕ) (ask : Ask) (took : Took) (old left : Callee T) (before after : B) (so_far : List Ask)
+      → IsPrefix so_far asked old.last → slice_get asked (number - 1) ≡ Some ask → (answer : Option Took) → unrun number old ≡ answer → TakesBy runs answer number ask old before left after took
+      → IsPrefix (cond (is_none answer) (so_far ++ ask ∷ []) so_far) asked left.last
+  prefix_more asked number ask took old left before after so_far p this None e takes =
       let next = runs_next number old e in
       let at : number - 1 ≡ old.last = omega (arith, next) in
-      let there : slice_get called old.last ≡ Some ask = ap (slice_get called) (sym at) ∙ this in
-      let low = slice_get_within called old.last ask there in
+      let there : slice_get asked old.last ≡ Some ask = ap (slice_get asked) (sym at) ∙ this in
+      let low = slice_get_within asked old.last ask there in
       let last : left.last ≡ old.last + 1 = ap (λ (c : Callee T). c.last) takes.1 ∙ next in
       record {
         were_called = omega (arith, low, last);
-        in_order = ap (λ xs. xs ++ ask ∷ []) p.in_order ∙ take_one_more called old.last ask there ∙ ap (λ n. take n called) (sym last);
+        in_order = ap (λ xs. xs ++ ask ∷ []) p.in_order ∙ take_one_more asked old.last ask there ∙ ap (λ n. take n asked) (sym last);
       }
-  prefix_more called number ask took old left before after so_far p this (Some answer) e takes =
+  prefix_more asked number ask took old left before after so_far p this (Some answer) e takes =
       let last : left.last ≡ old.last = ap (λ (c : Callee T). c.last) takes.1 in
       record {
         were_called = omega (arith, p.were_called, last);
-        in_order = p.in_order ∙ ap (λ n. take n called) (sym last);
+        in_order = p.in_order ∙ ap (λ n. take n asked) (sym last);
       }
 
   pub runs_each_once_in_order : RunsEachOnceInOrder runs
-  runs_each_once_in_order called [] course of = record { were_called = omega arith; in_order = refl }
-  runs_each_once_in_order called (Delivered number ask took left before after ∷ older) course of =
-      prefix_more called number ask took (callee_after older) left before after (ran older) (runs_each_once_in_order called older course.1 of.1) of.0 (unrun number (callee_after older)) refl course.0
-  runs_each_once_in_order called (Replied reply ∷ older) course of = runs_each_once_in_order called older course.1 of
+  runs_each_once_in_order doings [] course of = record { were_called = omega arith; in_order = refl }
+  runs_each_once_in_order doings (Delivered number ask took left before after ∷ older) course of =
+      prefix_more (called doings) number ask took (callee_after older) left before after (ran older) (runs_each_once_in_order doings older course.1 of.1)
+          (sent_as_called doings number ask of.0) (unrun number (callee_after older)) refl course.0
+  runs_each_once_in_order doings (Replied reply ∷ older) course of = runs_each_once_in_order doings older course.1 of
 
   -- ---- what is kept
 

@@ -1,7 +1,7 @@
 -- The courses of a callee with its body, and of a caller, over every list of deliveries. The events of a course are listed
 -- the latest first.
-use Rattle.std.specs.Prelude.{◌≡◌, ℕ, ◌+◌, ◌-◌, Bool, true, false, ◌&&◌, ◌==◌, List, [], ◌∷◌, ◌++◌, slice_get, Option, Some, None, is_none, if◌then◌else◌, ⊤}
-use Rattle.std.specs.Option.{option_or, option_to_list}
+use Rattle.std.specs.Prelude.{◌≡◌, ℕ, ◌+◌, ◌-◌, Bool, true, false, ◌&&◌, ◌==◌, ◌⊎◌, List, [], ◌∷◌, ◌++◌, Option, Some, None, is_none, if◌then◌else◌, ⊤}
+use Rattle.std.specs.Option.{option_or}
 use Rattle.rs_call.specs.declared.body.Step.{Step}
 use Rattle.rs_call.specs.declared.callee.Callee.{Callee}
 use Rattle.rs_call.specs.declared.callee.Took.{Took}
@@ -10,6 +10,35 @@ use Rattle.rs_call.specs.Callee as callee
 use Rattle.rs_call.specs.Callee.{unrun, is_parked, answered, Takes}
 use Rattle.rs_call.specs.Caller as caller
 use Rattle.rs_call.specs.Caller.{next_number, after_next, awaits, after_reply}
+
+-- ---- a caller
+
+-- a call is made, or the reply to the call of a number comes
+pub data Doing (Ask : Type 0) : Type 0 where
+  Calls : (ask : Ask) → Doing Ask
+  Hears : (number : ℕ) → Doing Ask
+
+abbrev pub caller_after : {Ask : Type 0} → List (Doing Ask) → Caller
+caller_after [] = caller.fresh
+caller_after (Calls ask ∷ older) = after_next (caller_after older)
+caller_after (Hears number ∷ older) = after_reply number (caller_after older)
+
+-- the message of a call that got a number; without one the call isn't sent
+abbrev pub message_of : {Ask : Type 0} → Option ℕ → Ask → List (ℕ × Ask)
+message_of None ask = []
+message_of (Some number) ask = (number, ask) ∷ []
+
+-- the messages that were sent, in order: a number and what is asked
+abbrev pub sent : {Ask : Type 0} → List (Doing Ask) → List (ℕ × Ask)
+sent [] = []
+sent (Calls ask ∷ older) = sent older ++ message_of (next_number (caller_after older)) ask
+sent (Hears number ∷ older) = sent older
+
+-- how often the reply to the call of this number was fresh
+abbrev pub times_fresh : {Ask : Type 0} → ℕ → List (Doing Ask) → ℕ
+times_fresh number [] = 0
+times_fresh number (Calls ask ∷ older) = times_fresh number older
+times_fresh number (Hears n ∷ older) = times_fresh number older + (if number == n && awaits n (caller_after older) then 1 else 0)
 
 -- ---- a callee
 
@@ -39,11 +68,16 @@ ran [] = []
 ran (Delivered number ask took left before after ∷ older) = if is_run number (callee_after older) then ran older ++ ask ∷ [] else ran older
 ran (Replied reply ∷ older) = ran older
 
--- Each delivered call is one of those that were called, by its number, from 1. It may come in any order, again, or never.
-abbrev pub AreOf : {Ask T B : Type 0} → List Ask → List (Event Ask T B) → Type 0
-AreOf called [] = ⊤
-AreOf called (Delivered number ask took left before after ∷ older) = (slice_get called (number - 1) ≡ Some ask) × AreOf called older
-AreOf called (Replied reply ∷ older) = AreOf called older
+-- x is one of these
+abbrev pub IsIn : {A : Type 0} → A → List A → Type 0
+IsIn x [] = ⊥
+IsIn x (y ∷ ys) = (x ≡ y) ⊎ IsIn x ys
+
+-- Each delivered call is a message that was sent. It may come in any order, again, or never.
+abbrev pub AreOf : {Ask T B : Type 0} → List (ℕ × Ask) → List (Event Ask T B) → Type 0
+AreOf messages [] = ⊤
+AreOf messages (Delivered number ask took left before after ∷ older) = IsIn (number, ask) messages × AreOf messages older
+AreOf messages (Replied reply ∷ older) = AreOf messages older
 
 -- the reply that the call of this number got first
 abbrev pub reply_to : {Ask T B : Type 0} → ℕ → List (Event Ask T B) → Option T
@@ -52,27 +86,3 @@ reply_to number (Delivered n ask took left before after ∷ older) =
     option_or (reply_to number older) (if number == n && is_run n (callee_after older) then left.reply else None)
 reply_to number (Replied reply ∷ older) =
     option_or (reply_to number older) (if number == (callee_after older).last then Some reply else None)
-
--- ---- a caller
-
--- a call is made, or the reply to the call of a number comes
-pub data Doing : Type 0 where
-  Calls : Doing
-  Hears : (number : ℕ) → Doing
-
-abbrev pub caller_after : List Doing → Caller
-caller_after [] = caller.fresh
-caller_after (Calls ∷ older) = after_next (caller_after older)
-caller_after (Hears number ∷ older) = after_reply number (caller_after older)
-
--- the numbers that the calls got, in order
-abbrev pub numbers_given : List Doing → List ℕ
-numbers_given [] = []
-numbers_given (Calls ∷ older) = numbers_given older ++ option_to_list (next_number (caller_after older))
-numbers_given (Hears number ∷ older) = numbers_given older
-
--- how often the reply to the call of this number was fresh
-abbrev pub times_fresh : ℕ → List Doing → ℕ
-times_fresh number [] = 0
-times_fresh number (Calls ∷ older) = times_fresh number older
-times_fresh number (Hears n ∷ older) = times_fresh number older + (if number == n && awaits n (caller_after older) then 1 else 0)

@@ -12,8 +12,6 @@ mod subordinate;
 
 pub use coordinator::{Acked, Coordinator, PartState, Voted};
 pub use event::{CommitEvent, Decision, Decisions, Outcome};
-pub use laws::{
-    commit_needs_each_vote, coordinator_counts, decision_stays, no_two_differ,
-};
+pub use laws::{commit_needs_each_vote, coordinator_counts, decision_stays, no_two_differ};
 pub use play::agree;
 pub use subordinate::{Abo, Com, Prep, Subordinate};

@@ -2,4 +2,4 @@ use Rattle.rs_call.proofs.CallerLaws.{numbers_count_up}
 use Rattle.rs_call.proofs.laws.numbers_count_up.Goals as goal
 
 pub returns : goal.returns
-returns c = numbers_count_up
+returns g c = numbers_count_up _
