@@ -5,17 +5,13 @@ use Rattle.std.specs.List.{list_all, list_any}
 use Rattle.rs_base.specs.declared.txn.Enlist.{Enlist}
 use Rattle.rs_commit.specs.declared.coordinator.PartState.{PartState}
 use Rattle.rs_commit.specs.Coordinator.{is_same, silent_part, with_vote, with_ack, have_all_voted, first_silent}
-use Rattle.rs_commit.specs.Laws.{CoordinatorCounts, Counted, Vote, Ack, counts, coordinator_after, is_vote_of, is_ack_of}
+use Rattle.rs_commit.specs.Laws.{CoordinatorCounts, Counted, Vote, Ack, counts, coordinator_after, is_vote_of, is_ack_of, known}
 use Rattle.rs_commit.proofs.Tests.{or_swap}
 
 -- one function after another, over a list
 pub map_over : {A B C : Type 0} (f : B → C) (g : A → B) (h : A → C) → ((x : A) → f (g x) ≡ h x) → (xs : List A) → map f (map g xs) ≡ map h xs
 map_over f g h each [] = refl
 map_over f g h each (x ∷ xs) = λ i. each x i ∷ map_over f g h each xs i
-
--- what is known of a part after these messages
-abbrev known : List Counted → Enlist → PartState
-known messages part = record { enlist = part; voted = list_any (is_vote_of part) messages; acked = list_any (is_ack_of part) messages }
 
 one_more : (latest : Counted) (before : List Counted) (part : Enlist) → counts latest (known before part) ≡ known (latest ∷ before) part
 one_more (Vote from) before part = λ i. record {

@@ -1,18 +1,19 @@
 -- The laws of decisions.
-use Rattle.std.proofs.Common.{◌≡◌, ℕ, ◌<◌, Bool, true, false, not, ◌&&◌, ◌||◌, ◌==◌, cond, List, [], ◌∷◌, ◌++◌, Option, Some, None, refl, sym, ap, ◌∙◌, ◌⊎◌, inl, inr}
-use Rattle.std.proofs.lemmas.Bool.{or_cases, or_parts, and_parts, not-true, eqb-true}
+use Rattle.std.proofs.Common.{◌≡◌, ℕ, ◌<◌, ◌≤◌, Bool, true, false, not, ◌&&◌, ◌||◌, ◌==◌, cond, List, [], ◌∷◌, ◌++◌, reverse, Option, Some, None, refl, sym, ap, ◌∙◌, ◌⊎◌, inl, inr}
+use Rattle.std.proofs.lemmas.Bool.{cases_lt, or_cases, or_parts, and_parts, not-true, eqb-true}
 use Rattle.std.proofs.lemmas.Option.{same_Some}
 use Rattle.std.specs.Option.{option_or, option_map}
+use Rattle.std.specs.Prelude.{slice_get}
 use Rattle.rs_commit.specs.declared.event.CommitEvent.{CommitEvent}
 use Rattle.rs_commit.specs.declared.event.CommitEvent.TheVariants as events
 use Rattle.rs_commit.specs.declared.event.Decision.{Decision}
 use Rattle.rs_commit.specs.declared.event.Decision.TheVariants as decisions
 use Rattle.rs_commit.specs.declared.event.Settlement.{Settlement}
 use Rattle.rs_commit.specs.declared.event.Settlement.TheVariants as settlements
-use Rattle.rs_commit.specs.Decisions.{is_prepare, is_vote, has_stopped, is_dropped, has_prepared, has_voted, have_all_voted, settles, settled, by_commit, by_abort, by_inquiry, decides, decision}
-use Rattle.rs_commit.specs.Laws.{NoTwoDiffer, DecisionStays, CommitNeedsEachVote, Came, PreparedAndVoted, CommittedByAll}
+use Rattle.rs_commit.specs.Decisions.{is_prepare, is_vote, has_stopped, is_dropped, has_prepared, has_voted, have_all_voted, settles, settled, by_commit, by_abort, by_inquiry, decides, decision, decisions_after}
+use Rattle.rs_commit.specs.Laws.{NoTwoDiffer, DecisionStays, CommitNeedsEachVote, Came, PreparedAndVoted, CommittedByAll, NoneDiffer, CommitIsVotedFor}
 use Rattle.rs_commit.proofs.Facts.{decision_more, settled_more, voted_more, prepared_more, none_decided, none_settled, none_voted, none_prepared, settles_decided}
-use Rattle.rs_commit.proofs.Ranges.{each_in_range}
+use Rattle.rs_commit.proofs.Ranges.{each_in_range, value_at, value_past}
 use Rattle.rs_commit.proofs.Tests.{either_some, first_stays}
 
 -- ---- a decision is the one that the settlement stands for
@@ -170,3 +171,23 @@ commit_needs_each_vote n j h e =
       master_decided = found.1;
       each = λ part within. part_voted part found.0 (each_in_range (λ (k : ℕ). has_voted k found.0) n found.2 part within);
     }
+
+-- ---- the list of decisions
+
+-- the decision that is read of the list is that of the part
+decision_read : (n i : ℕ) (happened : List CommitEvent) (d : Decision) → slice_get (decisions_after n happened) i ≡ Some (Some d) → decision n i (reverse happened) ≡ Some d
+decision_read n i happened d e = by_cases (cases_lt i n)
+  where
+    by_cases : (i < n) ⊎ (n ≤ i) → decision n i (reverse happened) ≡ Some d
+    by_cases (inl within) = same_Some (decision n i (reverse happened)) (Some d) (sym (value_at (λ part. decision n part (reverse happened)) n i within) ∙ e)
+    by_cases (inr past) = let none = value_past (λ part. decision n part (reverse happened)) n i past in absurd cc
+
+pub none_differ : (n : ℕ) (happened : List CommitEvent) (decided : List (Option Decision)) → decided ≡ decisions_after n happened → NoneDiffer decided
+none_differ n happened decided is i j x y e f =
+    no_two_differ n i j (reverse happened) x y
+    (decision_read n i happened x (ap (λ (ds : List (Option Decision)). slice_get ds i) (sym is) ∙ e))
+    (decision_read n j happened y (ap (λ (ds : List (Option Decision)). slice_get ds j) (sym is) ∙ f))
+
+pub commit_is_voted_for : (n : ℕ) (happened : List CommitEvent) (decided : List (Option Decision)) → decided ≡ decisions_after n happened → CommitIsVotedFor n happened decided
+commit_is_voted_for n happened decided is i e =
+    commit_needs_each_vote n i (reverse happened) (decision_read n i happened decisions.Commit (ap (λ (ds : List (Option Decision)). slice_get ds i) (sym is) ∙ e))

@@ -52,9 +52,11 @@ has_given_up = has_come (λ event older. is_give_up event)
 unfoldable pub is_dropped : ℕ → List CommitEvent → Bool
 is_dropped part = has_come (λ event older. is_abort part event && has_given_up older)
 
--- A Prepare has reached the part and took: before it the part's site didn't stop, and no Abort came of a master that gave up.
+-- A Prepare has reached the part and took: before it the part's site didn't stop, and no Abort came of a master that gave
+-- up.
 unfoldable pub has_prepared : ℕ → List CommitEvent → Bool
-has_prepared part = has_come (λ event older. is_prepare part event && not (has_stopped part older || is_dropped part older))
+has_prepared part =
+    has_come (λ event older. is_prepare part event && not (has_stopped part older || is_dropped part older))
 
 -- the part's vote has come after a Prepare that took
 unfoldable pub has_voted : ℕ → List CommitEvent → Bool
@@ -84,7 +86,8 @@ by_commit None = None
 
 -- Abort reaches a part: it aborts if the master has given up, unless it stopped before it prepared.
 abbrev pub by_abort : Option Settlement → Bool → Bool → Option Decision
-by_abort (Some settlements.GivenUp) prepared stopped = if not prepared && stopped then None else Some decisions.Abort
+by_abort (Some settlements.GivenUp) prepared stopped =
+    if not prepared && stopped then None else Some decisions.Abort
 by_abort (Some settlements.Decided) prepared stopped = None
 by_abort (Some settlements.Stopped) prepared stopped = None
 by_abort None prepared stopped = None
@@ -99,8 +102,10 @@ by_inquiry None prepared = None
 -- what an event makes a part decide
 abbrev pub decides : ℕ → ℕ → CommitEvent → List CommitEvent → Option Decision
 decides parts part (events.Commit i) older = if part == i then by_commit (settled parts older) else None
-decides parts part (events.Abort i) older = if part == i then by_abort (settled parts older) (has_prepared part older) (has_stopped part older) else None
-decides parts part (events.Inquire i) older = if part == i then by_inquiry (settled parts older) (has_prepared part older) else None
+decides parts part (events.Abort i) older =
+    if part == i then by_abort (settled parts older) (has_prepared part older) (has_stopped part older) else None
+decides parts part (events.Inquire i) older =
+    if part == i then by_inquiry (settled parts older) (has_prepared part older) else None
 decides parts part _ older = None
 
 -- A part decides at the first event that makes it decide, and its decision stays.
@@ -109,4 +114,5 @@ decision parts part = first_given (decides parts part)
 
 -- what each of this number of parts has decided after these events, in order
 abbrev pub decisions_after : ℕ → List CommitEvent → List (Option Decision)
-decisions_after parts happened = map (λ part. decision parts part (reverse happened)) (range_with_len 0 parts)
+decisions_after parts happened =
+    map (λ part. decision parts part (reverse happened)) (range_with_len 0 parts)

@@ -1,5 +1,5 @@
 -- The laws of the commit of one transaction. `happened` are its events, the latest first.
-use Rattle.std.specs.Prelude.{◌≡◌, ℕ, ◌<◌, Bool, true, false, List, [], ◌∷◌, ◌++◌, map, ◌⊎◌, Some, None}
+use Rattle.std.specs.Prelude.{◌≡◌, ℕ, ◌<◌, Bool, true, false, List, [], ◌∷◌, ◌++◌, map, reverse, slice_get, ◌⊎◌, Option, Some, None}
 use Rattle.std.specs.List.{list_any}
 use Rattle.rs_base.specs.declared.txn.Enlist.{Enlist}
 use Rattle.rs_commit.specs.declared.coordinator.PartState.{PartState}
@@ -25,7 +25,8 @@ abbrev pub Came : CommitEvent → List CommitEvent → List CommitEvent → Type
 Came event older [] = ⊥
 Came event older (latest ∷ before) = ((event ≡ latest) × (older ≡ before)) ⊎ Came event older before
 
--- Before this moment a Prepare reached the part, before which its site hadn't stopped and no Abort of a master that gave up had come; and after it the part's vote came.
+-- Before this moment a Prepare reached the part, before which its site hadn't stopped and no Abort of a master that gave
+-- up had come; and after it the part's vote came.
 pub record PreparedAndVoted (part : ℕ) (moment : List CommitEvent) : Type 0 where
   pub before_vote : List CommitEvent
   pub voted : Came (events.Vote part) before_vote moment
@@ -41,7 +42,18 @@ pub record CommittedByAll (parts : ℕ) (happened : List CommitEvent) : Type 0 w
   pub each : (part : ℕ) → part < parts → PreparedAndVoted part before_decide
 
 abbrev pub CommitNeedsEachVote : Type 0
-CommitNeedsEachVote = (parts part : ℕ) (happened : List CommitEvent) → decision parts part happened ≡ Some decisions.Commit → CommittedByAll parts happened
+CommitNeedsEachVote = (parts part : ℕ) (happened : List CommitEvent)
+    → decision parts part happened ≡ Some decisions.Commit → CommittedByAll parts happened
+
+-- of these decisions no two differ
+abbrev pub NoneDiffer : List (Option Decision) → Type 0
+NoneDiffer decided = (one other : ℕ) (x y : Decision)
+    → slice_get decided one ≡ Some (Some x) → slice_get decided other ≡ Some (Some y) → x ≡ y
+
+-- if one of these decisions is Commit, each part voted for it; the events are in their order
+abbrev pub CommitIsVotedFor : ℕ → List CommitEvent → List (Option Decision) → Type 0
+CommitIsVotedFor parts events decided = (part : ℕ)
+    → slice_get decided part ≡ Some (Some decisions.Commit) → CommittedByAll parts (reverse events)
 
 -- ---- what a coordinator counts
 
@@ -67,8 +79,16 @@ abbrev pub is_ack_of : Enlist → Counted → Bool
 is_ack_of part (Vote from) = false
 is_ack_of part (Ack from) = is_same part from
 
+-- what is known of a part after these messages
+abbrev pub known : List Counted → Enlist → PartState
+known messages part = record {
+  enlist = part;
+  voted = list_any (is_vote_of part) messages;
+  acked = list_any (is_ack_of part) messages;
+}
+
 -- After any messages a part has voted exactly if a vote of its own came, and likewise acknowledged.
 abbrev pub CoordinatorCounts : Type 0
 CoordinatorCounts = (messages : List Counted) (parts : List Enlist)
     → coordinator_after messages parts
-    ≡ map (λ part. record { enlist = part; voted = list_any (is_vote_of part) messages; acked = list_any (is_ack_of part) messages }) parts
+    ≡ map (known messages) parts

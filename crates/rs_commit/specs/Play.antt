@@ -40,10 +40,16 @@ decided_at_abort abos.Release before = Some decisions.Abort
 decided_at_abort abos.Nothing before = before
 
 abbrev pub part_committed : Part → Part
-part_committed part = record { state = after_commit part.state; decided = decided_at_commit (commit_answer part.state) part.decided }
+part_committed part = record {
+  state = after_commit part.state;
+  decided = decided_at_commit (commit_answer part.state) part.decided;
+}
 
 abbrev pub part_aborted : Part → Part
-part_aborted part = record { state = after_abort part.state; decided = decided_at_abort (abort_answer part.state) part.decided }
+part_aborted part = record {
+  state = after_abort part.state;
+  decided = decided_at_abort (abort_answer part.state) part.decided;
+}
 
 -- a stop of its site loses a part that isn't prepared
 abbrev pub part_lost : Part → Part
@@ -118,16 +124,23 @@ play_settled settlement play = record play { master = master_settled settlement 
 
 abbrev pub play_voted : ℕ → Play → Play
 play_voted number play =
-    if part_is_prepared (slice_get play.parts number) then record play { coordinator = map (with_vote (enlist_of number)) play.coordinator } else play
+    if part_is_prepared (slice_get play.parts number)
+    then record play { coordinator = map (with_vote (enlist_of number)) play.coordinator }
+    else play
 
 abbrev pub play_decided : Play → Play
-play_decided play = if is_none (first_silent play.coordinator) then play_settled settlements.Decided play else play
+play_decided play =
+    if is_none (first_silent play.coordinator) then play_settled settlements.Decided play else play
 
 abbrev pub play_given_up : Play → Play
-play_given_up play = record play { master = record { settled = option_or play.master.settled (Some settlements.GivenUp); gave_up = true } }
+play_given_up play = record play {
+  master = record { settled = option_or play.master.settled (Some settlements.GivenUp); gave_up = true }
+}
 
 abbrev pub play_part_stepped : ℕ → CommitEvent → Play → Play
-play_part_stepped number event play = record play { parts = parts_after number event play.master play.parts (slice_get play.parts number) }
+play_part_stepped number event play = record play {
+  parts = parts_after number event play.master play.parts (slice_get play.parts number)
+}
 
 abbrev pub play_after : CommitEvent → Play → Play
 play_after (events.Vote i) play = play_voted i play

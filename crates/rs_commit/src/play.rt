@@ -3,6 +3,7 @@
 ghost use Rattle.std.specs.Prelude.{◌≡◌, ℕ, List, [], ◌∷◌, map, IfOk};
 ghost use Rattle.std.specs.List.{range_with_len};
 ghost use Rattle.rs_commit.specs.Decisions.{decisions_after};
+ghost use Rattle.rs_commit.specs.Laws.{CommitIsVotedFor, NoneDiffer};
 ghost use Rattle.rs_commit.specs.Play as spec;
 
 use crate::coordinator::Coordinator;
@@ -119,9 +120,12 @@ impl Play {
 }
 
 /// Returns what each of this number of parts has decided after the events. An event that can't come then, or that is of no
-/// part, does nothing. Linear in the number of events times that of parts.
+/// part, does nothing. No two parts decide differently, and one commits only after each has prepared and voted. Linear in
+/// the number of events times that of parts.
 pub fn agree(alloc: Global, parts: u8, events: &[CommitEvent]) -> Result<Outcome, NoMemory>
-    ensures { IfOk result (λ outcome. outcome.decided ≡ decisions_after parts events.now) }
+    ensures decided { IfOk result (λ outcome. outcome.decided ≡ decisions_after parts events.now) }
+    ensures agreed { IfOk result (λ outcome. NoneDiffer outcome.decided) }
+    ensures voted { IfOk result (λ outcome. CommitIsVotedFor parts events.now outcome.decided) }
 {
     let mut play = Play::new(alloc, parts)?;
     for event in events {
