@@ -25,7 +25,13 @@ fn check_kind(kind: &str, file: &str, text: &str, out: &mut Output) -> Result<()
         "calls" => check_cases(&mut CallCases::new(out.alloc), kind, file, text, out),
         "numbers" => check_cases(&mut NumberCases::new(), kind, file, text, out),
         "coordinators" => {
-            check_cases(&mut CoordinatorCases::new(out.alloc)?, kind, file, text, out)
+            check_cases(
+                &mut CoordinatorCases::new(out.alloc)?,
+                kind,
+                file,
+                text,
+                out,
+            )
         }
         "parts" => check_cases(&mut PartCases::new(), kind, file, text, out),
         _ => check_cases(&mut AgreementCases, kind, file, text, out),

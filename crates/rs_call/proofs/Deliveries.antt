@@ -1,6 +1,6 @@
 -- The laws of a callee, over every list of deliveries.
-use Rattle.std.proofs.Common.{◌≡◌, ℕ, zero, suc, ◌+◌, ◌-◌, ◌<◌, ◌≤◌, Bool, true, false, not, ◌&&◌, ◌||◌, ◌==◌, cond, List, [], ◌∷◌, ◌++◌, length, take, Option, Some, None, refl, sym, ap, ◌∙◌, arith, ◌⊎◌, inl, inr}
-use Rattle.std.proofs.lemmas.Bool.{and_parts, or_parts, eqb-true, eqb-false, ne_eqb, eq-eqb, ltb-false}
+use Rattle.std.proofs.Common.{◌≡◌, ℕ, zero, suc, ◌+◌, ◌-◌, ◌<◌, Bool, true, false, not, ◌&&◌, ◌||◌, ◌==◌, cond, List, [], ◌∷◌, ◌++◌, take, Option, Some, None, refl, sym, ap, ◌∙◌, arith}
+use Rattle.std.proofs.lemmas.Bool.{and_parts, or_parts, eqb-true, eqb-false, ne_eqb, eq-eqb}
 use Rattle.std.proofs.lemmas.Option.{slice_get_within}
 use Rattle.std.specs.Prelude.{slice_get, is_some, is_none, nat_lt}
 use Rattle.std.specs.Option.{option_or}
@@ -9,10 +9,10 @@ use Rattle.rs_call.specs.declared.body.Step.TheVariants as steps
 use Rattle.rs_call.specs.declared.callee.Callee.{Callee}
 use Rattle.rs_call.specs.declared.callee.Took.{Took}
 use Rattle.rs_call.specs.declared.callee.Took.TheVariants as tooks
-use Rattle.rs_call.specs.Callee.{unrun, is_parked, kept, accepted, last_step, reply_in, step_of_reply, took_by, answered, Takes, TakesBy}
-use Rattle.rs_call.specs.Course.{Event, Delivered, Replied, callee_after, IsCourse, is_run, ran, AreOf, reply_to}
+use Rattle.rs_call.specs.Callee.{unrun, is_parked, last_step, took_by, answered, TakesBy}
+use Rattle.rs_call.specs.Course.{Event, Delivered, Replied, callee_after, IsCourse, ran, reply_to}
 use Rattle.rs_call.proofs.CallerLaws.{sent_as_called}
-use Rattle.rs_call.specs.Laws.{called, IsPrefix, RunsEachOnceInOrder, IsKept, RepeatGetsKeptReply}
+use Rattle.rs_call.specs.Laws.{called, IsPrefix, RunsEachOnceInOrder, RepeatGetsKeptReply}
 
 -- ---- which calls run
 
@@ -83,7 +83,7 @@ module _ {Ask T B : Type 0} (runs : B → Ask → B → Step T → Type 0) where
   runs_each_once_in_order doings [] course of = record { were_called = omega arith; in_order = refl }
   runs_each_once_in_order doings (Delivered number ask took left before after ∷ older) course of =
       prefix_more (called doings) number ask took (callee_after older) left before after (ran older) (runs_each_once_in_order doings older course.1 of.1)
-          (sent_as_called doings number ask of.0) (unrun number (callee_after older)) refl course.0
+      (sent_as_called doings number ask of.0) (unrun number (callee_after older)) refl course.0
   runs_each_once_in_order doings (Replied reply ∷ older) course of = runs_each_once_in_order doings older course.1 of
 
   -- ---- what is kept

@@ -1,5 +1,5 @@
 -- What a callee knows: the number of the last call that it accepted, and that call's reply, if it doesn't wait.
-use Rattle.std.specs.Prelude.{◌≡◌, ℕ, ◌-◌, Bool, true, false, not, ◌&&◌, ◌||◌, ◌==◌, nat_lt, Option, Some, None, is_some, is_none, if◌then◌else◌}
+use Rattle.std.specs.Prelude.{◌≡◌, ℕ, ◌-◌, Bool, not, ◌&&◌, ◌||◌, ◌==◌, nat_lt, Option, Some, None, is_some, is_none, if◌then◌else◌}
 use Rattle.rs_call.specs.declared.body.Step.{Step}
 use Rattle.rs_call.specs.declared.body.Step.TheVariants as steps
 use Rattle.rs_call.specs.declared.callee.Callee.{Callee}
