@@ -134,12 +134,12 @@ play_decided play =
 
 abbrev pub play_given_up : Play → Play
 play_given_up play = record play {
-  master = record { settled = option_or play.master.settled (Some settlements.GivenUp); gave_up = true }
+  master = record { settled = option_or play.master.settled (Some settlements.GivenUp); gave_up = true };
 }
 
 abbrev pub play_part_stepped : ℕ → CommitEvent → Play → Play
 play_part_stepped number event play = record play {
-  parts = parts_after number event play.master play.parts (slice_get play.parts number)
+  parts = parts_after number event play.master play.parts (slice_get play.parts number);
 }
 
 abbrev pub play_after : CommitEvent → Play → Play

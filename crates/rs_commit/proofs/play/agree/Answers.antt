@@ -14,7 +14,7 @@ loop-event-preserved c =
 pub returns : goal.returns
 returns c =
     let is : c.in_ok-decided.decided ≡ decisions_after c.args.parts c.args.events.now =
-        c.in_ok-decided.ensures ∙ decisions_read c.args.parts c.loop-event.event-index c.args.events.now c.loop-event.play c.loop-event-test.false c.loop-event.invariant in
+    c.in_ok-decided.ensures ∙ decisions_read c.args.parts c.loop-event.event-index c.args.events.now c.loop-event.play c.loop-event-test.false c.loop-event.invariant in
     record {
       decided = is;
       agreed = none_differ c.args.parts c.args.events.now c.in_ok-decided.decided is;
