@@ -1,0 +1,4 @@
+pub mod Callee
+pub mod Caller
+pub mod Course
+pub mod Laws
