@@ -1,0 +1,5 @@
+use Rattle.rs_disk.proofs.Answers.{no_course}
+use Rattle.rs_disk.proofs.file_disk.FileDiskDisk.sync.Goals as goal
+
+pub returns-clause-call : goal.returns-clause-call
+returns-clause-call c = no_course _ _

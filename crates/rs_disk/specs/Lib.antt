@@ -1,0 +1,6 @@
+pub mod Answers
+pub mod Disk
+pub mod Images
+pub mod Laws
+pub mod MemDisk
+pub mod MemDiskInside
