@@ -1,0 +1,2 @@
+pub mod IndexedRows
+pub mod IndexedRowsInside
