@@ -4,7 +4,8 @@ use Rattle.std.specs.Option.{option_map_or}
 use Rattle.rs_plan.specs.declared.call_reply.CallReply.{CallReply}
 use Rattle.rs_plan.specs.declared.call_reply.CallReply.TheVariants as replies
 use Rattle.rs_plan.specs.declared.change.Change.{Change}
-use Rattle.rs_call_meaning.specs.Contents.{Context, TableContent, table_in}
+use Rattle.rs_call_meaning.specs.Contents.{Context, table_in}
+use Rattle.rs_table.specs.Table.{TableContent}
 
 -- the reply, and the changes in the order in which they are made
 pub record Answered : Type 0 where

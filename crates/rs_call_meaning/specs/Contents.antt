@@ -4,23 +4,15 @@ use Rattle.std.specs.Ordering.{is_eq}
 use Rattle.rs_base.specs.declared.name.Swn.{Swn}
 use Rattle.rs_base.specs.declared.txn.Txn.{Txn}
 use Rattle.rs_base.specs.Txn.{txn_cmp}
-use Rattle.rs_ast.specs.declared.column.ColDef.{ColDef}
-use Rattle.rs_ast.specs.declared.entry.IndexOf.{IndexOf}
 use Rattle.rs_plan.specs.declared.change.Change.{Change}
 use Rattle.rs_plan.specs.declared.program.Body.{Body}
 use Rattle.rs_plan.specs.declared.program.Head.{Head}
 use Rattle.rs_plan.specs.declared.section.Section.{Section}
 use Rattle.rs_plan.specs.declared.section_id.SectionId.{SectionId}
-use Rattle.rs_rows.specs.TableRows.{TableRows, RowsByNumber}
+use Rattle.rs_rows.specs.TableRows.{RowsByNumber}
+use Rattle.rs_table.specs.Table.{TableContent}
 
 -- ---- what is locked
-
--- a table: the transaction that created it, its columns, its indexes in order of creation, and its rows by number
-pub record TableContent : Type 0 where
-  pub made : Txn
-  pub columns : List ColDef
-  pub indexes : List IndexOf
-  pub rows : TableRows
 
 -- a program: its head, if there is one, and its statements by number
 pub record ProgramContent : Type 0 where

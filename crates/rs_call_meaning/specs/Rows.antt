@@ -11,7 +11,8 @@ use Rattle.rs_exec.specs.declared.ran.Ran.{Ran}
 use Rattle.rs_exec.specs.declared.ran.Ran.TheVariants as results
 use Rattle.rs_exec.specs.Running.{ran}
 use Rattle.rs_call_meaning.specs.Answered.{Answered, replied, if_here}
-use Rattle.rs_call_meaning.specs.Contents.{Context, KeptSection, TableContent}
+use Rattle.rs_call_meaning.specs.Contents.{Context, KeptSection}
+use Rattle.rs_table.specs.Table.{TableContent}
 use Rattle.rs_call_meaning.specs.Sections.{is_over, is_locked_by, kept_section}
 
 -- the rows that a section gives, or its changes, or the cause for which it is denied

@@ -15,7 +15,8 @@ use Rattle.rs_plan.specs.declared.section_id.SectionId.{SectionId}
 use Rattle.rs_plan.specs.Path.{chosen}
 use Rattle.rs_exec.specs.Fit.{section_fits}
 use Rattle.rs_call_meaning.specs.Answered.{Answered, replied, done, if_here}
-use Rattle.rs_call_meaning.specs.Contents.{Context, KeptSection, TableContent, same_txn, is_made_by}
+use Rattle.rs_call_meaning.specs.Contents.{Context, KeptSection, same_txn, is_made_by}
+use Rattle.rs_table.specs.Table.{TableContent}
 use Rattle.rs_call_meaning.specs.Locks.{mode_of}
 
 -- ---- ids

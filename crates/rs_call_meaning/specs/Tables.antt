@@ -17,7 +17,8 @@ use Rattle.rs_rows.specs.TableRows.{RowsByNumber}
 use Rattle.rs_exec.specs.Pages.{page}
 use Rattle.rs_exec.specs.Running.{plain}
 use Rattle.rs_call_meaning.specs.Answered.{Answered, replied, done, if_here}
-use Rattle.rs_call_meaning.specs.Contents.{Context, TableContent, table_in, is_made_by, rows_in}
+use Rattle.rs_call_meaning.specs.Contents.{Context, table_in, is_made_by, rows_in}
+use Rattle.rs_table.specs.Table.{TableContent}
 
 -- ---- entries
 

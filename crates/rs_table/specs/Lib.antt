@@ -1,2 +1,3 @@
 pub mod IndexedRows
 pub mod IndexedRowsInside
+pub mod Table
