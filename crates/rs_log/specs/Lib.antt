@@ -1,0 +1,5 @@
+pub mod Calls
+pub mod Format
+pub mod Gated
+pub mod Laws
+pub mod Runs
